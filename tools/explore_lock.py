@@ -8,9 +8,10 @@ tools/explore_lock.py [MOST] [--scene BEGINNING ..] [--fault WORDS | --no-faults
     did not end by then are named. It needs GCC
 
 In no run may a thread sleep without being woken, two threads have the lock at once, freed memory be touched, two accesses race, an answer be wrong, a shut lock
-be entered, an entry of the registry stay, or a thread that has a ticket be overtaken by a call that began later; with bursts, by more of them than they allow, or by any once
+be entered, an entry stay, or a thread that has a ticket be overtaken by a call that began later; with barging, by more of them than they allow, or by any once
 a task sleeps as the first of those that wait. Each library with a fault must fail in some run, and after each change that is harmless none may fail. It ends with 1 if this
-is not so, or if a scene did not end.
+is not so, or if a scene did not end. Each invariant of the library (INVARIANT in c/src/lock) holds in each run, and is seen to be broken by a fault of its own; the
+other faults are found without the invariants, by what the scenes check.
 
 A fault is a change of one function, or of a file's other text, which tools/mutants.py finds. With --anchors nothing is explored: the program names each
 change that can't be made, and where its text is now.
@@ -31,18 +32,19 @@ import time
 import mutants
 
 sys.path.insert(0, str(pathlib.Path(__file__).resolve().parent / "explorer"))
-from lock_faults import FAULTS, HARMLESS, HOOKED  # noqa: E402
+from lock_faults import FAULTS, HARMLESS, HOOKED, INVARIANTS  # noqa: E402
 
 ROOT = pathlib.Path(__file__).resolve().parent.parent
 SOURCE = ROOT / "c/src"
 MODEL = ROOT / "tools/explorer"
 # What is built, in a copy of c/src; those of tools/explorer beside it.
-LIBRARY = ("bells.c", "notify.c", *(f"lock/{name}.c" for name in ("conditions", "lock", "opens", "registry", "tasks", "turns", "waits")))
+LIBRARY = ("futex.c", "callbacks.c", *(f"lock/{name}.c" for name in ("abandoned", "conditions", "enter", "leave", "opens", "tasks", "turns")))
 SCENES = ("core.c", "lock_scenes.c", "limit_scenes.c", "task_scenes.c", "explorer.c")
 # Objects by what they were made of: most faults change one file.
 OBJECTS = tempfile.TemporaryDirectory()
-RENAMED = [f"-D{name}=model_{short}" for name, short in (("malloc", "malloc"), ("free", "free"), ("syscall", "syscall"), ("sched_yield", "yield"), ("clock_gettime", "clock"))]
-BY_MODEL = ["-w", "-O1", "-DOF_LOCKS", "-DWITHOUT_NODES", "-DEXPLORED", "-fsanitize=thread", "-U__SANITIZE_THREAD__", "-DQOLB_NO_PROBES", *RENAMED]
+# What the library calls of the C library; the scenes have their own memory.
+RENAMED = [f"-D{name}=model_{short}" for name, short in (("malloc", "entry"), ("free", "entry_freed"), ("syscall", "syscall"), ("sched_yield", "yield"), ("clock_gettime", "clock"))]
+BY_MODEL = ["-w", "-O1", "-DOF_LOCKS", "-DEXPLORED", "-include", "explored.h", "-fsanitize=thread", "-U__SANITIZE_THREAD__", "-DQOLB_NO_PROBES", *RENAMED]
 
 
 def edit(folder, changes):
@@ -68,34 +70,25 @@ def compiled(folder, name, told):
 def laid_out(folder):
     """Copies what is built to the folder."""
     shutil.copytree(SOURCE, folder, dirs_exist_ok=True)
-    for name in (*SCENES, "lock_scenes.h", "explorer.h"):
+    for name in (*SCENES, "lock_scenes.h", "explorer.h", "explored.h"):
         shutil.copy(MODEL / name, folder)
 
 
-def hooked(width):
-    """The changes for the scenes, with `width` tickets in a round."""
-    return [
-        *HOOKED,
-        ("core.c", "", "IN_ROUND = LAYOUT_CELLS", f"IN_ROUND = {width}"),
-        ("lock/lock.h", "", "TICKETS_IN_ROUND = LAYOUT_CELLS", f"TICKETS_IN_ROUND = {width}"),
-    ]
-
-
-def built(folder, edits, width):
-    """The explorer, built over the library with these edits, with `width` tickets in a round."""
+def built(folder, edits, width, told):
+    """The explorer, built over the library with these edits, with `width` tickets in a round and these options."""
     laid_out(folder)
-    edit(folder, [*edits, *hooked(width)])
-    objects = [compiled(folder, name, ["-O2", "-DOF_LOCKS"] if name == "explorer.c" else BY_MODEL) for name in (*LIBRARY, *SCENES)]
+    edit(folder, [*edits, *HOOKED])
+    objects = [compiled(folder, name, ["-O2", "-DOF_LOCKS"] if name == "explorer.c" else [*BY_MODEL, f"-DWIDTH={width}", *told]) for name in (*LIBRARY, *SCENES)]
     subprocess.run(["cc", *objects, "-pthread", "-o", folder / "explorer"], check=True)
     return folder / "explorer"
 
 
-def run(edits, width, most, scene, seconds):
+def run(edits, width, most, scene, seconds, *told):
     """The output of the runs, whether one failed, and the scenes that did not end."""
     with tempfile.TemporaryDirectory() as name:
-        done = subprocess.run([built(pathlib.Path(name), edits, width), str(most), scene, str(seconds)], capture_output=True, text=True, check=False)
-    told = done.stdout.splitlines()
-    return told, done.returncode not in (0, 2), [line.rsplit(": ", 1)[0] for line in told if line.endswith(" runs, not all")]
+        done = subprocess.run([built(pathlib.Path(name), edits, width, told), str(most), scene, str(seconds)], capture_output=True, text=True, check=False)
+    lines = done.stdout.splitlines()
+    return lines, done.returncode not in (0, 2), [line.rsplit(": ", 1)[0] for line in lines if line.endswith(" runs, not all")]
 
 
 def last_of(told):
@@ -123,11 +116,24 @@ def is_found(name, seconds):
     left = []
     for turns in range(most + 1):
         for width in (1, 4):
-            told, failed, left = run(edits, width, turns, scene, seconds)
+            told, failed, left = run(edits, width, turns, scene, seconds, "-DUNCHECKED")
             if failed:
                 print(f"{name}: at {turns}, {last_of(told)}", flush=True)
                 return True
     print(f"{name}: {'runs' if left else 'all runs'} go well", flush=True)
+    return False
+
+
+def trips(name, seconds):
+    """Prints where a library with this fault fails by the invariant that it names; False if it does not."""
+    most, scene, text, *edits = INVARIANTS[name]
+    for turns in range(most + 1):
+        for width in (1, 4):
+            told, failed, _ = run(edits, width, turns, scene, seconds)
+            if failed:
+                print(f"{name}: at {turns}, {last_of(told)}", flush=True)
+                return "invariant: " + text in last_of(told)
+    print(f"{name}: no invariant is broken", flush=True)
     return False
 
 
@@ -151,8 +157,9 @@ def compare_anchors():
         def why_not(changes):
             return mutants.changed(folder, [mutants.Change(*it, None) for it in changes])[1]
 
-        hooks = hooked(4) if not why_not(hooked(4)) else []
-        rows = {"the changes for the scenes": hooked(4), **{it: (*FAULTS[it][2:], *hooks) for it in FAULTS}, **{it: (*HARMLESS[it], *hooks) for it in HARMLESS}}
+        hooks = HOOKED if not why_not(HOOKED) else []
+        faults = {**{it: FAULTS[it][2:] for it in FAULTS}, **{it: INVARIANTS[it][3:] for it in INVARIANTS}, **HARMLESS}
+        rows = {"the changes for the scenes": HOOKED, **{it: (*faults[it], *hooks) for it in faults}}
         lost = [f"{fault}: {why_not(row)}" for fault, row in rows.items() if why_not(row)]
     print(*lost, f"{len(rows) - 1} changes of the lock, {len(lost)} out of place", sep="\n")
     return 1 if lost else 0
@@ -173,17 +180,19 @@ def main():
     since = time.monotonic()
     faults = [name for name in FAULTS if asked.fault in name and not asked.no_faults]
     changes = [name for name in HARMLESS if asked.fault in name and not asked.no_faults]
-    if asked.fault and not faults and not changes:
+    broken = [name for name in INVARIANTS if asked.fault in name and not asked.no_faults]
+    if asked.fault and not faults and not changes and not broken:
         sys.exit(f"no fault's name has {asked.fault!r}")
     whole = [(asked.most, scene, width, asked.seconds) for scene in asked.scene or [""] for width in (4, 1)] if not asked.fault else []
     with concurrent.futures.ThreadPoolExecutor(asked.jobs) as pool:
         well = list(pool.map(lambda it: goes_well(*it), whole))
+        tripped = list(pool.map(lambda name: trips(name, asked.seconds), broken))
         found = list(pool.map(lambda name: is_found(name, asked.seconds), faults))
         harmless = list(pool.map(lambda name: is_harmless(name, asked.seconds), changes))
-    if faults or changes:
-        print(f"{sum(found)} of {len(faults)} faults are found, and {sum(harmless)} of {len(changes)} other changes are harmless")
+    if faults or changes or broken:
+        print(f"{sum(found)} of {len(faults)} faults are found, {sum(tripped)} of {len(broken)} invariants are tripped, and {sum(harmless)} of {len(changes)} other changes are harmless")
     print(f"{time.monotonic() - since:.0f} seconds")
-    sys.exit(0 if all(well) and all(found) and all(harmless) else 1)
+    sys.exit(0 if all(well) and all(found) and all(tripped) and all(harmless) else 1)
 
 
 if __name__ == "__main__":

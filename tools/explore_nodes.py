@@ -1,6 +1,6 @@
 #!/usr/bin/env python3
-"""Explores runs of the C library's files of nodes (c/src/calls.c, notify.c and bells.c), with two and three threads that have a node each, on a model of the
-processor's memory (tools/explorer).
+"""Explores runs of the C library's files of nodes (c/src/calls.c, line.c, callbacks.c and futex.c), with two and three threads that have a node each, on a
+model of the processor's memory (tools/explorer).
 
 tools/explore_nodes.py [MOST] [--scene BEGINNING ..] [--fault WORDS | --no-faults] [--jobs 2] | --anchors
     runs of at most MOST turns of the schedule, 2, of the library as it is; and of each library with a fault, as many as it takes. It needs GCC.
@@ -11,11 +11,11 @@ buffer, unseen by the others, or is seen from there before it must be. All runs 
 their order, and at the latest before the thread's next read-modify-write step or system call. What else a memory of C11 may do with
 sequentially consistent, releasing and acquiring steps is not tried. But two accesses race as C11 says, if neither happens before the other and one
 is plain. The line is a model, each of whose calls takes one step, or two; that it does so is proved elsewhere. No scene has requests in halves, reads or writes
-of the line, leases, or two lines that share a bell's guard.
+of the line, or leases; and there are no hints, as these change nothing that a run shows.
 
 In no run may a thread sleep without being woken, two threads have the line at once, two threads call a node or one call it out of its order,
-freed memory be touched, or an answer be wrong. Each library with one fault must fail in some run, or this program does not see what it is for; and after each change
-that is harmless none may fail. It ends with 1 if this is not so. tools/explore_lock.py does the same of locks.
+freed memory be touched, a line stay whose nodes are closed, or an answer be wrong. Each library with one fault must fail in some run, or this program does not see
+what it is for; and after each change that is harmless none may fail. It ends with 1 if this is not so. tools/explore_lock.py does the same of locks.
 """
 
 import argparse
@@ -29,21 +29,28 @@ import time
 import mutants
 
 ROOT = pathlib.Path(__file__).resolve().parent.parent
-BUILT = ("calls.c", "notify.c", "bells.c")
-HEADERS = ("bells.h", "spin.h")
+BUILT = ("calls.c", "line.c", "callbacks.c", "futex.c")
+HEADERS = ("guard.h", "line.h", "spin.h")
 SOURCES = {name: (ROOT / "c/src" / name).read_text() for name in (*BUILT, *HEADERS)}
 # What a thread keeps while it makes calls of notifications: the model has several threads in one.
-OF_THREAD = "static BY_THREAD struct caller_of_notices *in_call;\n"
-assert OF_THREAD in SOURCES["notify.c"]
-SOURCES["notify.c"] = SOURCES["notify.c"].replace(OF_THREAD, "void **model_in_call(void);\n#define in_call (*(struct caller_of_notices **)model_in_call())\n")
+OF_THREAD = "static BY_THREAD struct caller *in_call;\n"
+assert OF_THREAD in SOURCES["callbacks.c"]
+SOURCES["callbacks.c"] = SOURCES["callbacks.c"].replace(OF_THREAD, "void **model_in_call(void);\n#define in_call (*(struct caller **)model_in_call())\n")
+SOURCES["hints.h"] = """#include "line.h"
+static const char *slot_of(struct node *my) { return 0; }
+static void hint_turn(const struct node *my, const char *slot) {}
+static void hint_release(const struct node *my) {}
+"""
 # What a thread has learned of its spins decides nothing here, as the model has several threads in one: each spin is one poll, without a pause.
 SPUN = {
     "SPIN_NEAR = 50000": "SPIN_NEAR = 90",
     "SPIN_UNKNOWN = 20000": "SPIN_UNKNOWN = 90",
-    "if (spin->spun + POLL_PAUSE <= (patience < most ? patience : most) && pauses_in_1024()) return": "if (spin->spun + POLL_PAUSE <= most) return",
-    "    qolb_pause_(pause);\n    spin->spun": "    spin->spun",
-    "unsigned *learned = &qolb_learned_[spin->slept ? WOKEN_SPIN : FIRST_SPIN], most": "unsigned none = 0, *learned = &none, most",
-    "unsigned patience = spin->spun ? *learned : begin_spin(learned);": "(void)begin_spin;",
+    "    if (spin->spun + POLL_PAUSE <= spin->most && may_spin) return": "    if (spin->spun + POLL_PAUSE <= spin->most) return",
+    "may_spin = pauses_in_1024()": "may_spin = 1",
+    "atomic_load_explicit(&qolb_processors_, memory_order_relaxed)": "4",
+    "    qolb_pause_(pause < left ? pause : left);\n": "",
+    "unsigned *learned = &qolb_learned_[spin->slept ? WOKEN_SPIN : FIRST_SPIN];": "unsigned none = 0, *learned = &none;",
+    "unsigned patience = spin->spun ? *learned : begin_spin(learned)": "unsigned patience = SPIN_NEAR",
 }
 for old, new in SPUN.items():
     assert old in SOURCES["spin.h"]
@@ -51,96 +58,88 @@ for old, new in SPUN.items():
 RENAMED = [f"-D{name}=model_{short}" for name, short in (("malloc", "malloc"), ("free", "free"), ("syscall", "syscall"), ("sched_yield", "yield"), ("clock_gettime", "clock"))]
 # The files of tools/explorer, with flags of their own: scenes are built as the library is.
 BY_MODEL = ["-w", "-O1", "-fsanitize=thread", "-U__SANITIZE_THREAD__", "-DQOLB_NO_PROBES", *RENAMED]
-OF_MODEL = {"node_scenes.c": BY_MODEL, "explorer.c": ["-O2"], "line.c": ["-O2"]}
+OF_MODEL = {"node_scenes.c": BY_MODEL, "explorer.c": ["-O2"], "proved_line.c": ["-O2"]}
 # In the sources: fewer looks before the same decisions.
-HOOKED = [
-    ("GUARD_LOOKS = 64", "GUARD_LOOKS = 1"),
-    # Fewer bells are cleared sooner; in some scenes all places share one.
-    ("enum { BELLS = 1024 };\n", "enum { BELLS = 32 };\nextern unsigned model_bells;\n"),
-    ("(*first_bell_of(node) + word / PLACE_WORDS) % BELLS", "(*first_bell_of(node) + word / PLACE_WORDS) % model_bells"),
-    ("((uint32_t)(key >> 32) + (uint32_t)key / PLACE_WORDS) % BELLS", "((uint32_t)(key >> 32) + (uint32_t)key / PLACE_WORDS) % model_bells"),
-]
+HOOKED = [("GUARD_LOOKS = 64", "GUARD_LOOKS = 1")]
 
-COUNT = "    atomic_fetch_add(&bell->sleepers, 1);\n"
-IN_LINE = "    atomic_fetch_add(waiting_in_line(node), 1);\n"
-ANYWHERE = IN_LINE + "    atomic_fetch_add(&anywhere.waiting, 1);\n"
-NODE_LOOK = "    unsigned word = atomic_load(&bell->word);\n    uint32_t got = qolb_poll_proved_(node);\n"
+COUNT = "    atomic_fetch_add(&place->sleepers, 1);\n"
+IN_LINE = "    atomic_fetch_add(&my->line->callbacks.waiting, 1);\n"
+OFF_LINE = "    atomic_fetch_sub(&my->line->callbacks.waiting, 1);\n"
+OFF_PLACE = "    atomic_fetch_sub(&place->sleepers, 1);\n"
+NODE_LOOK = "    unsigned word = atomic_load(&place->word);\n    uint32_t got = qolb_poll_proved_(&my->proved);\n"
+WAKES = "    atomic_fetch_add(&place->word, 1);\n    qolb_wake_at_(&place->word, INT32_MAX);\n"
+RELEASES = "    return let_go(my, qolb_deqolb_proved_(&my->proved));\n"
+COUNTED_EARLY = "    unsigned early = atomic_load(&my->line->callbacks.waiting);\n    uint32_t got = qolb_deqolb_proved_(&my->proved);\n    return early && got != QOLB_MISUSE ? woken(my, got) : got;\n"
+NEXT = "    wake_at(place_at(line, next));\n    wake_at(place_at(line, ahead));\n"
 FAULTS = {
-    "nodes: the sleeper does not count itself at its bell": (COUNT + ANYWHERE, ANYWHERE),
-    "nodes: the sleeper does not count itself in its line": (COUNT + ANYWHERE, (COUNT + ANYWHERE).replace(IN_LINE, ""), "    atomic_fetch_sub(waiting_in_line(node), 1);\n", ""),
-    "nodes: the sleeper does not count itself at any bell": (COUNT + ANYWHERE, COUNT + IN_LINE),
+    "nodes: the sleeper does not count itself at its place": (COUNT + IN_LINE, IN_LINE, OFF_PLACE, ""),
+    "nodes: the sleeper does not count itself in its line": (COUNT + IN_LINE, COUNT, OFF_LINE, ""),
     "nodes: the word is read after the second look": (NODE_LOOK, "".join(reversed(NODE_LOOK.splitlines(True)))),
-    "nodes: there is no second look": (NODE_LOOK, NODE_LOOK.replace("qolb_poll_proved_(node)", "QOLB_WAITING")),
-    "nodes: the second look comes before the count": (COUNT + ANYWHERE + NODE_LOOK, NODE_LOOK.split("\n", 1)[1] + COUNT + ANYWHERE + NODE_LOOK.split("\n", 1)[0] + "\n"),
-    "nodes: who releases rings no bell": ("let_go(node, qolb_deqolb_proved_(node))", "told(node, qolb_deqolb_proved_(node))"),
-    "nodes: who is told that the line is closed rings no bell": ("got == QOLB_CLOSED ? let_go(node, got) : got", "(void)node, got"),
-    "nodes: who is told so while it waits rings no bell": ("    return told(node, got);\n}\n\nstatic inline", "    return got;\n}\n\nstatic inline"),
-    "nodes: who shuts the line rings no bell": ("let_go(node, qolb_shut_proved_(node))", "told(node, qolb_shut_proved_(node))"),
-    "nodes: a release wakes one sleeper of a bell": ("    qolb_wake_at_(&bell->word, INT32_MAX);\n", "    qolb_wake_at_(&bell->word, 1);\n"),
-    "nodes: who is late does not withdraw": ("uint32_t got = qolb_withdraw_proved_(node);", "uint32_t got = QOLB_WITHDRAWN;"),
+    "nodes: there is no second look": (NODE_LOOK, NODE_LOOK.replace("qolb_poll_proved_(&my->proved)", "QOLB_WAITING")),
+    "nodes: the second look comes before the count": (COUNT + IN_LINE + NODE_LOOK, NODE_LOOK.split("\n", 1)[1] + COUNT + IN_LINE + NODE_LOOK.split("\n", 1)[0] + "\n"),
+    "nodes: who releases wakes nobody": (RELEASES, RELEASES.replace("let_go", "told")),
+    "nodes: who is told that the line is closed wakes nobody": ("got == QOLB_CLOSED ? let_go(my, got) : got", "(void)my, got"),
+    "nodes: who is told so while it waits wakes nobody": ("    return told(my, got);\n}\n\nstatic inline uint32_t acquire(", "    return got;\n}\n\nstatic inline uint32_t acquire("),
+    "nodes: who shuts the line wakes nobody": ("let_go(my, qolb_shut_proved_(&my->proved))", "told(my, qolb_shut_proved_(&my->proved))"),
+    "nodes: who is late does not withdraw": ("uint32_t got = qolb_withdraw_proved_(&my->proved);", "uint32_t got = QOLB_WITHDRAWN;"),
+    "nodes: a wake wakes nobody": (WAKES, WAKES.splitlines(True)[0]),
+    "nodes: a wake adds nothing": (WAKES, WAKES.splitlines(True)[1]),
+    "nodes: the wake comes before the addition": (WAKES, "".join(reversed(WAKES.splitlines(True)))),
+    "nodes: who releases reads the count before the release": (RELEASES, COUNTED_EARLY),
+    "nodes: a sleeper sleeps at another's place": ("place_at(my->line, qolb_waits_at_proved_(&my->proved))", "place_at(my->line, qolb_waits_at_proved_(&my->proved) + LAYOUT_PLACE_WORDS)"),
+    "nodes: a sleeper does not take itself off its place": (OFF_PLACE, ""),
+    "nodes: a sleeper does not take itself off its line": (OFF_LINE, ""),
+    "nodes: who releases wakes at its own place": ("qolb_went_to_proved_(&my->proved)", "qolb_waits_at_proved_(&my->proved)"),
+    "nodes: the one behind the next holder is woken alone": (NEXT, NEXT.splitlines(True)[1]),
+    "nodes: the first that closes frees the line": (".callbacks.others = nodes - 1", ".callbacks.others = 0"),
+    "nodes: who closes does not let go of the line": ("    qolb_let_go_(&my->line->callbacks);\n", ""),
+    "nodes: who closes lets go of the line before its node is closed": ("    uint32_t got = qolb_close_proved_(&my->proved);\n    handle->own = NULL;\n    qolb_let_go_(&my->line->callbacks);\n", "    qolb_let_go_(&my->line->callbacks);\n    uint32_t got = qolb_close_proved_(&my->proved);\n    handle->own = NULL;\n"),
 }
 
-# Notifications of nodes.
-LISTENS = "    put_in_list(notice, bell);\n    uint32_t got = qolb_poll_proved_(node);\n"
-LISTED = "    atomic_store(&bell->first, notice);\n    add_to_counts(notice, 1);\n"
-NOTED = "    me.notice = notice;\n    me.next = bell->running;\n    bell->running = &me;\n    return_guard(&bell->guard);\n    in_call->running = &me;\n"
-OFF = "    uint32_t got = notice->before ? QOLB_WITHDRAWN : QOLB_DONE;\n    if (notice->before) take_out_of_list(notice);\n    while ((call = running_elsewhere(notice, bell))) await_end(bell, call);\n"
-ENDS = "    if (me->awaited) atomic_fetch_add(&bell->ended, 1);\n    return_guard(&bell->guard);\n    if (me->awaited) qolb_wake_at_(&bell->ended, INT32_MAX);\n"
-TAKES = "    struct running me = {NULL, NULL, &in_call, 0};\n    take_guard(&bell->guard);\n"
-CALLS = "    qolb_tell_acquire_(notice);\n    call(arg);\n"
+# Callbacks of nodes.
+LISTENS = "    qolb_put_in_list_(of, &my->callback);\n    uint32_t got = qolb_poll_proved_(&my->proved);\n"
+AFTER_LOOK = "    if (got != QOLB_WAITING) qolb_take_out_of_list_(of, &my->callback);\n"
+LISTED = "    atomic_store(&of->first, it);\n    atomic_fetch_add(&of->waiting, 1);\n"
+UNCOUNTED = "    atomic_fetch_sub(&of->waiting, 1);\n    return 1;\n"
+NOTED = "    me.callback = it;\n    me.next = of->running;\n    of->running = &me;\n    return_guard(&of->guard);\n    in_call->running = &me;\n"
+OFF = "    uint32_t got = qolb_take_out_of_list_(of, it) ? QOLB_WITHDRAWN : QOLB_DONE;\n    while ((call = running_elsewhere(of, it))) await_end(of, call);\n"
+ENDS = "    if (me->awaited) atomic_fetch_add(&noted->ended, 1);\n    return_guard(&noted->guard);\n    if (me->awaited) qolb_wake_at_(&noted->ended, INT32_MAX);\n"
+TAKES = "    struct running me = {NULL, NULL, &in_call, 0};\n    take_guard(&of->guard);\n"
+CALLS = "    qolb_tell_acquire_(it);\n    call(arg);\n"
 FAULTS |= {
-    "notices: there is no second look": (LISTENS, LISTENS.replace("qolb_poll_proved_(node)", "QOLB_WAITING")),
-    "notices: the look comes before the notice": (LISTENS, "".join(reversed(LISTENS.splitlines(True)))),
-    "notices: a notice is in no count": (LISTED, LISTED.replace("    add_to_counts(notice, 1);\n", ""), "    add_to_counts(notice, -1u);\n", ""),
-    "notices: a notice is not counted in its line": ("    atomic_fetch_add(notice->in_line, by);\n", ""),
-    "notices: a notice is not counted in all": ("    if (notice->in_all) atomic_fetch_add(notice->in_all, by);\n", ""),
-    "notices: a notice is counted after the look": (LISTED, LISTED.splitlines(True)[0], LISTENS, LISTENS + "    add_to_counts(notice, 1);\n"),
-    "notices: who releases makes no call": ("    if (atomic_load(&next.holder->first)) qolb_make_call_(next.holder, next.key);\n", ""),
-    "notices: who releases makes the call of any notice at the bell": ("    while (it && it->key != key) it = it->next;\n", ""),
-    "notices: who releases takes no guard": (TAKES, TAKES.splitlines(True)[0]),
-    "notices: who releases makes the call under the guard": (NOTED, NOTED.replace("    return_guard(&bell->guard);\n", ""), CALLS, CALLS + "    return_guard(&bell->guard);\n"),
-    "notices: the call is noted after the guard": (NOTED, "    return_guard(&bell->guard);\n    take_guard(&bell->guard);\n" + NOTED),
-    "notices: a notice stays in the list while its call is made": ("    take_out_of_list(notice);\n    void (*call)", "    void (*call)"),
-    "notices: an off leaves the notice": (OFF, OFF.replace("    if (notice->before) take_out_of_list(notice);\n", "")),
-    "notices: an off takes the notice out without the guard": ("    struct running *call;\n    take_guard(&bell->guard);\n    uint32_t got = notice->before", "    struct running *call;\n    if (notice->before) return take_out_of_list(notice), QOLB_WITHDRAWN;\n    take_guard(&bell->guard);\n    uint32_t got = notice->before"),
-    "notices: an off does not wait for a call": (OFF, OFF.replace("    while ((call = running_elsewhere(notice, bell))) await_end(bell, call);\n", "")),
-    "notices: an off waits for no call that had begun before it": ("    if (!notice->call) return QOLB_DONE;\n", "    if (!notice->before) return QOLB_DONE;\n"),
-    "notices: who ends a call wakes nobody": (ENDS, ENDS.replace("    if (me->awaited) qolb_wake_at_(&bell->ended, INT32_MAX);\n", "")),
-    "notices: who ends a call adds nothing": (ENDS, ENDS.replace("    if (me->awaited) atomic_fetch_add(&bell->ended, 1);\n", "")),
-    "notices: a waiter for a call's end says so after the guard": ("    call->awaited = 1;\n    unsigned ended = atomic_load(&bell->ended);\n    return_guard(&bell->guard);\n", "    unsigned ended = atomic_load(&bell->ended);\n    return_guard(&bell->guard);\n    call->awaited = 1;\n"),
-    "notices: a call that is done is still waited for": ("void qolb_notify_done(void) {\n    struct running *me = in_call ? in_call->running : NULL;\n    if (!me) return;\n", "void qolb_notify_done(void) {}\nstatic void ends(void) {\n    struct running *me = in_call->running;\n", "    call(arg);\n    qolb_notify_done();\n", "    call(arg);\n    ends();\n"),
-    "notices: closing leaves the notice": ("    if (may_close(node)) qolb_notify_off(node);\n", ""),
-    "notices: a second wish leaves the first": ("    qolb_notify_off(node);\n    notice->call", "    if (!notice->before) qolb_notify_off(node);\n    notice->call"),
-    "notices: a call is made inside another": ("    if (is_put_off(bell, key)) return;\n", ""),
-    "notices: calls that were put off are not made": ("    make_put_off(&me);\n    in_call = outer;\n    pthread", "    in_call = outer;\n    pthread"),
-    "notices: who is told that it is closed makes no call": ("    return told(node, got);\n}\n\nuint32_t qolb_notify_off", "    return got;\n}\n\nuint32_t qolb_notify_off"),
-}
-
-# Nodes and notices, in steps of their own: when a count is read, where a sleeper sleeps, what a look decides.
-TOLLS = "    atomic_fetch_add(&bell->word, 1);\n    qolb_wake_at_(&bell->word, INT32_MAX);\n"
-RELEASES = "    return let_go(node, qolb_deqolb_proved_(node));\n"
-AFTER_LOOK = "    if (got != QOLB_WAITING) take_out_of_list(notice);\n"
-COUNTED_EARLY = "    unsigned early = atomic_load(&anywhere.waiting);\n    uint32_t got = qolb_deqolb_proved_(node);\n    return early && rings(node, got) ? rung(node, got) : got;\n"
-COUNTED_EARLY_IN_LINE = "    unsigned early = atomic_load(waiting_in_line(node));\n    uint32_t got = qolb_deqolb_proved_(node);\n    return atomic_load(&anywhere.waiting) && early ? rung(node, got) : got;\n"
-NEXT = "    ring(next.holder);\n    ring(next.ahead);\n"
-FAULTS |= {
-    "nodes: who rings wakes nobody": (TOLLS, TOLLS.splitlines(True)[0]),
-    "nodes: who rings adds nothing": (TOLLS, TOLLS.splitlines(True)[1]),
-    "nodes: the wake comes before the addition": (TOLLS, "".join(reversed(TOLLS.splitlines(True)))),
-    "nodes: who releases reads the count of all before the release": (RELEASES, COUNTED_EARLY),
-    "nodes: who releases reads the count of the line before the release": (RELEASES, COUNTED_EARLY_IN_LINE),
-    "nodes: each node of a line has a count of its own": ("&qolb_bells_[bell % BELLS].in_line", "&qolb_bells_[(bell + k) % BELLS].in_line"),
-    "nodes: a sleeper sleeps at another's bell": ("    struct bell *bell = bell_at(node, qolb_waits_at_proved_(node));\n", "    struct bell *bell = bell_at(node, qolb_waits_at_proved_(node) + PLACE_WORDS);\n"),
-    "nodes: a sleeper does not take itself off": ("    atomic_fetch_sub(&anywhere.waiting, 1);\n    atomic_fetch_sub(waiting_in_line(node), 1);\n    atomic_fetch_sub(&bell->sleepers, 1);\n", ""),
-    "nodes: who releases rings at its own place": ("qolb_went_to_proved_(node)", "qolb_waits_at_proved_(node)"),
-    "nodes: the one behind the next holder is rung for alone": (NEXT, NEXT.splitlines(True)[1]),
-    "notices: who releases reads the count of all before the release": (RELEASES, COUNTED_EARLY),
-    "notices: who releases reads the count of the line before the release": (RELEASES, COUNTED_EARLY_IN_LINE),
-    "notices: who releases calls for its own place": ("qolb_went_to_proved_(node)", "qolb_waits_at_proved_(node)"),
-    "notices: a notice is counted before the look, and listed after it": (LISTED, LISTED.splitlines(True)[0], LISTENS + AFTER_LOOK, "    add_to_counts(notice, 1);\n    uint32_t got = qolb_poll_proved_(node);\n    if (got == QOLB_WAITING) put_in_list(notice, bell);\n    else add_to_counts(notice, -1u);\n"),
-    "notices: the look comes after the guard": (LISTENS + AFTER_LOOK, "    put_in_list(notice, bell);\n    return_guard(&bell->guard);\n    uint32_t got = qolb_poll_proved_(node);\n    take_guard(&bell->guard);\n    if (got != QOLB_WAITING && notice->before) take_out_of_list(notice);\n"),
-    "notices: who is granted the line by its look stays in the list": (LISTENS + AFTER_LOOK, LISTENS),
-    "notices: a call is noted no longer when it begins": ("    call(arg);\n    qolb_notify_done();\n", "    qolb_notify_done();\n    call(arg);\n"),
+    "callbacks: there is no second look": (LISTENS, LISTENS.replace("qolb_poll_proved_(&my->proved)", "QOLB_WAITING")),
+    "callbacks: the look comes before the callback": (LISTENS, "".join(reversed(LISTENS.splitlines(True)))),
+    "callbacks: a callback is not counted": (LISTED, LISTED.splitlines(True)[0], UNCOUNTED, "    return 1;\n"),
+    "callbacks: a callback is counted after the look": (LISTED, LISTED.splitlines(True)[0], LISTENS, LISTENS + "    atomic_fetch_add(&of->waiting, 1);\n"),
+    "callbacks: a callback that is taken out is still counted": (UNCOUNTED, "    return 1;\n"),
+    "callbacks: who releases makes no call": ("    if (atomic_load(&line->callbacks.first)) qolb_make_call_(&line->callbacks, next);\n", ""),
+    "callbacks: who releases makes any call of the line": ("    while (it && it->key != key) it = it->next;\n", ""),
+    "callbacks: who releases takes no guard": (TAKES, TAKES.splitlines(True)[0]),
+    "callbacks: who releases makes the call under the guard": (NOTED, NOTED.replace("    return_guard(&of->guard);\n", ""), CALLS, CALLS + "    return_guard(&of->guard);\n"),
+    "callbacks: the call is noted after the guard": (NOTED, "    return_guard(&of->guard);\n    take_guard(&of->guard);\n" + NOTED),
+    "callbacks: a callback stays in the list while its call is made": ("    qolb_take_out_of_list_(of, it);\n    void (*call)", "    void (*call)"),
+    "callbacks: one behind another is taken out with it": ("    if (before) before->next = it->next;\n    else", "   "),
+    "callbacks: an off leaves the callback": (OFF, OFF.replace("qolb_take_out_of_list_(of, it)", "of->first")),
+    "callbacks: an off takes the callback out without the guard": ("    struct running *call;\n    take_guard(&of->guard);\n    uint32_t got = qolb_take", "    struct running *call;\n    if (qolb_take_out_of_list_(of, it)) return QOLB_WITHDRAWN;\n    take_guard(&of->guard);\n    uint32_t got = qolb_take"),
+    "callbacks: an off does not wait for a call": (OFF, OFF.replace("    while ((call = running_elsewhere(of, it))) await_end(of, call);\n", "    (void)call;\n")),
+    "callbacks: an off waits for no call that had begun before it": ("    if (!my->callback.call) return QOLB_DONE;\n", "    if (!my->callback.call || !atomic_load(&my->line->callbacks.first)) return QOLB_DONE;\n"),
+    "callbacks: who ends a call wakes nobody": (ENDS, ENDS.replace("    if (me->awaited) qolb_wake_at_(&noted->ended, INT32_MAX);\n", "")),
+    "callbacks: who ends a call adds nothing": (ENDS, ENDS.replace("    if (me->awaited) atomic_fetch_add(&noted->ended, 1);\n", "")),
+    "callbacks: a waiter for a call's end says so after the guard": ("    call->awaited = 1;\n    unsigned ended = atomic_load(&of->ended);\n    return_guard(&of->guard);\n", "    unsigned ended = atomic_load(&of->ended);\n    return_guard(&of->guard);\n    call->awaited = 1;\n"),
+    "callbacks: a call that is done is still waited for": ("void qolb_notify_done(void) {\n    struct running *me = in_call ? in_call->running : NULL;\n    if (!me) return;\n", "void qolb_notify_done(void) {}\nstatic void ends(void) {\n    struct running *me = in_call->running;\n", "    call(arg);\n    qolb_notify_done();\n", "    call(arg);\n    ends();\n"),
+    "callbacks: closing leaves the callback": ("    qolb_notify_off(handle);\n", ""),
+    "callbacks: a second wish leaves the first": ("    qolb_notify_off(node);\n    my->callback.call", "    if (!my->line->callbacks.first) qolb_notify_off(node);\n    my->callback.call"),
+    "callbacks: a call is made inside another": ("    if (is_put_off(of, key)) return;\n", ""),
+    "callbacks: calls that were put off are not made": ("    make_put_off(&me);\n    in_call = outer;\n    pthread", "    in_call = outer;\n    pthread"),
+    "callbacks: a call that was put off does not keep its line": ("    atomic_fetch_add(&of->others, 1);\n", "", "        qolb_let_go_(of);\n", ""),
+    "callbacks: a call that was made keeps its line": ("        qolb_let_go_(of);\n", ""),
+    "callbacks: who is told that it is closed makes no call": ("    return told(my, got);\n}\n\nuint32_t qolb_notify_off", "    return got;\n}\n\nuint32_t qolb_notify_off"),
+    "callbacks: who releases reads the count before the release": (RELEASES, COUNTED_EARLY),
+    "callbacks: who releases calls for its own place": ("qolb_went_to_proved_(&my->proved)", "qolb_waits_at_proved_(&my->proved)"),
+    "callbacks: a callback is counted before the look, and listed after it": (LISTED, LISTED.splitlines(True)[0], LISTENS + AFTER_LOOK, "    atomic_fetch_add(&of->waiting, 1);\n    uint32_t got = qolb_poll_proved_(&my->proved);\n    if (got == QOLB_WAITING) qolb_put_in_list_(of, &my->callback);\n    else atomic_fetch_add(&of->waiting, -1u);\n"),
+    "callbacks: the look comes after the guard": (LISTENS + AFTER_LOOK, "    qolb_put_in_list_(of, &my->callback);\n    return_guard(&of->guard);\n    uint32_t got = qolb_poll_proved_(&my->proved);\n    take_guard(&of->guard);\n" + AFTER_LOOK),
+    "callbacks: who is granted the line by its look stays in the list": (LISTENS + AFTER_LOOK, LISTENS),
+    "callbacks: a call is noted no longer when it begins": ("    call(arg);\n    qolb_notify_done();\n", "    qolb_notify_done();\n    call(arg);\n"),
 }
 
 # How the names of the scenes begin in which a fault is looked for that takes two turns of the schedule. The others take one, and are looked for in all.
@@ -148,38 +147,42 @@ IN_TWO_TURNS = {
     "nodes: the word is read after the second look": "nodes: three acquire",
     "nodes: there is no second look": "nodes: three acquire",
     "nodes: the second look comes before the count": "nodes: three acquire",
-    "nodes: who shuts the line rings no bell": "nodes: one shuts",
+    "nodes: who shuts the line wakes nobody": "nodes: one shuts",
     "nodes: who is late does not withdraw": "nodes: one is late and comes again",
-    "notices: the look comes before the notice": "notices",
-    "notices: a notice is counted before the look, and listed after it": "notices",
-    "notices: a notice is counted after the look": "notices",
-    "notices: who releases takes no guard": "notices",
-    "notices: the call is noted after the guard": "notices",
-    "notices: a notice stays in the list while its call is made": "notices",
-    "notices: an off takes the notice out without the guard": "notices",
-    "notices: an off does not wait for a call": "notices",
-    "notices: an off waits for no call that had begun before it": "notices",
-    "notices: who ends a call wakes nobody": "notices",
-    "notices: who ends a call adds nothing": "notices",
-    "notices: a waiter for a call's end says so after the guard": "notices",
-    "notices: a call that is done is still waited for": "notices",
-    "notices: who is told that it is closed makes no call": "notices",
+    "nodes: a wake adds nothing": "nodes: three acquire",
+    "callbacks: the look comes before the callback": "callbacks",
+    "callbacks: a callback is counted before the look, and listed after it": "callbacks",
+    "callbacks: a callback is counted after the look": "callbacks",
+    "callbacks: who releases takes no guard": "callbacks",
+    "callbacks: the call is noted after the guard": "callbacks",
+    "callbacks: a callback stays in the list while its call is made": "callbacks",
+    "callbacks: an off takes the callback out without the guard": "callbacks",
+    "callbacks: an off does not wait for a call": "callbacks",
+    "callbacks: an off waits for no call that had begun before it": "callbacks",
+    "callbacks: who ends a call wakes nobody": "callbacks",
+    "callbacks: who ends a call adds nothing": "callbacks",
+    "callbacks: a waiter for a call's end says so after the guard": "callbacks",
+    "callbacks: a call that is done is still waited for": "callbacks",
+    "callbacks: who is told that it is closed makes no call": "callbacks",
 }
 
 # The same of a fault that takes three turns.
 IN_THREE_TURNS = {
     "nodes: the wake comes before the addition": "nodes: three acquire",
+    "callbacks: closing leaves the callback": "callbacks: one closes with a wish",
 }
 
 # Changes after which no run may fail.
 HARMLESS = {
-    # A ring at which nobody sleeps wakes nobody.
-    "nodes: who releases rings whether any sleeps or not": (RELEASES, "    uint32_t got = qolb_deqolb_proved_(node);\n    return got == QOLB_DONE ? rung(node, got) : got;\n"),
+    # A wake at a place where nobody sleeps wakes nobody.
+    "nodes: who releases wakes whether any sleeps or not": (RELEASES, "    uint32_t got = qolb_deqolb_proved_(&my->proved);\n    return got == QOLB_DONE ? woken(my, got) : got;\n"),
     # Being woken a turn ahead saves time alone.
     "nodes: nobody is woken a turn ahead": (NEXT, NEXT.splitlines(True)[0]),
-    "notices: the count comes before the list": (LISTED, "".join(reversed(LISTED.splitlines(True)))),
+    # No two waiting nodes of a line have one place.
+    "nodes: a wake wakes one sleeper": (WAKES, WAKES.replace("INT32_MAX", "1")),
+    "callbacks: the count comes before the list": (LISTED, "".join(reversed(LISTED.splitlines(True)))),
     # Its node is not closed, and wants no other call, before the call is done.
-    "the notice is read after the guard": ("    void *arg = notice->arg;\n", "", CALLS, CALLS.replace("call(arg)", "call(notice->arg)")),
+    "the callback is read after the guard": ("    void *arg = it->arg;\n", "", CALLS, CALLS.replace("call(arg)", "call(it->arg)")),
 }
 
 
@@ -212,7 +215,7 @@ def built(folder, row, base):
     if why:
         sys.exit(why)
     changed = {name for name, text in sources.items() if not (base / name).exists() or (base / name).read_text() != text}
-    if not changed.isdisjoint(HEADERS):
+    if not changed.isdisjoint((*HEADERS, "hints.h")):
         changed = {*sources, *OF_MODEL}
     for name in changed & set(sources):
         (folder / name).write_text(sources[name])

@@ -176,7 +176,7 @@ def front():
 
 def choice_of_archive():
     """Who may overtake, bytes, and nanoseconds of a critical section: in columns, indented."""
-    names = {"strict": "strict, QOLB_LOCK_INIT", "barging": "barging, QOLB_LOCK_INIT_BURSTS(1024)", "pthread_mutex": "pthread_mutex"}
+    names = {"strict": "strict, QOLB_LOCK_INIT", "barging": "barging, QOLB_LOCK_INIT_BARGING(1024)", "pthread_mutex": "pthread_mutex"}
     bytes_of = re.search(r"QOLB_LOCK_INIT +strict +(\d+)", (ROOT / "c/include/qolb.h").read_text())[1]
     found = peers_of(PEERS, "ns")
     rows = [

@@ -23,10 +23,10 @@ HEADER = ROOT / "c/include/qolb.h"
 PAGES = ROOT / "docs/man"
 # The pages of the header, and what belongs to each but qolb_node: calls, types and constants.
 PARTS = ["qolb", "qolb_lock", "qolb_node", "qolb_task"]
-OF_PAGE = {"qolb": "qolb_version|qolb_answer", "qolb_lock": "qolb_lock|qolb_cond", "qolb_task": "qolb_task|qolb_notify"}
+OF_PAGE = {"qolb": "qolb_version|qolb_result|qolb_ok", "qolb_lock": "qolb_lock|qolb_cond", "qolb_task": "qolb_task|qolb_notify"}
 # The sections that a page has before its calls.
-FIRST = ["DESCRIPTION", "PROOFS", "INITIALISERS", "EXAMPLE", "ORDER AND BURSTS", "WORDS", "KINDS"]
-OF_ANSWERS = "DONE is the answer QOLB_DONE of qolb(3)."
+FIRST = ["DESCRIPTION", "PROOFS", "RETURN VALUE", "INITIALISERS", "EXAMPLE", "ORDER AND BARGING", "WORDS", "KINDS"]
+OF_RESULTS = "DONE stands for QOLB_DONE, a result that qolb(3) explains."
 # The blanks before a sample; the columns of a declaration, which is indented by seven.
 SAMPLE, WIDTH = "    ", 72
 MEMORY = ROOT / "c/build/tests/memory"
@@ -200,6 +200,23 @@ def check_memory(is_check):
         sys.exit("man.py: the table of memory in c/include/qolb.h is not what c/build/tests/memory counts: run tools/man.py")
 
 
+def check_results(rest, table):
+    """Ends unless the table of results has each call that returns one, once, and all results that the call's comment names."""
+    rows = {}
+    for line in "\n".join(table).replace("\n" + " " * 34, " ").split("\n")[1:]:
+        named, may = re.match(r" {4}(\S.*?)  +(.*)", line).groups()
+        rows |= {call: set(may.split()) for call in named.split(", ")}
+    known = {value.removeprefix("QOLB_") for value, _, _ in values(rest, "qolb_result")}
+    returning = {call: said for told, said in calls(rest) for call, made in told if made.startswith("enum qolb_result ")}
+    for call in sorted(set(rows) ^ set(returning)):
+        sys.exit(f"man.py: {call} is {'in the table of results, and returns none' if call in rows else 'not in the table of results'}")
+    for call, said in returning.items():
+        group = set().union(*(rows[other] for other in returning if returning[other] is said))
+        unlisted = set(re.findall(r"\b[A-Z_]{4,}\b", re.sub(r"states? [A-Z]+(?:, [A-Z]+)*", "", " ".join(said)))) & known - group
+        if unlisted or not rows[call] <= known:
+            sys.exit(f"man.py: {call}: its comment names {', '.join(sorted(unlisted))}, and the table of results has {', '.join(sorted(rows[call]))}")
+
+
 def released(version):
     """The date of a version, by the CHANGELOG."""
     return re.search(rf"(?m)^## {re.escape(version.rsplit('.', 1)[0])} \((.*)\)$", (ROOT / "CHANGELOG.md").read_text())[1]
@@ -217,8 +234,8 @@ def page_of_header(name, rest, version, part):
     told = [explained(made, said) for key, made, said in types(rest) if page_of(key) == name]
     out.append(".SH TYPES\n" + "\n".join(told).removeprefix(".PP\n"))
     told = [explained([made for _, made in of], said) for of, said in of_page]
-    out.append(".SH CALLS\n" + "\n".join([filled(OF_ANSWERS), *told] if name != "qolb" else told).removeprefix(".PP\n"))
-    for head, enum, page in (("ANSWERS", "qolb_answer", "qolb"), ("STATES", "qolb_node_state", "qolb_node")):
+    out.append(".SH CALLS\n" + "\n".join([filled(OF_RESULTS), *told] if name != "qolb" else told).removeprefix(".PP\n"))
+    for head, enum, page in (("RESULTS", "qolb_result", "qolb"), ("STATES", "qolb_node_state", "qolb_node")):
         if page == name:
             out.append(f".SH {head}\n" + "\n".join(tagged(f"{value} ({number})", said) for value, number, said in values(rest, enum)))
     out += [section(head, runs) for head, runs in sections.items()]
@@ -235,6 +252,7 @@ def pages_of_header():
     found = parts(uncommented(head))
     if list(found) != PARTS:
         sys.exit(f"man.py: c/include/qolb.h has the parts {', '.join(found)}, and not {', '.join(PARTS)}")
+    check_results(rest, found["qolb"][1]["RETURN VALUE"][1])
     return {f"{name}.3": page_of_header(name, rest, version, found[name]) for name in PARTS}
 
 

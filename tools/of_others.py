@@ -64,7 +64,7 @@ OF_LOCKS = """#include <qolb.h>
 def headers():
     """The text of a header for ck's tests, by the name of the lock."""
     made = {f"qolb_node_{name}": OF_NODES.format(name=name, kind=kind) for name, kind in KINDS.items()}
-    starts = {"strict": "QOLB_LOCK_INIT", "bursts": "QOLB_LOCK_INIT_BURSTS(1024)"}
+    starts = {"strict": "QOLB_LOCK_INIT", "barging": "QOLB_LOCK_INIT_BARGING(1024)"}
     return made | {f"qolb_lock_{name}": OF_LOCKS.format(name=name, start=start) for name, start in starts.items()}
 
 
@@ -169,8 +169,8 @@ def run_suite(suite, seconds):
     built = suite / "built"
     built.mkdir(exist_ok=True)
     same, unbuilt = {"passed": 0}, 0
-    if outcome("/bin/true", seconds, True, QOLB_BURST="none") != "unresolved":
-        sys.exit("of_others: c/build/preload.so is not loaded: it does not refuse a burst")
+    if outcome("/bin/true", seconds, True, QOLB_BARGING="none") != "unresolved":
+        sys.exit("of_others: c/build/preload.so is not loaded: it does not refuse a barging limit")
     for source in tests_of(suite):
         name = f"{source.parent.name}/{source.stem}"
         program = built / name.replace("/", "_")

@@ -1,7 +1,7 @@
 #!/usr/bin/env python3
 """Runs programs of other authors with their mutexes as locks (c/preload/preload.c), and compares output, time and memory with runs of their own.
 
-    tools/preloaded.py [--runs 5] [--megabytes 16] [--burst TURNS] [--only NAME ..] [--limit 120] [--keep]
+    tools/preloaded.py [--runs 5] [--megabytes 16] [--barging TURNS] [--only NAME ..] [--limit 120] [--keep]
 
 It takes some five minutes on a machine that does nothing else. The packers' input has that many megabytes, and redis-benchmark makes 500 requests for each of
 them. LIMIT is the time in seconds after which a program is taken to hang.
@@ -326,7 +326,7 @@ PROGRAMS = {
     "sysbench": (["sysbench"], "sysbench", sysbench),
 }
 COLUMNS = "program seconds_alone seconds_preloaded times processor_alone processor_preloaded kb_alone kb_preloaded kb_allowed mutexes_at_once mutexes turns late not_free within".split()
-REPORT = re.compile(r"burst \d+ mutexes (\d+) at once (\d+) grants (\d+) late (\d+) not free (\d+) violations (\d+)")
+REPORT = re.compile(r"barging \d+ mutexes (\d+) at once (\d+) grants (\d+) timed out (\d+) not free (\d+) violations (\d+)")
 
 
 def counted(name, run, env, folder, plain):
@@ -367,7 +367,7 @@ def asked_for():
     parser = argparse.ArgumentParser(usage=__doc__)
     parser.add_argument("--runs", type=int, default=5)
     parser.add_argument("--megabytes", type=int, default=16)
-    parser.add_argument("--burst")
+    parser.add_argument("--barging")
     parser.add_argument("--only", nargs="+", choices=list(PROGRAMS))
     parser.add_argument("--limit", type=int, default=LIMIT[0])
     parser.add_argument("--keep", action="store_true")
@@ -387,7 +387,7 @@ def lines(asked, folder):
     plain = folder / "plain"
     write_plain(plain, asked.megabytes)
     env = dict(os.environ) | {"LD_PRELOAD": str(PRELOAD)}
-    env |= {"QOLB_BURST": asked.burst} if asked.burst else {}
+    env |= {"QOLB_BARGING": asked.barging} if asked.barging else {}
     for name, (commands, package, run) in PROGRAMS.items():
         if asked.only and name not in asked.only:
             continue

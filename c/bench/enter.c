@@ -1,5 +1,5 @@
 /* Times entering and leaving a lock that no other thread wants, by one thread: a strict qolb_lock, also while a thread
- * waits at its condition, and one with bursts; a node of each kind of line (qolb_acquire and qolb_deqolb); a
+ * waits at its condition, and a barging one; a node of each kind of line (qolb_acquire and qolb_deqolb); a
  * pthread_mutex, and with -DMCS, which needs Debian's package libck-dev, Concurrency Kit's MCS lock. The program has a
  * second thread.
  *
@@ -26,8 +26,8 @@ static ck_spinlock_mcs_context_t context;
 enum { ROUNDS = 10000, MAX_BATCHES = 10001 };
 
 static _Alignas(QOLB_NODE_ALIGN) qolb_node nodes[QOLB_KINDS];
-/* A strict one, another with a thread at its condition, and one with bursts. */
-enum { STRICT, WAITED, BURSTS, LOCKS };
+/* A strict one, another with a thread at its condition, and a barging one. */
+enum { STRICT, WAITED, BARGING, LOCKS };
 static _Alignas(QOLB_NODE_ALIGN) qolb_lock locks[LOCKS];
 static qolb_cond cond = QOLB_COND_INIT;
 static pthread_mutex_t mutex = PTHREAD_MUTEX_INITIALIZER;
@@ -70,7 +70,7 @@ static void add_ways(void) {
     for (uint32_t kind = 0; kind < QOLB_KINDS; kind++) add_way(rounds_of_node, kind, "node, %s", qolb_kind_name(kind));
     add_way(rounds_of_lock, STRICT, "%s", "strict");
     add_way(rounds_of_lock, WAITED, "%s", "strict, one waits");
-    add_way(rounds_of_lock, BURSTS, "%s", "bursts of 1,024");
+    add_way(rounds_of_lock, BARGING, "%s", "barging, limit 1,024");
     add_way(rounds_of_mutex, 0, "%s", "pthread_mutex");
 #ifdef MCS
     add_way(rounds_of_mcs, 0, "%s", "MCS");
@@ -96,7 +96,7 @@ static void opens(void) {
         if (qolb_open(kind, kind, 3, QOLB_NO_LEASE, &zeros, all, 3) != QOLB_DONE) abort();
         nodes[kind] = qolb_move(&all[0]);
     }
-    locks[BURSTS] = (qolb_lock)QOLB_LOCK_INIT_BURSTS(1024);
+    locks[BARGING] = (qolb_lock)QOLB_LOCK_INIT_BARGING(1024);
 }
 
 /* In a process of one thread the C library's mutex takes no locked instruction. */

@@ -11,7 +11,7 @@ static void *add(void *handle) {
         qolb_add_lane(&node, 0, 1, &was);
         qolb_deqolb(&node); /* hands lock and bytes to the next thread in the queue */
     }
-    qolb_close(&node);
+    qolb_node_free(&node);
     return NULL;
 }
 
@@ -27,7 +27,7 @@ int main(void) {
     if (qolb_acquire(&nodes[2]) != QOLB_GRANTED) return 1;
     qolb_read_lane(&nodes[2], 0, &count);
     qolb_deqolb(&nodes[2]);
-    qolb_close(&nodes[2]); /* the last node frees the line */
+    qolb_node_free(&nodes[2]); /* the last node frees the line */
     printf("%llu\n", (unsigned long long)count);
     return count != 2000;
 }

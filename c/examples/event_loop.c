@@ -72,5 +72,5 @@ int main(void) {
     }
     pthread_join(thread, NULL);
     printf("%ld\n", count);
-    return count != (JOBS + 1) * ROUNDS || qolb_lock_close(&lock) != QOLB_DONE;
+    return count != (JOBS + 1) * ROUNDS || qolb_lock_destroy(&lock) != QOLB_DONE;
 }

@@ -217,10 +217,10 @@ static void closes(void) {
         MUST(qolb_acquire(&nodes[MOST - 1]), QOLB_GRANTED);
         MUST(qolb_read_lane(&nodes[MOST - 1], 0, &lane), QOLB_DONE);
         MUST(qolb_deqolb(&nodes[MOST - 1]), QOLB_DONE);
-        for (int k = 0; k < MOST; k++) MUST(qolb_close(&nodes[k]), QOLB_DONE);
+        for (int k = 0; k < MOST; k++) MUST(qolb_node_free(&nodes[k]), QOLB_DONE);
     }
     MUST(lane, atomic_load(&turns));
-    MUST(qolb_lock_close(&lock), QOLB_DONE);
+    MUST(qolb_lock_destroy(&lock), QOLB_DONE);
 }
 
 static void serve(int many_loops, int connections) {

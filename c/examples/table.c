@@ -53,7 +53,7 @@ int main(void) {
             sum += it->count;
             free(it);
         }
-        qolb_lock_close(&table[k].lock);
+        qolb_lock_destroy(&table[k].lock);
     }
     printf("%llu\n", (unsigned long long)sum);
     return sum != WAVES * THREADS * NUMBERS;

@@ -16,7 +16,7 @@ static void *work(void *unused) {
     for (;;) {
         uint32_t got = qolb_lock_enter_within(&lock, AT_MOST);
         if (got == QOLB_GRANTED) break;
-        if (got != QOLB_LATE) abort();
+        if (got != QOLB_TIMEDOUT) abort();
         atomic_fetch_add(&other_work, 1); /* the request is withdrawn: nobody waits for this thread */
     }
     turns++;
@@ -31,7 +31,7 @@ int main(void) {
     while (!atomic_load(&other_work)) sched_yield(); /* a turn that takes long */
     qolb_lock_leave(&lock);
     pthread_join(thread, NULL);
-    qolb_lock_close(&lock);
+    qolb_lock_destroy(&lock);
     printf("%ld\n", turns);
     return turns != 1;
 }

@@ -10,9 +10,9 @@
  * PROOFS
  *
  * The proofs of a lock are about its core, which decides who is next. They show that the core has at most one holder;
- * that it serves tickets, numbers that threads draw, in order; that with bursts of B turns it counts at most B - 1
- * turns of barging threads (threads without a ticket) from one served waiter to the next; and that it tells a leaving
- * thread of a sleep that the next waiter has announced (with bursts, announced while that thread was in).
+ * that it serves tickets, numbers that threads draw, in order; that with a barging limit of B it counts at most B - 1
+ * acquisitions of barging threads (threads without a ticket) from one served waiter to the next; and that it tells a leaving
+ * thread of a sleep that the next waiter has announced (with barging, announced while that thread was in).
  *
  * The code around the core is C and qolb.hpp. It waits and wakes, and has the time limits, conditions and tasks. It is
  * not proved but tested. The C code was also model-checked, at the commit that PROVED names, in small scenes: two or
@@ -40,6 +40,60 @@
  * number by which lines of one label differ. A lock has no label: there they are its address, a ticket of the thread,
  * from 1 on or 0 for none, and the address again.
  *
+ * RETURN VALUE
+ *
+ * A call returns an enum qolb_result. This is the one list of which call may return which; the pages of the calls say
+ * when. The names are written without QOLB_.
+ *
+ *     call                          may return
+ *     qolb_lock_open                DONE OCCUPIED
+ *     qolb_lock_enter               GRANTED CLOSED MISUSE
+ *     qolb_lock_try                 GRANTED BUSY CLOSED
+ *     qolb_lock_enter_within        GRANTED TIMEDOUT CLOSED MISUSE
+ *     qolb_lock_enter_until         GRANTED TIMEDOUT CLOSED MISUSE
+ *     qolb_lock_leave               DONE MISUSE
+ *     qolb_lock_shut                DONE MISUSE
+ *     qolb_lock_destroy             DONE BUSY
+ *     qolb_cond_wait                GRANTED CLOSED MISUSE
+ *     qolb_cond_wait_within         GRANTED TIMEDOUT CLOSED MISUSE
+ *     qolb_cond_signal              DONE
+ *     qolb_cond_broadcast           DONE
+ *     qolb_task_enter               GRANTED WAITING CLOSED MISUSE NO_MEMORY
+ *     qolb_task_enter_fd            GRANTED WAITING CLOSED MISUSE NO_MEMORY
+ *     qolb_task_poll                GRANTED WAITING CLOSED MISUSE
+ *     qolb_task_cancel              DONE WITHDRAWN CLOSED MISUSE
+ *     qolb_task_leave               DONE MISUSE
+ *     qolb_task_shut                DONE MISUSE
+ *     qolb_open                     DONE BAD_KIND BAD_NODES BAD_LEASE
+ *                                   TOO_FEW OCCUPIED NO_MEMORY
+ *     qolb_enqolb                   GRANTED QUEUED CLOSED BUSY MISUSE
+ *     qolb_poll                     GRANTED WAITING CLOSED MISUSE
+ *     qolb_spin                     GRANTED WAITING CLOSED MISUSE
+ *     qolb_acquire                  GRANTED CLOSED MISUSE
+ *     qolb_acquire_within           GRANTED TIMEDOUT CLOSED MISUSE
+ *     qolb_try                      GRANTED BUSY CLOSED MISUSE
+ *     qolb_settle_node              DONE BUSY MISUSE
+ *     qolb_withdraw                 WITHDRAWN GRANTED CLOSED MISUSE
+ *     qolb_prepend                  GRANTED LINKING CLOSED BUSY MISUSE
+ *     qolb_link                     GRANTED QUEUED CLOSED MISUSE
+ *     qolb_read, qolb_write         DONE MISUSE
+ *     qolb_read_lane                DONE MISUSE
+ *     qolb_write_lane               DONE MISUSE
+ *     qolb_add_lane                 DONE MISUSE
+ *     qolb_deqolb, qolb_shut        DONE MISUSE
+ *     qolb_notify                   WAITING GRANTED CLOSED MISUSE
+ *     qolb_notify_fd                WAITING GRANTED CLOSED MISUSE
+ *     qolb_notify_off               WITHDRAWN DONE MISUSE
+ *     qolb_node_free                DONE MISUSE
+ *
+ * qolb_ok(result) is 1 for DONE, GRANTED and WITHDRAWN: the request has ended as the caller wished. It is 0 for all
+ * others:
+ *
+ * - QUEUED, WAITING, LINKING: the request goes on, and no error has occurred.
+ * - BUSY, TIMEDOUT: not this time. After TIMEDOUT of a wait at a condition the thread holds the lock.
+ * - CLOSED: never again.
+ * - MISUSE and the results of opening: the program has to be mended, or memory is short.
+ *
  * PROCESSOR
  *
  * Linux on x86-64, with the instructions of x86-64-v2 (SSE4.2 and POPCNT among them), which processors have since
@@ -49,15 +103,15 @@
  * ==== qolb_lock(3): locks for any number of threads, with conditions ====
  *
  * A lock and the data that it guards lie where the program has them, as in a struct, the lock at a multiple of 16
- * bytes. It need not be freed. Two calls take memory from the heap: qolb_task_enter, and a call with a limit while more
+ * bytes. It need not be freed. Two calls take memory from the heap: qolb_task_enter, and a call with a timeout while more
  * than 60 requests are before it. No call of a thread on a lock answers NO_MEMORY.
  *
  * INITIALISERS
  *
- *     initialiser                    order    turns         bytes
- *     QOLB_LOCK_INIT                 strict                   320
- *     QOLB_LOCK_INIT_BURSTS(turns)   bursts   2 to 65,535     320
- *     QOLB_COND_INIT                 strict                     8
+ *     initialiser                     order     limit         bytes
+ *     QOLB_LOCK_INIT                  strict                    320
+ *     QOLB_LOCK_INIT_BARGING(limit)   barging   2 to 65,535     320
+ *     QOLB_COND_INIT                  strict                      8
  *
  * Zeros are a strict lock or a condition, so calloc makes them.
  *
@@ -80,7 +134,7 @@
  *     }
  *
  *     int take(uint64_t nanoseconds) { // 0 if one wait took so long
- *         uint32_t got = qolb_lock_enter(&queue.lock);
+ *         enum qolb_result got = qolb_lock_enter(&queue.lock);
  *         if (got != QOLB_GRANTED) abort();
  *         while (!queue.jobs && got == QOLB_GRANTED)
  *             got = qolb_cond_wait_within(&queue.some, &queue.lock,
@@ -92,30 +146,33 @@
  *         return is_some;
  *     }
  *
- * ORDER AND BURSTS
+ * ORDER AND BARGING
  *
- * A thread that enters a strict lock draws a ticket, by one step, and has its turn in the order of tickets. No call
- * that begins afterwards is served before it while it waits.
+ * A thread that enters a strict lock draws a ticket with one atomic step, and the lock serves tickets in order. No call
+ * that begins after that step is served before the thread while it waits.
  *
- * A lock with bursts stays free when its holder leaves, though threads wait, for whoever enters next, a newcomer:
- * that is one burst, of at most `turns` turns. A thread that finds it taken draws a ticket, and waiters keep their
- * order. Before a request with p requests before it there are at most
+ * A barging lock is free once its holder leaves, although threads wait for it. Whichever thread enters next takes it: a
+ * thread that takes it without a ticket is a barging thread. A thread that finds the lock taken spins for a few
+ * microseconds, in which it may still take the lock so, and then draws a ticket; waiters keep their order among
+ * themselves. Once a thread has drawn its ticket, with p requests before it, it is overtaken by barging threads at most
  *
- *     (p + 1) * (turns - 1)
+ *     (p + 1) * (limit - 1)
  *
- * turns of newcomers: to enter, to try, or the end of a wait at a condition. Usually fewer: the first waiter
- * watches, and after a sixteenth of `turns` or 1 ms requests the lock: then the next leave ends the burst. More than
- * 65,535 count as 65,535; with 0 or 1 a lock is strict.
+ * times, where `limit` is the lock's barging limit. Calls that enter, calls that try and waits at a condition that end
+ * all count. Usually a thread is overtaken less often: the first waiter asks for the lock once a barging thread has
+ * overtaken it and it has found the lock taken for 2 us, or 1 ms after it fell asleep, and the next leave hands it over.
+ * A limit above 65,535 counts as 65,535, and a lock with a limit of 0 or 1 is strict.
  *
- * Take strict order if each wait counts, bursts of 1,024 turns in place of a mutex: for many short turns, and if too
- * few processors are free.
+ * Use a barging lock with a limit of 1,024 for what a mutex does today. Use a strict lock where threads have to be
+ * served in the order in which they asked, or where the longest wait matters more than the time of all threads together.
  *
- * LIMITS
+ * TIMEOUTS
  *
- * A limit is a length in nanoseconds from the call on, and UINT64_MAX is none. For a limit of a whole loop pass each
- * wait what is left. A thread whose time runs out gives up its ticket, which counts until a holder passes
- * it; without memory it waits on while more than 60 are before it. While more than 12,280 requests of a lock are
- * open, a call with a limit draws none, and may be overtaken.
+ * A timeout is a length in nanoseconds that begins with the call, and UINT64_MAX means that there is none.
+ * qolb_lock_enter_until takes a time of CLOCK_MONOTONIC instead. To limit a whole loop, pass each wait what is left. A
+ * thread whose timeout expires gives up its ticket, which counts as an open request until a holder passes it. Without
+ * memory the thread waits on while more than 60 requests are before it. While more than 12,280 requests of a lock are
+ * open, a call with a timeout draws no ticket, and may be overtaken.
  *
  * FORK
  *
@@ -124,18 +181,31 @@
  *
  * WAITING
  *
- * A waiter polls: each 90 ns if it is next, else more seldom; for at most 50 us, with more than four threads before it
- * for 2 us. Then it sleeps by a futex until its turn. At a condition it sleeps at once, and so does a process that
- * could use one processor only at its first wait. After polls without success a thread polls for less the next time.
- * A thread that is woken before its turn yields once.
+ * A thread with a ticket polls every 90 ns if it is next, and 250 ns later for each further thread before it. How long
+ * it polls follows from the number of those threads, and from how many processors the process may use:
  *
- * Leaving wakes the next holder, in a burst the first waiter. If the leaver had slept, it may wake the waiter behind
- * that one. It calls the system only if it may have to wake a sleeper.
+ * - If there are fewer threads than processors, it polls for 50 us, or for 1 us for each thread if that is more.
+ * - If there are fewer than twice the processors, it polls for 50 us, and in a strict lock it yields before each poll.
+ * - If there are more, it polls for 2 us.
+ *
+ * Then it sleeps by a futex until its turn. After polls without success a thread polls for less the next time. At a
+ * condition it sleeps at once, and so does a process that could use one processor only at its first wait. A thread
+ * that is woken before its turn yields once.
+ *
+ * A thread that finds a barging lock taken looks at it again after 200 ns and then after pauses that double, up to
+ * 4 us: six times in 10 us. It yields before all but the first of these looks. A call whose time is over does not
+ * spin, and qolb_lock_try never does.
+ *
+ * Where other programs want the processors, a yield can take as long as a time slice. When several yields have taken a
+ * millisecond, the process does not yield for a quarter of a second.
+ *
+ * Leaving wakes the next holder of a strict lock, or the first waiter of a barging one. If the leaver had slept, it may
+ * wake the waiter behind that one. It calls the system only if it may have to wake a sleeper.
  *
  * A strict lock is the next thread's, even before that runs: all behind wait for its turn. So if more threads, of any
- * program, want processors than there are, short turns may take many times as long.
+ * program, want processors than there are, short critical sections may take many times as long as in a barging lock.
  *
- * No wait is a cancellation point. A thread that is cancelled while it waits is granted the lock or is late, and ends
+ * No wait is a cancellation point. A thread that is cancelled while it waits is granted the lock or times out, and ends
  * at its next cancellation point. A thread that may be cancelled at any instruction (PTHREAD_CANCEL_ASYNCHRONOUS) must
  * make no call.
  *
@@ -143,8 +213,9 @@
  *
  * From pthread_mutex_t and pthread_cond_t:
  *
- * - Success is QOLB_GRANTED, which is 1; limits are lengths, not points in time. Answers of enter, open and waits must
- *   be used (warn_unused_result).
+ * - Calls return a qolb_result, of which qolb_ok tells whether the call succeeded: QOLB_GRANTED is 1, and not 0.
+ *   Timeouts are lengths, but for qolb_lock_enter_until. Results of enter, open and waits must be used
+ *   (warn_unused_result).
  * - There is no priority inheritance.
  * - A thread that enters a lock which it holds is told MISUSE; none is recursive, robust or shared by processes.
  * - A lock can be shut. A wait at a condition does not end without a cause.
@@ -152,7 +223,6 @@
  * From std::mutex and std::condition_variable, in qolb.hpp:
  *
  * - qolb::lock, a timed mutex, throws qolb::Closed after a shut, and qolb::Deadlock if the thread holds it.
- * - wait_for without a predicate returns whether there was a signal, wait_for_status a cv_status.
  *
  * From std::sync::Mutex and Condvar, in the crate:
  *
@@ -164,8 +234,8 @@
  * - Start a lock and a condition by an initialiser or zeros. Do not move or copy them once they are used.
  * - The thread that entered a lock leaves it before it ends. If a thread ends while it holds a lock, the lock stays
  *   held, as a mutex does, and all others wait.
- * - Close a lock only if no thread is about to call it. Its memory may go when it is closed, or when nobody holds it,
- *   waits for it or is about to call it: also while a thread that left it is still in that call. That of a condition
+ * - Destroy a lock only if no thread is about to call it. Its memory may be freed once it is destroyed, or once nobody
+ *   holds it, waits for it or is about to call it, even if a thread that left it is still in that call. That of a condition
  *   may go when no thread is in a call on it.
  * - Call nothing from a signal handler, nor in the forked child of a process with threads.
  * - Use one copy of the library for a lock: not the static one in the program and another one in what it opens at run
@@ -192,14 +262,14 @@
  *                       2) != QOLB_DONE) return 1;
  *
  *         // a thread takes its node by qolb_move(&node[0])
- *         uint32_t got = qolb_acquire_within(&node[0], 1000000); // 1 ms
+ *         enum qolb_result got = qolb_acquire_within(&node[0], 1000000);
  *         if (got == QOLB_GRANTED) {
  *             uint64_t was;
  *             qolb_add_lane(&node[0], 0, 1, &was);
  *             qolb_deqolb(&node[0]);
  *         }
- *         qolb_close(&node[0]);
- *         qolb_close(&node[1]);
+ *         qolb_node_free(&node[0]);
+ *         qolb_node_free(&node[1]);
  *         return 0;
  *     }
  *
@@ -222,12 +292,12 @@
  * - QOLB_RING: a node takes a ticket and waits on a cell of its own.
  *
  * Bytes of heap that an open line keeps, as the library asks malloc for them (qolb_memory). malloc takes some 16 more
- * for each of its blocks, which are the number of nodes and 3:
+ * for each of its blocks, which are the number of nodes and 4:
  *
  *     nodes                 1         2         8        64       200
- *     ring             33,792    34,176    36,480    57,984   110,208
- *     link              1,280     1,792     4,864    33,536   103,168
- *     ticket            1,408     2,304     7,680    57,856   142,848
+ *     ring             33,744    34,168    36,712    60,456   118,568
+ *     link              1,232     1,784     5,096    36,008   111,528
+ *     ticket            1,360     2,296     7,912    60,328   151,208
  *
  * WHAT YOU MUST KEEP
  *
@@ -249,9 +319,9 @@
  *
  * WAITING
  *
- * Two of these calls wait for a turn: qolb_acquire and qolb_acquire_within. They poll each 60 ns, for at most
- * 50 us on a line of five nodes or fewer and 20 us on others, then sleep by a futex until the line is released, and
- * poll anew. What qolb_lock(3) says of waiting holds here, too.
+ * Two of these calls wait for a turn: qolb_acquire and qolb_acquire_within. They poll every 60 ns: for 50 us on a line
+ * of no more nodes than the process may use processors, and for 20 us on others. Then they sleep by a futex until the
+ * line is released, and poll anew. They yield only after a sleep. What qolb_lock(3) says of waiting holds here, too.
  *
  * A call that releases the line (qolb_deqolb, qolb_shut, and any that answers CLOSED) wakes the next holder, and the
  * waiter behind it ahead of its turn.
@@ -264,7 +334,7 @@
  * node of a link line may also be busy after its own release, until its successor has linked. So ask again later; if a
  * node before the withdrawn request never releases, for ever.
  *
- * A thread with a busy node is in no queue, and may be overtaken. Of a pool, take a node for which qolb_clear answers
+ * A thread with a busy node is in no queue, and may be overtaken. Of a pool, take a node for which qolb_settle_node answers
  * DONE.
  *
  * THREADS THAT END
@@ -274,10 +344,10 @@
  *
  * SPEED
  *
- * Handles of different threads may be side by side: only qolb_open, qolb_close and qolb_move write to them. What a
+ * Handles of different threads may be side by side: only qolb_open, qolb_node_free and qolb_move write to them. What a
  * thread writes beside another's handle slows its calls: keep that QOLB_NODE_ALIGN bytes apart.
  *
- * Only qolb_open and qolb_close use the heap.
+ * Only qolb_open and qolb_node_free use the heap.
  *
  * ==== qolb_task(3): event loops, which are notified and never wait ====
  *
@@ -285,14 +355,14 @@
  * asks for it, and a call tells when the task has it. No thread owns the turn: any may go on with the task, one call
  * at a time, and leave for it.
  *
- *     uint32_t got = qolb_task_enter(&task, &lock, make_ready, &task);
+ *     enum qolb_result got = qolb_task_enter(&task, &lock, ready, &task);
  *     if (got == QOLB_GRANTED) work(), qolb_task_leave(&task);
- *     // WAITING: after the call of make_ready, qolb_task_poll
+ *     // WAITING: after the call of ready, qolb_task_poll
  *
  * A node waits without a thread by qolb_enqolb and a notification. Here an eventfd tells it, which epoll, poll or
  * io_uring watches:
  *
- *     uint32_t got = qolb_enqolb(&node);
+ *     enum qolb_result got = qolb_enqolb(&node);
  *     if (got == QOLB_QUEUED) got = qolb_notify_fd(&node, fd);
  *     if (got == QOLB_GRANTED) turn(&node); // and qolb_deqolb
  *     // WAITING: once fd is readable, read it, call qolb_notify_fd again
@@ -310,7 +380,7 @@
  *   another thread, throw, jump out or end the thread, which is not cancelled in it.
  * - The call may use any node that its thread may use, by calls that do not wait. A release in it makes its own calls
  *   after this one has returned, or when a node is told BUSY in it, or, if 32 are already put off, at once.
- * - qolb_notify, qolb_notify_fd, qolb_notify_off, qolb_close, qolb_task_poll and qolb_task_cancel wait for a call of
+ * - qolb_notify, qolb_notify_fd, qolb_notify_off, qolb_node_free, qolb_task_poll and qolb_task_cancel wait for a call of
  *   the same node or task in another thread, until it has returned or said qolb_notify_done. A call says that before
  *   it takes a lock under which one of these six is made, before it resumes a coroutine, and before it makes one.
  * - A call may come before the call that asked for it has returned, and may use the node or task even then.
@@ -327,13 +397,13 @@
  *
  * TASKS
  *
- * - Every call by which a thread or a task enters, leaves, gives up or closes a lock may make calls of tasks. A task
- *   that is the first of those that wait ends a burst with the turn of who is in.
+ * - Every call by which a thread or a task enters, leaves, gives up or destroys a lock may make calls of tasks. A task
+ *   that is the first of those that wait lets no barging thread follow the holder.
  * - No call of a task waits for a turn. One that would have to wait is told NO_MEMORY without memory, or while more
  *   than 12,280 requests of the lock are open. One that was given up is open until the turn before it ends: so beside
  *   one holder of a strict lock 12,280 enters and cancels are the most.
  * - A lock that a task holds is not held by its thread: qolb_lock_enter there waits, for ever if that thread would
- *   have to leave for the task; qolb_lock_enter_within is LATE, qolb_lock_try BUSY; leave, shut and waits at a
+ *   have to leave for the task; qolb_lock_enter_within times out, qolb_lock_try is BUSY; leave, shut and waits at a
  *   condition are MISUSE. In an event loop let only tasks enter.
  * - qolb_cond_wait is for threads alone. A task may signal.
  *
@@ -353,7 +423,7 @@
 #endif
 
 /* The version of this header. QOLB_VERSION is one number, 10000 for each major version, 100 for each minor one. */
-#define QOLB_VERSION_MAJOR 2
+#define QOLB_VERSION_MAJOR 3
 #define QOLB_VERSION_MINOR 0
 #define QOLB_VERSION_PATCH 0
 #define QOLB_VERSION (QOLB_VERSION_MAJOR * 10000 + QOLB_VERSION_MINOR * 100 + QOLB_VERSION_PATCH)
@@ -364,7 +434,7 @@
 /* No lease: the number of turns never closes the line. */
 #define QOLB_NO_LEASE UINT64_MAX
 
-/* Who ignores this answer does not know who holds the lock or line. */
+/* A caller that ignores this result cannot know who holds the lock or line. */
 #if defined(__GNUC__)
 #define QOLB_LOOK __attribute__((warn_unused_result))
 #else
@@ -403,16 +473,17 @@ enum qolb_kind { QOLB_RING = 0, QOLB_LINK = 1, QOLB_TICKET = 2, QOLB_DEFAULT = Q
 /* The number of kinds. Each number below it is a kind. */
 #define QOLB_KINDS 3
 
-/* The answer of a call. */
-enum qolb_answer {
-    QOLB_DONE = 0,
+/* The result of a call (RETURN VALUE). */
+enum qolb_result {
+    QOLB_DONE = 0,       /* the call did what it says */
     QOLB_GRANTED = 1,    /* the caller holds the lock, or its node the line */
-    QOLB_QUEUED = 2,     /* the node's request waits: poll again, by qolb_poll or qolb_wait */
+    QOLB_QUEUED = 2,     /* the node's request waits: poll again, by qolb_poll or qolb_spin */
     QOLB_WAITING = 3,    /* the request of the node or task still waits */
     QOLB_LINKING = 4,    /* the node's request is behind another: link it */
     QOLB_WITHDRAWN = 5,  /* the request is withdrawn */
     QOLB_CLOSED = 6,     /* the lock is shut or the line closed, and the request has ended */
-    QOLB_BUSY = 7,       /* of a try: it had to wait. Of a node: its last request is not cleared, ask again later */
+    QOLB_BUSY = 7,       /* of a try: it had to wait. Of qolb_lock_destroy: the lock is in use. Of a node: its last
+                            request is not cleared, ask again later */
     QOLB_MISUSE = 8,     /* the lock, handle or task does not allow the call; nothing changed */
     QOLB_NO_MEMORY = 9,  /* of qolb_open, as the next five, and of a task that enters; nothing changed */
     QOLB_BAD_NODES = 10, /* not 1 to 200 nodes */
@@ -420,7 +491,7 @@ enum qolb_answer {
     QOLB_BAD_KIND = 12,  /* no such kind */
     QOLB_TOO_FEW = 13,   /* fewer handles than nodes */
     QOLB_OCCUPIED = 14,  /* a handle to be filled has a node; the lock is open */
-    QOLB_LATE = 15       /* the time is over, and the request withdrawn; at a condition the lock is held again */
+    QOLB_TIMEDOUT = 15   /* the timeout expired, and the request is withdrawn; at a condition the lock is held again */
 };
 
 /* The state of a node. In the states IDLE, LEFT, ROLLED and SHUT it may make a request. */
@@ -438,84 +509,84 @@ enum qolb_node_state {
 /* Opens a line of `nodes` nodes with the bytes `opening`, and puts node k into out[k - 1], which must be empty; `out`
  * has `handles` handles. The line closes at the end of its lease-th turn.
  * DONE; else the first that applies of BAD_KIND, BAD_NODES, BAD_LEASE, TOO_FEW, OCCUPIED and NO_MEMORY. */
-uint32_t qolb_open(uint32_t kind, uint64_t label, uint64_t nodes, uint64_t lease, const qolb_bytes *opening,
-                   qolb_node *out, size_t handles) QOLB_LOOK;
+enum qolb_result qolb_open(uint32_t kind, uint64_t label, uint64_t nodes, uint64_t lease, const qolb_bytes *opening,
+                           qolb_node *out, size_t handles) QOLB_LOOK;
 
 /* Returns the bytes of heap that an open line of this kind and number of nodes keeps (KINDS). 0 if opening answers
  * BAD_KIND or BAD_NODES. */
 uint64_t qolb_memory(uint32_t kind, uint64_t nodes);
 
 /* Requests the line, and does not wait. If the node may ask: GRANTED, QUEUED, CLOSED, BUSY. Else MISUSE. */
-uint32_t qolb_enqolb(qolb_node *node) QOLB_LOOK;
+enum qolb_result qolb_enqolb(qolb_node *node) QOLB_LOOK;
 
 /* Polls whether the request is at its turn. In the state QUEUED: GRANTED, WAITING, CLOSED. Else MISUSE. */
-uint32_t qolb_poll(qolb_node *node) QOLB_LOOK;
+enum qolb_result qolb_poll(qolb_node *node) QOLB_LOOK;
 
 /* Polls at most `polls` times, with a pause between two. In the state QUEUED, with polls above 0: GRANTED, WAITING,
  * CLOSED. Else MISUSE. It spins: with more threads than processors, wait for few polls, and yield between two waits. */
-uint32_t qolb_wait(qolb_node *node, uint64_t polls) QOLB_LOOK;
+enum qolb_result qolb_spin(qolb_node *node, uint64_t polls) QOLB_LOOK;
 
 /* Requests the line, and waits as long as it takes, also while the node is busy. If the node may ask: GRANTED, CLOSED.
  * Else MISUSE. */
-uint32_t qolb_acquire(qolb_node *node) QOLB_LOOK;
+enum qolb_result qolb_acquire(qolb_node *node) QOLB_LOOK;
 
-/* Requests the line, and waits at most this many nanoseconds, also while the node is busy; UINT64_MAX is as long as it
- * takes. If the node may ask: GRANTED, CLOSED, LATE. Else MISUSE. It polls at least once. After LATE the node may ask
- * again, but may be busy at first. */
-uint32_t qolb_acquire_within(qolb_node *node, uint64_t nanoseconds) QOLB_LOOK;
+/* Requests the line, and waits for at most `nanoseconds`, also while the node is busy; UINT64_MAX means no timeout. If
+ * the node may ask: GRANTED, CLOSED, TIMEDOUT. Else MISUSE. It polls at least once. After TIMEDOUT the node
+ * may ask again, but may be busy at first. */
+enum qolb_result qolb_acquire_within(qolb_node *node, uint64_t nanoseconds) QOLB_LOOK;
 
 /* Polls whether the node is busy, and makes no request. If the node may ask: DONE, and it is not busy until it asks; or
  * BUSY, until a call of another node clears it. Else MISUSE. DONE leaves a link line's node that was LEFT or ROLLED in
  * the state IDLE, and every other node in its state. */
-uint32_t qolb_clear(qolb_node *node);
+enum qolb_result qolb_settle_node(qolb_node *node);
 
 /* Withdraws the request, unless it is at its turn. In the state QUEUED: WITHDRAWN, GRANTED, CLOSED. Else MISUSE. */
-uint32_t qolb_withdraw(qolb_node *node) QOLB_LOOK;
+enum qolb_result qolb_withdraw(qolb_node *node) QOLB_LOOK;
 
 /* The two halves of qolb_enqolb, only of a link line: prepend takes the place in the queue, and link tells the
  * predecessor its successor. Until then the line stays with the predecessor. On a line of another kind MISUSE.
  * prepend, if the node may ask: GRANTED, LINKING, CLOSED, BUSY. link, in the state LINKING: GRANTED, QUEUED, CLOSED. */
-uint32_t qolb_prepend(qolb_node *node) QOLB_LOOK;
-uint32_t qolb_link(qolb_node *node) QOLB_LOOK;
+enum qolb_result qolb_prepend(qolb_node *node) QOLB_LOOK;
+enum qolb_result qolb_link(qolb_node *node) QOLB_LOOK;
 
 /* Reads the line. In the state HOLDING: DONE. Else MISUSE, and `out` is unchanged. */
-uint32_t qolb_read(qolb_node *node, qolb_bytes *out);
+enum qolb_result qolb_read(qolb_node *node, qolb_bytes *out);
 
 /* Writes byte k of `bytes` if bit k of the mask is set. In the state HOLDING: DONE. Else MISUSE. */
-uint32_t qolb_write(qolb_node *node, uint64_t mask, const qolb_bytes *bytes);
+enum qolb_result qolb_write(qolb_node *node, uint64_t mask, const qolb_bytes *bytes);
 
 /* Read and write one lane, 0 to 7. In the state HOLDING, with lane below 8: DONE. Else MISUSE, and `out` is
  * unchanged. */
-uint32_t qolb_read_lane(qolb_node *node, uint64_t lane, uint64_t *out);
-uint32_t qolb_write_lane(qolb_node *node, uint64_t lane, uint64_t value);
+enum qolb_result qolb_read_lane(qolb_node *node, uint64_t lane, uint64_t *out);
+enum qolb_result qolb_write_lane(qolb_node *node, uint64_t lane, uint64_t value);
 
 /* Adds `by` to one lane modulo 2^64, and writes to `was` what the lane had before. In the state HOLDING, with lane
  * below 8: DONE. Else MISUSE, and `was` is unchanged. */
-uint32_t qolb_add_lane(qolb_node *node, uint64_t lane, uint64_t by, uint64_t *was);
+enum qolb_result qolb_add_lane(qolb_node *node, uint64_t lane, uint64_t by, uint64_t *was);
 
 /* Returns the number of turns left, with the holder's own: QOLB_NO_LEASE without a lease. 0 if the node does not hold
  * the line. */
 uint64_t qolb_turns_left(qolb_node *node);
 
 /* Releases the line; the last turn of a lease closes it. In the state HOLDING: DONE. Else MISUSE. */
-uint32_t qolb_deqolb(qolb_node *node);
+enum qolb_result qolb_deqolb(qolb_node *node);
 
 /* Releases the line and closes it: no later request is served. In the state HOLDING: DONE. Else MISUSE. */
-uint32_t qolb_shut(qolb_node *node);
+enum qolb_result qolb_shut(qolb_node *node);
 
 /* Has `call(arg)` called once, when the request is at its turn or the line is closed (NOTIFICATIONS). In the state
  * QUEUED: WAITING, and the call will be made, if the node does not poll before; GRANTED or CLOSED, as of qolb_poll, and
  * it will not. Else MISUSE, also if `call` is null. A second wish of a node replaces the first. */
-uint32_t qolb_notify(qolb_node *node, void (*call)(void *arg), void *arg) QOLB_LOOK;
+enum qolb_result qolb_notify(qolb_node *node, void (*call)(void *arg), void *arg) QOLB_LOOK;
 
 /* Has 1 added once to the eventfd `fd`, when qolb_notify would make its call, with the same answers; MISUSE if `fd` is
  * negative. */
-uint32_t qolb_notify_fd(qolb_node *node, int fd) QOLB_LOOK;
+enum qolb_result qolb_notify_fd(qolb_node *node, int fd) QOLB_LOOK;
 
 /* Takes the node's wish for a call back; the request stays. WITHDRAWN: the call will not be made. DONE: none was
  * wanted, or it was made, and has returned or said qolb_notify_done, unless the calling thread is in it. MISUSE for an
  * empty handle. */
-uint32_t qolb_notify_off(qolb_node *node);
+enum qolb_result qolb_notify_off(qolb_node *node);
 
 /* Says, in a notification's call, that it does not touch its `arg` any more: nobody has to wait for it. Elsewhere it
  * does nothing. */
@@ -523,7 +594,7 @@ void qolb_notify_done(void);
 
 /* Frees the node and empties the handle. In the states IDLE, LEFT, ROLLED, SHUT: DONE; it makes qolb_notify_off first.
  * Else MISUSE. The last node frees the line. */
-uint32_t qolb_close(qolb_node *node);
+enum qolb_result qolb_node_free(qolb_node *node);
 
 /* The node's number, from 1; 0 for an empty handle. */
 uint64_t qolb_number(qolb_node *node);
@@ -536,13 +607,13 @@ uint32_t qolb_state(qolb_node *node);
 
 /* clang-format off */
 
-/* A lock, unopened: strict, or with bursts of at most `turns` turns. Only these calls read or change its contents. */
+/* A lock, unopened: strict, or barging with this limit. Only these calls read or change its contents. */
 typedef struct __attribute__((aligned(16))) qolb_lock {
     void *own;
-    uint64_t turns, more[38];
+    uint64_t limit, more[38];
 } qolb_lock;
 #define QOLB_LOCK_INIT {QOLB_NULL_, 0, {0}}
-#define QOLB_LOCK_INIT_BURSTS(turns) {QOLB_NULL_, QOLB_AS_(uint64_t, turns), {0}}
+#define QOLB_LOCK_INIT_BARGING(limit) {QOLB_NULL_, QOLB_AS_(uint64_t, limit), {0}}
 
 /* A condition, at which holders of a lock wait until another thread signals. It may serve several locks, and needs no
  * freeing. */
@@ -553,48 +624,56 @@ typedef struct qolb_cond {
 
 /* clang-format on */
 
-/* Opens an unopened lock, with bursts of a number of turns that is known at run time (ORDER AND BURSTS). DONE;
- * OCCUPIED: it is open. */
-uint32_t qolb_lock_open(qolb_lock *lock, uint64_t turns) QOLB_LOOK;
+/* Opens an unopened lock with a barging limit that is known at run time (ORDER AND BARGING). DONE. OCCUPIED: the lock
+ * is open already. */
+enum qolb_result qolb_lock_open(qolb_lock *lock, uint64_t limit) QOLB_LOOK;
 
-/* Enters the lock, and waits as long as it takes: GRANTED, CLOSED; MISUSE if the calling thread holds it. */
-uint32_t qolb_lock_enter(qolb_lock *lock) QOLB_LOOK;
+/* Enters the lock, and waits until the calling thread holds it. GRANTED. CLOSED: the lock is shut. MISUSE: the thread
+ * holds the lock already. */
+enum qolb_result qolb_lock_enter(qolb_lock *lock) QOLB_LOOK;
 
-/* Enters the lock if it need not wait: GRANTED, BUSY (also if the calling thread holds it), CLOSED. */
-uint32_t qolb_lock_try(qolb_lock *lock) QOLB_LOOK;
+/* Enters the lock if that needs no waiting. GRANTED. BUSY: another holds it, or the calling thread itself. CLOSED. */
+enum qolb_result qolb_lock_try(qolb_lock *lock) QOLB_LOOK;
 
-/* Enters the lock, and waits at most this many nanoseconds: GRANTED, LATE, CLOSED; MISUSE at once if the calling thread
- * holds it. */
-uint32_t qolb_lock_enter_within(qolb_lock *lock, uint64_t nanoseconds) QOLB_LOOK;
+/* Enters the lock, and waits for at most `nanoseconds`, or until `time`, which is in nanoseconds of CLOCK_MONOTONIC;
+ * UINT64_MAX means no timeout. GRANTED. TIMEDOUT: the thread does not hold the lock. CLOSED. MISUSE, at once, if the
+ * calling thread holds the lock. */
+enum qolb_result qolb_lock_enter_within(qolb_lock *lock, uint64_t nanoseconds) QOLB_LOOK;
+enum qolb_result qolb_lock_enter_until(qolb_lock *lock, uint64_t time) QOLB_LOOK;
 
-/* Leaves the lock: a strict one goes to the first waiter. DONE; MISUSE if the calling thread does not hold it. */
-uint32_t qolb_lock_leave(qolb_lock *lock);
+/* Leaves the lock. A strict lock goes to the first waiter. DONE. MISUSE: the calling thread does not hold it. */
+enum qolb_result qolb_lock_leave(qolb_lock *lock);
 
-/* Leaves the lock and shuts it: all that wait, also at a condition, and all later ones are answered CLOSED, one by
- * one, each after the one before has polled. DONE; MISUSE if the calling thread does not hold it. */
-uint32_t qolb_lock_shut(qolb_lock *lock);
+/* Leaves the lock and shuts it: all that wait, also at a condition, and all later callers are told that it is shut, one
+ * by one, each once the one before has polled. DONE. MISUSE: the calling thread does not hold the lock. */
+enum qolb_result qolb_lock_shut(qolb_lock *lock);
 
-/* Closes the lock: it is unopened again, and its memory may go. Its next use opens it with the bursts that it had. Who
- * was granted it last, and left it, may close it while another thread is still leaving it. DONE, also if it was
- * unopened; MISUSE, and nothing changed, if a thread or a task holds it or waits, also at a condition of it. */
-uint32_t qolb_lock_close(qolb_lock *lock);
+/* Destroys the lock: it is unopened again, as QOLB_LOCK_INIT is, and its memory may be freed. Its next use opens it
+ * with the barging limit that it had, and it is not shut. The thread that was granted the lock last, and left it, may
+ * destroy it while another thread is still in its call to leave. DONE, also if the lock was unopened. BUSY, and nothing
+ * changed, while a thread or a task holds the lock or waits for it, also at a condition. */
+enum qolb_result qolb_lock_destroy(qolb_lock *lock);
 
 /* 1 if the calling thread holds the lock, else 0. */
 int qolb_lock_is_mine(const qolb_lock *lock);
 
-/* Leaves the lock, waits at the condition until a signal or a broadcast, and enters the lock again; no signal after the
- * leave is missed. Check what you wait for in a loop, as another thread may have been first. GRANTED, and it holds the
- * lock; CLOSED, and it does not. MISUSE if the calling thread does not hold it. */
-uint32_t qolb_cond_wait(qolb_cond *cond, qolb_lock *lock) QOLB_LOOK;
+/* 1 if a thread or a task holds the lock, or is about to, else 0. It reads the lock and does not try it, so another call
+ * may have changed that when it returns. */
+int qolb_lock_is_held(const qolb_lock *lock);
 
-/* Waits as qolb_cond_wait, but for a signal at most this many nanoseconds; then it enters the lock again, as long as
- * that takes. GRANTED or LATE, and it holds the lock; CLOSED, and it does not; MISUSE. */
-uint32_t qolb_cond_wait_within(qolb_cond *cond, qolb_lock *lock, uint64_t nanoseconds) QOLB_LOOK;
+/* Leaves the lock, waits at the condition until it is signalled, and enters the lock again; no signal after the leave is
+ * missed. Check what you wait for in a loop, because another thread may have been first. GRANTED, and the thread holds
+ * the lock. CLOSED, and it does not. MISUSE: the calling thread does not hold the lock. */
+enum qolb_result qolb_cond_wait(qolb_cond *cond, qolb_lock *lock) QOLB_LOOK;
 
-/* A signal wakes the thread that has waited longest at the condition, a broadcast all. The caller may hold the lock or
+/* Waits as qolb_cond_wait does, but for at most `nanoseconds`; then it enters the lock again, however long that takes.
+ * GRANTED, or TIMEDOUT if no signal came, and the thread holds the lock. CLOSED, and it does not. MISUSE. */
+enum qolb_result qolb_cond_wait_within(qolb_cond *cond, qolb_lock *lock, uint64_t nanoseconds) QOLB_LOOK;
+
+/* Wake the thread that has waited longest at the condition (signal), or all (broadcast). The caller may hold the lock or
  * not. DONE, also without waiters. */
-uint32_t qolb_cond_signal(qolb_cond *cond);
-uint32_t qolb_cond_broadcast(qolb_cond *cond);
+enum qolb_result qolb_cond_signal(qolb_cond *cond);
+enum qolb_result qolb_cond_broadcast(qolb_cond *cond);
 
 /* clang-format off */
 
@@ -610,25 +689,25 @@ typedef struct qolb_task {
 /* Asks for the lock for a task, and does not wait for a turn. GRANTED: the task holds it. WAITING: `call(arg)` will be
  * called once, when the task has it or is told that the lock is shut; then qolb_task_poll tells which. CLOSED. MISUSE:
  * the task waits or holds, or `call` is null. NO_MEMORY. */
-uint32_t qolb_task_enter(qolb_task *task, qolb_lock *lock, void (*call)(void *arg), void *arg) QOLB_LOOK;
+enum qolb_result qolb_task_enter(qolb_task *task, qolb_lock *lock, void (*call)(void *arg), void *arg) QOLB_LOOK;
 
 /* Asks as qolb_task_enter, and has 1 added to the eventfd `fd` in place of a call; MISUSE if `fd` is negative. */
-uint32_t qolb_task_enter_fd(qolb_task *task, qolb_lock *lock, int fd) QOLB_LOOK;
+enum qolb_result qolb_task_enter_fd(qolb_task *task, qolb_lock *lock, int fd) QOLB_LOOK;
 
 /* Polls for a task that waits: GRANTED, and it holds the lock; CLOSED; WAITING, and the call will be made; again, if it
  * was too early. MISUSE if it does not wait. */
-uint32_t qolb_task_poll(qolb_task *task) QOLB_LOOK;
+enum qolb_result qolb_task_poll(qolb_task *task) QOLB_LOOK;
 
 /* Gives up, for a task that waits: no call is made afterwards. WITHDRAWN, also if it was at its turn: it leaves then.
  * CLOSED if the lock was shut. DONE if it does not wait; MISUSE, and nothing changed, if it was told that it holds the
  * lock. */
-uint32_t qolb_task_cancel(qolb_task *task);
+enum qolb_result qolb_task_cancel(qolb_task *task);
 
 /* Leaves for a task, in any thread. DONE; MISUSE if the task does not hold the lock, or does not know it. */
-uint32_t qolb_task_leave(qolb_task *task);
+enum qolb_result qolb_task_leave(qolb_task *task);
 
 /* Leaves for a task, and shuts the lock, as qolb_lock_shut does. DONE; MISUSE as of qolb_task_leave. */
-uint32_t qolb_task_shut(qolb_task *task);
+enum qolb_result qolb_task_shut(qolb_task *task);
 
 /* 1 if the task holds a lock, and knows it, else 0. */
 int qolb_task_holds(const qolb_task *task);
@@ -670,7 +749,7 @@ void __tsan_release(void *address);
 /* An address for each label, the library's: the same in all that use it. */
 extern char qolb_lines_[1021];
 
-static inline uint32_t qolb_took_(qolb_node *node, uint32_t got) {
+static inline enum qolb_result qolb_took_(qolb_node *node, enum qolb_result got) {
     if (got == QOLB_GRANTED || got == QOLB_CLOSED) QOLB_TOOK_(&qolb_lines_[qolb_label(node) % sizeof qolb_lines_]);
     return got;
 }
@@ -679,30 +758,32 @@ static inline void qolb_gives_(qolb_node *node) {
     if (qolb_state(node) == QOLB_STATE_HOLDING) QOLB_GIVES_(&qolb_lines_[qolb_label(node) % sizeof qolb_lines_]);
 }
 
-QOLB_LOOK static inline uint32_t qolb_enqolb_(qolb_node *node) { return qolb_took_(node, qolb_enqolb(node)); }
-QOLB_LOOK static inline uint32_t qolb_poll_(qolb_node *node) { return qolb_took_(node, qolb_poll(node)); }
-QOLB_LOOK static inline uint32_t qolb_wait_(qolb_node *node, uint64_t polls) {
-    return qolb_took_(node, qolb_wait(node, polls));
+QOLB_LOOK static inline enum qolb_result qolb_enqolb_(qolb_node *node) { return qolb_took_(node, qolb_enqolb(node)); }
+QOLB_LOOK static inline enum qolb_result qolb_poll_(qolb_node *node) { return qolb_took_(node, qolb_poll(node)); }
+QOLB_LOOK static inline enum qolb_result qolb_spin_(qolb_node *node, uint64_t polls) {
+    return qolb_took_(node, qolb_spin(node, polls));
 }
-QOLB_LOOK static inline uint32_t qolb_acquire_(qolb_node *node) { return qolb_took_(node, qolb_acquire(node)); }
-QOLB_LOOK static inline uint32_t qolb_acquire_within_(qolb_node *node, uint64_t nanoseconds) {
+QOLB_LOOK static inline enum qolb_result qolb_acquire_(qolb_node *node) { return qolb_took_(node, qolb_acquire(node)); }
+QOLB_LOOK static inline enum qolb_result qolb_acquire_within_(qolb_node *node, uint64_t nanoseconds) {
     return qolb_took_(node, qolb_acquire_within(node, nanoseconds));
 }
-QOLB_LOOK static inline uint32_t qolb_withdraw_(qolb_node *node) { return qolb_took_(node, qolb_withdraw(node)); }
-QOLB_LOOK static inline uint32_t qolb_prepend_(qolb_node *node) { return qolb_took_(node, qolb_prepend(node)); }
-QOLB_LOOK static inline uint32_t qolb_link_(qolb_node *node) { return qolb_took_(node, qolb_link(node)); }
-QOLB_LOOK static inline uint32_t qolb_notify_(qolb_node *node, void (*call)(void *arg), void *arg) {
+QOLB_LOOK static inline enum qolb_result qolb_withdraw_(qolb_node *node) {
+    return qolb_took_(node, qolb_withdraw(node));
+}
+QOLB_LOOK static inline enum qolb_result qolb_prepend_(qolb_node *node) { return qolb_took_(node, qolb_prepend(node)); }
+QOLB_LOOK static inline enum qolb_result qolb_link_(qolb_node *node) { return qolb_took_(node, qolb_link(node)); }
+QOLB_LOOK static inline enum qolb_result qolb_notify_(qolb_node *node, void (*call)(void *arg), void *arg) {
     return qolb_took_(node, qolb_notify(node, call, arg));
 }
-QOLB_LOOK static inline uint32_t qolb_notify_fd_(qolb_node *node, int fd) {
+QOLB_LOOK static inline enum qolb_result qolb_notify_fd_(qolb_node *node, int fd) {
     return qolb_took_(node, qolb_notify_fd(node, fd));
 }
-static inline uint32_t qolb_deqolb_(qolb_node *node) { return qolb_gives_(node), qolb_deqolb(node); }
-static inline uint32_t qolb_shut_(qolb_node *node) { return qolb_gives_(node), qolb_shut(node); }
+static inline enum qolb_result qolb_deqolb_(qolb_node *node) { return qolb_gives_(node), qolb_deqolb(node); }
+static inline enum qolb_result qolb_shut_(qolb_node *node) { return qolb_gives_(node), qolb_shut(node); }
 
 /* For a lock, its own address. */
-static inline uint32_t qolb_entered_(qolb_lock *lock, uint32_t got) {
-    if (got == QOLB_GRANTED || got == QOLB_CLOSED || got == QOLB_LATE) QOLB_TOOK_(lock);
+static inline enum qolb_result qolb_entered_(qolb_lock *lock, enum qolb_result got) {
+    if (got == QOLB_GRANTED || got == QOLB_CLOSED || got == QOLB_TIMEDOUT) QOLB_TOOK_(lock);
     return got;
 }
 
@@ -710,25 +791,32 @@ static inline void qolb_leaves_(qolb_lock *lock) {
     if (qolb_lock_is_mine(lock)) QOLB_GIVES_(lock);
 }
 
-QOLB_LOOK static inline uint32_t qolb_lock_enter_(qolb_lock *lock) {
+QOLB_LOOK static inline enum qolb_result qolb_lock_enter_(qolb_lock *lock) {
     return qolb_entered_(lock, qolb_lock_enter(lock));
 }
-QOLB_LOOK static inline uint32_t qolb_lock_try_(qolb_lock *lock) { return qolb_entered_(lock, qolb_lock_try(lock)); }
-QOLB_LOOK static inline uint32_t qolb_lock_enter_within_(qolb_lock *lock, uint64_t nanoseconds) {
-    uint32_t got = qolb_lock_enter_within(lock, nanoseconds);
-    return got == QOLB_LATE ? got : qolb_entered_(lock, got);
+QOLB_LOOK static inline enum qolb_result qolb_lock_try_(qolb_lock *lock) {
+    return qolb_entered_(lock, qolb_lock_try(lock));
 }
-static inline uint32_t qolb_lock_leave_(qolb_lock *lock) { return qolb_leaves_(lock), qolb_lock_leave(lock); }
-static inline uint32_t qolb_lock_shut_(qolb_lock *lock) { return qolb_leaves_(lock), qolb_lock_shut(lock); }
-QOLB_LOOK static inline uint32_t qolb_cond_wait_(qolb_cond *cond, qolb_lock *lock) {
+QOLB_LOOK static inline enum qolb_result qolb_lock_enter_within_(qolb_lock *lock, uint64_t nanoseconds) {
+    enum qolb_result got = qolb_lock_enter_within(lock, nanoseconds);
+    return got == QOLB_TIMEDOUT ? got : qolb_entered_(lock, got);
+}
+QOLB_LOOK static inline enum qolb_result qolb_lock_enter_until_(qolb_lock *lock, uint64_t time) {
+    enum qolb_result got = qolb_lock_enter_until(lock, time);
+    return got == QOLB_TIMEDOUT ? got : qolb_entered_(lock, got);
+}
+static inline enum qolb_result qolb_lock_leave_(qolb_lock *lock) { return qolb_leaves_(lock), qolb_lock_leave(lock); }
+static inline enum qolb_result qolb_lock_shut_(qolb_lock *lock) { return qolb_leaves_(lock), qolb_lock_shut(lock); }
+QOLB_LOOK static inline enum qolb_result qolb_cond_wait_(qolb_cond *cond, qolb_lock *lock) {
     return qolb_leaves_(lock), qolb_entered_(lock, qolb_cond_wait(cond, lock));
 }
-QOLB_LOOK static inline uint32_t qolb_cond_wait_within_(qolb_cond *cond, qolb_lock *lock, uint64_t nanoseconds) {
+QOLB_LOOK static inline enum qolb_result qolb_cond_wait_within_(qolb_cond *cond, qolb_lock *lock,
+                                                                uint64_t nanoseconds) {
     return qolb_leaves_(lock), qolb_entered_(lock, qolb_cond_wait_within(cond, lock, nanoseconds));
 }
 
 /* A task's lock is its first word. */
-static inline uint32_t qolb_tasked_(qolb_task *task, uint32_t got) {
+static inline enum qolb_result qolb_tasked_(qolb_task *task, enum qolb_result got) {
     if (got == QOLB_GRANTED || got == QOLB_CLOSED) QOLB_TOOK_(task->own[0]);
     return got;
 }
@@ -737,17 +825,23 @@ static inline void qolb_task_leaves_(qolb_task *task) {
     if (qolb_task_holds(task)) QOLB_GIVES_(task->own[0]);
 }
 
-QOLB_LOOK static inline uint32_t qolb_task_enter_(qolb_task *task, qolb_lock *lock, void (*call)(void *arg),
-                                                  void *arg) {
+QOLB_LOOK static inline enum qolb_result qolb_task_enter_(qolb_task *task, qolb_lock *lock, void (*call)(void *arg),
+                                                          void *arg) {
     return qolb_tasked_(task, qolb_task_enter(task, lock, call, arg));
 }
-QOLB_LOOK static inline uint32_t qolb_task_enter_fd_(qolb_task *task, qolb_lock *lock, int fd) {
+QOLB_LOOK static inline enum qolb_result qolb_task_enter_fd_(qolb_task *task, qolb_lock *lock, int fd) {
     return qolb_tasked_(task, qolb_task_enter_fd(task, lock, fd));
 }
-QOLB_LOOK static inline uint32_t qolb_task_poll_(qolb_task *task) { return qolb_tasked_(task, qolb_task_poll(task)); }
-static inline uint32_t qolb_task_cancel_(qolb_task *task) { return qolb_tasked_(task, qolb_task_cancel(task)); }
-static inline uint32_t qolb_task_leave_(qolb_task *task) { return qolb_task_leaves_(task), qolb_task_leave(task); }
-static inline uint32_t qolb_task_shut_(qolb_task *task) { return qolb_task_leaves_(task), qolb_task_shut(task); }
+QOLB_LOOK static inline enum qolb_result qolb_task_poll_(qolb_task *task) {
+    return qolb_tasked_(task, qolb_task_poll(task));
+}
+static inline enum qolb_result qolb_task_cancel_(qolb_task *task) { return qolb_tasked_(task, qolb_task_cancel(task)); }
+static inline enum qolb_result qolb_task_leave_(qolb_task *task) {
+    return qolb_task_leaves_(task), qolb_task_leave(task);
+}
+static inline enum qolb_result qolb_task_shut_(qolb_task *task) {
+    return qolb_task_leaves_(task), qolb_task_shut(task);
+}
 #define qolb_task_enter qolb_task_enter_
 #define qolb_task_enter_fd qolb_task_enter_fd_
 #define qolb_task_poll qolb_task_poll_
@@ -757,13 +851,14 @@ static inline uint32_t qolb_task_shut_(qolb_task *task) { return qolb_task_leave
 #define qolb_lock_enter qolb_lock_enter_
 #define qolb_lock_try qolb_lock_try_
 #define qolb_lock_enter_within qolb_lock_enter_within_
+#define qolb_lock_enter_until qolb_lock_enter_until_
 #define qolb_lock_leave qolb_lock_leave_
 #define qolb_lock_shut qolb_lock_shut_
 #define qolb_cond_wait qolb_cond_wait_
 #define qolb_cond_wait_within qolb_cond_wait_within_
 #define qolb_enqolb qolb_enqolb_
 #define qolb_poll qolb_poll_
-#define qolb_wait qolb_wait_
+#define qolb_spin qolb_spin_
 #define qolb_acquire qolb_acquire_
 #define qolb_acquire_within qolb_acquire_within_
 #define qolb_withdraw qolb_withdraw_
@@ -779,20 +874,25 @@ static inline uint32_t qolb_task_shut_(qolb_task *task) { return qolb_task_leave
 
 /* Requests the line, and withdraws the request if it is not granted at once. If the node may ask: GRANTED, BUSY,
  * CLOSED. Else MISUSE. */
-QOLB_LOOK static inline uint32_t qolb_try(qolb_node *node) {
-    uint32_t got = qolb_enqolb(node);
+QOLB_LOOK static inline enum qolb_result qolb_try(qolb_node *node) {
+    enum qolb_result got = qolb_enqolb(node);
     if (got != QOLB_QUEUED) return got;
     got = qolb_withdraw(node);
-    return got == QOLB_WITHDRAWN ? QOLB_AS_(uint32_t, QOLB_BUSY) : got;
+    return got == QOLB_WITHDRAWN ? QOLB_BUSY : got;
 }
 
-/* The name of an answer, as "QOLB_GRANTED"; "?" for any other number. */
-static inline const char *qolb_answer_name(uint32_t answer) {
+/* 1 if the call succeeded, by its result (RETURN VALUE): the request ended as the caller wished. Else 0. */
+static inline int qolb_ok(uint32_t result) {
+    return result == QOLB_DONE || result == QOLB_GRANTED || result == QOLB_WITHDRAWN;
+}
+
+/* The name of a result, as "QOLB_GRANTED"; "?" for any other number. */
+static inline const char *qolb_result_name(uint32_t result) {
     static const char *const names[] = {"QOLB_DONE",     "QOLB_GRANTED",   "QOLB_QUEUED",    "QOLB_WAITING",
                                         "QOLB_LINKING",  "QOLB_WITHDRAWN", "QOLB_CLOSED",    "QOLB_BUSY",
                                         "QOLB_MISUSE",   "QOLB_NO_MEMORY", "QOLB_BAD_NODES", "QOLB_BAD_LEASE",
-                                        "QOLB_BAD_KIND", "QOLB_TOO_FEW",   "QOLB_OCCUPIED",  "QOLB_LATE"};
-    return answer < sizeof names / sizeof names[0] ? names[answer] : "?";
+                                        "QOLB_BAD_KIND", "QOLB_TOO_FEW",   "QOLB_OCCUPIED",  "QOLB_TIMEDOUT"};
+    return result < sizeof names / sizeof names[0] ? names[result] : "?";
 }
 
 /* The name of a kind, as the program `qolb` takes it: "ring", "link", "ticket"; "?" for any other number. */

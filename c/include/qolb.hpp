@@ -1,8 +1,8 @@
-// QOLB for C++14 and later: locks, strict in the order of tickets, or with bursts. The manual pages qolb_lock(3),
+// QOLB for C++14 and later: locks, strict in the order of tickets, or barging. The manual pages qolb_lock(3),
 // qolb_node(3) and qolb_task(3) have what each call answers, and the rules for callers.
 //
 //     qolb::lock lock;                             // a timed mutex, for the standard library's guards
-//     qolb::lock often(qolb::burst{1024});         // newcomers may be first, a bounded number of times
+//     qolb::lock often(qolb::barging{1024});       // arriving threads may overtake, a bounded number of times
 //     qolb::Condition some;                        // as a std::condition_variable
 //     std::unique_lock<qolb::lock> held(lock);     // throws Closed after a shut, Deadlock if the thread holds it
 //     some.wait_for(held, std::chrono::milliseconds(1), [&] { return jobs > 0; });
@@ -53,15 +53,34 @@
 #define QOLB_THROW(what) std::abort()
 #endif
 
+// For Clang's -Wthread-safety: what a call acquires and releases. Their bodies are not analysed, as they call C.
+#if defined(__clang__)
+#define QOLB_CAPABILITY_ __attribute__((capability("lock")))
+#define QOLB_SCOPED_ __attribute__((scoped_lockable))
+#define QOLB_ACQUIRES_(...) __attribute__((acquire_capability(__VA_ARGS__), no_thread_safety_analysis))
+#define QOLB_TRIES_ __attribute__((try_acquire_capability(true), no_thread_safety_analysis))
+#define QOLB_ADOPTS_(...) __attribute__((requires_capability(__VA_ARGS__), no_thread_safety_analysis))
+#define QOLB_RELEASES_ __attribute__((release_capability(), no_thread_safety_analysis))
+#define QOLB_UNCHECKED_ __attribute__((no_thread_safety_analysis))
+#else
+#define QOLB_CAPABILITY_
+#define QOLB_SCOPED_
+#define QOLB_ACQUIRES_(...)
+#define QOLB_TRIES_
+#define QOLB_ADOPTS_(...)
+#define QOLB_RELEASES_
+#define QOLB_UNCHECKED_
+#endif
+
 namespace qolb {
 
 // The end of a call that requests the line and waits. No number of it is true or false.
 enum class Got {
-    granted, // the node holds the line
-    closed,  // the line is closed
-    busy,    // of try_acquire: others have the line; else come again later (BUSY in qolb_node(3))
-    late,    // of acquire_for: the time is over
-    misuse   // the node is none, or waits or holds already; nothing changed
+    granted,   // the node holds the line
+    closed,    // the line is closed
+    busy,      // of try_acquire: others have the line; else come again later (BUSY in qolb_node(3))
+    timed_out, // of acquire_for: the timeout expired
+    misuse     // the node is none, or waits or holds already; nothing changed
 };
 
 // The line is closed, or the lock shut.
@@ -132,7 +151,7 @@ QOLB_NODISCARD inline std::uint64_t memory(qolb_kind kind, std::uint64_t nodes) 
 // A node of a line, or none. If it is destroyed, it withdraws its request, or releases the line that it holds.
 //
 // It is a timed lock for std::unique_lock, std::lock_guard and std::scoped_lock.
-class Node {
+class QOLB_CAPABILITY_ Node {
   public:
     Node() = default;
     Node(const Node &) = delete;
@@ -149,33 +168,29 @@ class Node {
 
     ~Node() { let_go(); }
 
-    QOLB_NODISCARD qolb_answer enqolb() { return answer(qolb_enqolb(&node_)); }
-    QOLB_NODISCARD qolb_answer clear() { return answer(qolb_clear(&node_)); }
-    QOLB_NODISCARD qolb_answer poll() { return answer(qolb_poll(&node_)); }
-    QOLB_NODISCARD qolb_answer wait(std::uint64_t polls) { return answer(qolb_wait(&node_, polls)); }
-    QOLB_NODISCARD qolb_answer withdraw() { return answer(qolb_withdraw(&node_)); }
-    QOLB_NODISCARD qolb_answer prepend() { return answer(qolb_prepend(&node_)); }
-    QOLB_NODISCARD qolb_answer link() { return answer(qolb_link(&node_)); }
+    QOLB_NODISCARD qolb_result enqolb() { return qolb_enqolb(&node_); }
+    QOLB_NODISCARD qolb_result settle() { return qolb_settle_node(&node_); }
+    QOLB_NODISCARD qolb_result poll() { return qolb_poll(&node_); }
+    QOLB_NODISCARD qolb_result spin(std::uint64_t polls) { return qolb_spin(&node_, polls); }
+    QOLB_NODISCARD qolb_result withdraw() { return qolb_withdraw(&node_); }
+    QOLB_NODISCARD qolb_result prepend() { return qolb_prepend(&node_); }
+    QOLB_NODISCARD qolb_result link() { return qolb_link(&node_); }
     // Have a call made, or 1 added to an eventfd, when the request is at its turn (qolb_task(3)).
-    QOLB_NODISCARD qolb_answer notify(void (*call)(void *arg), void *arg) {
-        return answer(qolb_notify(&node_, call, arg));
-    }
-    QOLB_NODISCARD qolb_answer notify_fd(int fd) { return answer(qolb_notify_fd(&node_, fd)); }
-    qolb_answer notify_off() { return answer(qolb_notify_off(&node_)); }
+    QOLB_NODISCARD qolb_result notify(void (*call)(void *arg), void *arg) { return qolb_notify(&node_, call, arg); }
+    QOLB_NODISCARD qolb_result notify_fd(int fd) { return qolb_notify_fd(&node_, fd); }
+    qolb_result notify_off() { return qolb_notify_off(&node_); }
     // For the calls of qolb.h.
     qolb_node *native_handle() { return &node_; }
-    qolb_answer read(qolb_bytes &out) { return answer(qolb_read(&node_, &out)); }
-    qolb_answer write(std::uint64_t mask, const qolb_bytes &bytes) { return answer(qolb_write(&node_, mask, &bytes)); }
-    qolb_answer read_lane(std::uint64_t lane, std::uint64_t &out) { return answer(qolb_read_lane(&node_, lane, &out)); }
-    qolb_answer write_lane(std::uint64_t lane, std::uint64_t value) {
-        return answer(qolb_write_lane(&node_, lane, value));
+    qolb_result read(qolb_bytes &out) { return qolb_read(&node_, &out); }
+    qolb_result write(std::uint64_t mask, const qolb_bytes &bytes) { return qolb_write(&node_, mask, &bytes); }
+    qolb_result read_lane(std::uint64_t lane, std::uint64_t &out) { return qolb_read_lane(&node_, lane, &out); }
+    qolb_result write_lane(std::uint64_t lane, std::uint64_t value) { return qolb_write_lane(&node_, lane, value); }
+    qolb_result add_lane(std::uint64_t lane, std::uint64_t by, std::uint64_t &was) {
+        return qolb_add_lane(&node_, lane, by, &was);
     }
-    qolb_answer add_lane(std::uint64_t lane, std::uint64_t by, std::uint64_t &was) {
-        return answer(qolb_add_lane(&node_, lane, by, &was));
-    }
-    qolb_answer deqolb() { return answer(qolb_deqolb(&node_)); }
-    qolb_answer shut() { return answer(qolb_shut(&node_)); }
-    qolb_answer close() { return answer(qolb_close(&node_)); }
+    qolb_result deqolb() { return qolb_deqolb(&node_); }
+    qolb_result shut() { return qolb_shut(&node_); }
+    qolb_result free() { return qolb_node_free(&node_); }
     std::uint64_t turns_left() { return qolb_turns_left(&node_); }
     std::uint64_t number() { return qolb_number(&node_); }
     std::uint64_t label() { return qolb_label(&node_); }
@@ -187,23 +202,23 @@ class Node {
     // Requests the line, and withdraws the request if it is not granted at once: granted, busy, closed, misuse.
     QOLB_NODISCARD Got try_acquire() { return got(qolb_try(&node_)); }
 
-    // Requests the line, and waits at most this long: granted, late, closed, misuse.
+    // Requests the line, and waits at most this long: granted, timed_out, closed, misuse.
     template <class Rep, class Period> QOLB_NODISCARD Got acquire_for(const std::chrono::duration<Rep, Period> &time) {
         return got(qolb_acquire_within(&node_, detail::nanoseconds(time)));
     }
 
     // As a lock of the standard library: these throw Misuse, and Closed, so that a loop around them ends.
-    void lock() { locked(acquire()); }
-    QOLB_NODISCARD bool try_lock() { return locked(try_acquire()); }
+    void lock() QOLB_ACQUIRES_() { locked(acquire()); }
+    QOLB_NODISCARD bool try_lock() QOLB_TRIES_ { return locked(try_acquire()); }
     template <class Rep, class Period>
-    QOLB_NODISCARD bool try_lock_for(const std::chrono::duration<Rep, Period> &time) {
+    QOLB_NODISCARD bool try_lock_for(const std::chrono::duration<Rep, Period> &time) QOLB_TRIES_ {
         return locked(acquire_for(time));
     }
     template <class Clock, class Duration>
-    QOLB_NODISCARD bool try_lock_until(const std::chrono::time_point<Clock, Duration> &end) {
+    QOLB_NODISCARD bool try_lock_until(const std::chrono::time_point<Clock, Duration> &end) QOLB_TRIES_ {
         return detail::try_lock_until(*this, end);
     }
-    void unlock() {
+    void unlock() QOLB_RELEASES_ {
         if (deqolb() != QOLB_DONE) QOLB_THROW(Misuse());
     }
 
@@ -212,12 +227,12 @@ class Node {
     template <class Change> QOLB_NODISCARD Got with(Change change);
 
     // Opens a line: its nodes in their order, or the cause why there is none.
-    QOLB_NODISCARD static std::pair<qolb_answer, std::vector<Node>> open(qolb_kind kind, std::uint64_t label,
+    QOLB_NODISCARD static std::pair<qolb_result, std::vector<Node>> open(qolb_kind kind, std::uint64_t label,
                                                                          std::uint64_t nodes, const qolb_bytes &opening,
                                                                          std::uint64_t lease = QOLB_NO_LEASE) {
         std::array<qolb_node, 200> raw{};
         std::vector<Node> made(nodes <= raw.size() ? nodes : 0);
-        qolb_answer told = answer(qolb_open(kind, label, nodes, lease, &opening, raw.data(), raw.size()));
+        qolb_result told = qolb_open(kind, label, nodes, lease, &opening, raw.data(), raw.size());
         if (told != QOLB_DONE) made.clear();
         for (std::size_t k = 0; k < made.size(); k++) made[k].node_ = qolb_move(&raw[k]);
         return {told, std::move(made)};
@@ -226,18 +241,16 @@ class Node {
   private:
     // Each of these calls leads to the next state, or is misuse and does nothing.
     void let_go() noexcept {
-        std::uint32_t answers[] = {qolb_link(&node_), qolb_withdraw(&node_), qolb_deqolb(&node_), qolb_close(&node_)};
-        (void)answers;
+        qolb_result results[] = {qolb_link(&node_), qolb_withdraw(&node_), qolb_deqolb(&node_), qolb_node_free(&node_)};
+        (void)results;
     }
 
-    static qolb_answer answer(std::uint32_t number) { return static_cast<qolb_answer>(number); }
-
-    static Got got(std::uint32_t number) {
+    static Got got(qolb_result number) {
         switch (number) {
         case QOLB_GRANTED: return Got::granted;
         case QOLB_CLOSED: return Got::closed;
         case QOLB_BUSY: return Got::busy;
-        case QOLB_LATE: return Got::late;
+        case QOLB_TIMEDOUT: return Got::timed_out;
         default: return Got::misuse;
         }
     }
@@ -253,15 +266,15 @@ class Node {
 
 // A turn of a node: the line is acquired here and released at the end of the scope, however that ends. It writes
 // nothing by itself. The node must not move meanwhile.
-class Guard {
+class QOLB_SCOPED_ Guard {
   public:
     // Waits as long as it takes. Throws Closed if the line is closed, and Misuse if there is no node, or it waits or
     // holds already.
-    explicit Guard(Node &node) : node_(&node) { node.lock(); }
+    explicit Guard(Node &node) QOLB_ACQUIRES_(node) : node_(&node) { node.lock(); }
 
     // Takes over the turn of a node that holds the line, as after try_acquire or acquire_for. Throws Misuse if it does
     // not hold.
-    Guard(Node &node, std::adopt_lock_t) : node_(&node) {
+    Guard(Node &node, std::adopt_lock_t) QOLB_ADOPTS_(node) : node_(&node) {
         if (node.state() != QOLB_STATE_HOLDING) QOLB_THROW(Misuse());
     }
 
@@ -270,7 +283,7 @@ class Guard {
     Guard &operator=(const Guard &) = delete;
     Guard &operator=(Guard &&) = delete;
 
-    ~Guard() {
+    ~Guard() QOLB_RELEASES_ {
         if (node_) node_->deqolb();
     }
 
@@ -304,11 +317,11 @@ class Guard {
     void shut() { ended(node_ ? node_->shut() : QOLB_MISUSE); }
 
   private:
-    static void did(qolb_answer told) {
+    static void did(qolb_result told) {
         if (told != QOLB_DONE) QOLB_THROW(Misuse());
     }
 
-    void ended(qolb_answer told) {
+    void ended(qolb_result told) {
         did(told);
         node_ = nullptr;
     }
@@ -316,7 +329,7 @@ class Guard {
     Node *node_;
 };
 
-template <class Change> Got Node::with(Change change) {
+template <class Change> QOLB_UNCHECKED_ Got Node::with(Change change) {
     Got got = acquire();
     if (got != Got::granted) return got;
     Guard turn(*this, std::adopt_lock);
@@ -326,9 +339,9 @@ template <class Change> Got Node::with(Change change) {
     return got;
 }
 
-// The most turns of a burst: qolb::burst{1024}. With 0 or 1 a lock is strict. More than 65,535 count as 65,535.
-struct burst {
-    std::uint64_t turns;
+// The barging limit of a lock: qolb::barging{1024}. With 0 or 1 it is strict. More than 65,535 count as 65,535.
+struct barging {
+    std::uint64_t limit;
 };
 
 // A lock that any thread may enter (qolb_lock(3)). It is made at compile time, in its own 320 bytes, and opens at its
@@ -337,40 +350,41 @@ struct burst {
 // It is a timed lock as the standard library means it: std::lock_guard, std::unique_lock, std::scoped_lock and
 // std::condition_variable_any take it. The thread that entered must leave. It may be destroyed if no thread holds it,
 // waits for it or is about to call it; its destructor does nothing, so threads may use a static one until the end.
-class Lock {
+class QOLB_CAPABILITY_ Lock {
   public:
     // Strict: first come, first served.
     constexpr Lock() noexcept : lock_ QOLB_LOCK_INIT {}
-    // With bursts.
-    explicit constexpr Lock(burst most) noexcept : lock_ QOLB_LOCK_INIT_BURSTS(most.turns) {}
+    // Barging.
+    explicit constexpr Lock(barging most) noexcept : lock_ QOLB_LOCK_INIT_BARGING(most.limit) {}
     Lock(const Lock &) = delete;
     Lock &operator=(const Lock &) = delete;
 
-    // As in qolb.h: granted; closed; late or busy; misuse if the thread holds it.
-    QOLB_NODISCARD qolb_answer enter() { return answer(qolb_lock_enter(&lock_)); }
-    QOLB_NODISCARD qolb_answer try_enter() { return answer(qolb_lock_try(&lock_)); }
+    // As in qolb.h: granted; closed; timed out or busy; misuse if the thread holds it.
+    QOLB_NODISCARD qolb_result enter() { return qolb_lock_enter(&lock_); }
+    QOLB_NODISCARD qolb_result try_enter() { return qolb_lock_try(&lock_); }
     template <class Rep, class Period>
-    QOLB_NODISCARD qolb_answer enter_for(const std::chrono::duration<Rep, Period> &time) {
-        return answer(qolb_lock_enter_within(&lock_, detail::nanoseconds(time)));
+    QOLB_NODISCARD qolb_result enter_for(const std::chrono::duration<Rep, Period> &time) {
+        return qolb_lock_enter_within(&lock_, detail::nanoseconds(time));
     }
     // A guard that owns the lock is released first: else it ends with unlock, which throws Misuse.
-    qolb_answer leave() { return answer(qolb_lock_leave(&lock_)); }
-    qolb_answer shut() { return answer(qolb_lock_shut(&lock_)); }
+    qolb_result leave() { return qolb_lock_leave(&lock_); }
+    qolb_result shut() { return qolb_lock_shut(&lock_); }
     bool is_mine() const { return qolb_lock_is_mine(&lock_) != 0; }
+    bool is_held() const { return qolb_lock_is_held(&lock_) != 0; }
 
     // As a lock of the standard library: these throw Closed if the lock was shut, and Deadlock if the thread holds it
     // (try_lock returns false).
-    void lock() { entered(enter()); }
-    QOLB_NODISCARD bool try_lock() { return entered(try_enter()); }
+    void lock() QOLB_ACQUIRES_() { entered(enter()); }
+    QOLB_NODISCARD bool try_lock() QOLB_TRIES_ { return entered(try_enter()); }
     template <class Rep, class Period>
-    QOLB_NODISCARD bool try_lock_for(const std::chrono::duration<Rep, Period> &time) {
+    QOLB_NODISCARD bool try_lock_for(const std::chrono::duration<Rep, Period> &time) QOLB_TRIES_ {
         return entered(enter_for(time));
     }
     template <class Clock, class Duration>
-    QOLB_NODISCARD bool try_lock_until(const std::chrono::time_point<Clock, Duration> &end) {
+    QOLB_NODISCARD bool try_lock_until(const std::chrono::time_point<Clock, Duration> &end) QOLB_TRIES_ {
         return detail::try_lock_until(*this, end);
     }
-    void unlock() {
+    void unlock() QOLB_RELEASES_ {
         if (leave() != QOLB_DONE) QOLB_THROW(Misuse());
     }
 
@@ -378,9 +392,7 @@ class Lock {
     qolb_lock *native_handle() { return &lock_; }
 
   private:
-    static qolb_answer answer(std::uint32_t number) { return static_cast<qolb_answer>(number); }
-
-    static bool entered(qolb_answer got) {
+    static bool entered(qolb_result got) {
         if (got == QOLB_CLOSED) QOLB_THROW(Closed());
         if (got == QOLB_MISUSE) QOLB_THROW(Deadlock());
         return got == QOLB_GRANTED;
@@ -390,6 +402,21 @@ class Lock {
 };
 
 using lock = Lock;
+
+// Enters a lock here, and leaves it at the end of the scope, as a std::lock_guard<qolb::lock> does, which Clang's
+// -Wthread-safety does not know in every standard library.
+class QOLB_SCOPED_ lock_guard {
+  public:
+    explicit lock_guard(Lock &held) QOLB_ACQUIRES_(held) : held_(held) { held.lock(); }
+    // Takes over a lock that the thread holds.
+    lock_guard(Lock &held, std::adopt_lock_t) QOLB_ADOPTS_(held) : held_(held) {}
+    lock_guard(const lock_guard &) = delete;
+    lock_guard &operator=(const lock_guard &) = delete;
+    ~lock_guard() QOLB_RELEASES_ { held_.unlock(); }
+
+  private:
+    Lock &held_;
+};
 
 // A condition of holders of a Lock, as a std::condition_variable is of those of a std::mutex. It has no spurious
 // wakeups, and wakes the thread that has waited longest first. If the lock is shut meanwhile, a wait throws Closed, and
@@ -410,15 +437,11 @@ class Condition {
         while (!is_so()) wait(held);
     }
 
-    // Returns whether there was a signal in time. wait_for_status tells the same as the standard library's wait_for
-    // does.
     template <class Rep, class Period>
-    bool wait_for(std::unique_lock<Lock> &held, const std::chrono::duration<Rep, Period> &time) {
-        return told(held, qolb_cond_wait_within(&cond_, held.mutex()->native_handle(), detail::nanoseconds(time)));
-    }
-    template <class Rep, class Period>
-    std::cv_status wait_for_status(std::unique_lock<Lock> &held, const std::chrono::duration<Rep, Period> &time) {
-        return wait_for(held, time) ? std::cv_status::no_timeout : std::cv_status::timeout;
+    std::cv_status wait_for(std::unique_lock<Lock> &held, const std::chrono::duration<Rep, Period> &time) {
+        std::uint64_t nanoseconds = detail::nanoseconds(time);
+        bool is_signalled = told(held, qolb_cond_wait_within(&cond_, held.mutex()->native_handle(), nanoseconds));
+        return is_signalled ? std::cv_status::no_timeout : std::cv_status::timeout;
     }
     // Returns the value of the predicate at the end.
     template <class Rep, class Period, class Predicate>
@@ -429,8 +452,8 @@ class Condition {
     // Without a timeout also where the clock is set back meanwhile, so that the deadline is not reached.
     template <class Clock, class Duration>
     std::cv_status wait_until(std::unique_lock<Lock> &held, const std::chrono::time_point<Clock, Duration> &end) {
-        bool in_time = wait_for(held, detail::left(end)) || detail::left(end).count() > 0;
-        return in_time ? std::cv_status::no_timeout : std::cv_status::timeout;
+        std::cv_status got = wait_for(held, detail::left(end));
+        return detail::left(end).count() > 0 ? std::cv_status::no_timeout : got;
     }
     // Returns the value of the predicate at the end.
     template <class Clock, class Duration, class Predicate>
@@ -442,7 +465,7 @@ class Condition {
     }
 
   private:
-    static bool told(std::unique_lock<Lock> &held, std::uint32_t got) {
+    static bool told(std::unique_lock<Lock> &held, qolb_result got) {
         if (got == QOLB_MISUSE) QOLB_THROW(Misuse());
         if (got == QOLB_CLOSED) {
             held.release();
@@ -460,8 +483,8 @@ template <class T> class Guarded {
     // Strict: first come, first served.
     constexpr Guarded() : value_() {}
     explicit constexpr Guarded(T value) : value_(std::move(value)) {}
-    // With bursts.
-    constexpr Guarded(T value, burst most) : lock_(most), value_(std::move(value)) {}
+    // Barging.
+    constexpr Guarded(T value, barging most) : lock_(most), value_(std::move(value)) {}
 
     // Enters, lets `change` change the value, and leaves; returns the result of `change`. If `change` throws, what it
     // has changed until then stays. Throws Closed if the lock was shut, and Deadlock if the thread is in `change` of
@@ -493,7 +516,7 @@ template <class T> class Guarded {
     // Closes the lock: later threads get Closed. Returns false if it was closed. Throws Deadlock if the thread is in
     // `change` of the same value.
     bool shut() {
-        qolb_answer got = lock_.enter();
+        qolb_result got = lock_.enter();
         if (got == QOLB_MISUSE) QOLB_THROW(Deadlock());
         return got == QOLB_GRANTED && lock_.shut() == QOLB_DONE;
     }
@@ -569,7 +592,7 @@ template <class Loop> class Waits : public Ready {
 
     Loop &loop_;
     std::coroutine_handle<> waiter_;
-    std::uint32_t got_ = QOLB_MISUSE;
+    qolb_result got_ = QOLB_MISUSE;
     bool waits_ = false;
 };
 
@@ -587,7 +610,7 @@ template <class Loop> class Turn final : public detail::Waits<Loop> {
     bool await_suspend(std::coroutine_handle<> waiter) {
         this->waiter_ = waiter;
         this->waits_ = true;
-        std::uint32_t got = qolb_notify(node_, this->call, static_cast<detail::Waits<Loop> *>(this));
+        qolb_result got = qolb_notify(node_, this->call, static_cast<detail::Waits<Loop> *>(this));
         if (got == QOLB_WAITING) return true;
         this->waits_ = false;
         this->got_ = got;
@@ -603,7 +626,7 @@ template <class Loop> class Turn final : public detail::Waits<Loop> {
     }
     // A call that was too early is wanted again.
     void run() override {
-        std::uint32_t got = qolb_notify(node_, this->call, static_cast<detail::Waits<Loop> *>(this));
+        qolb_result got = qolb_notify(node_, this->call, static_cast<detail::Waits<Loop> *>(this));
         if (got == QOLB_WAITING) return;
         this->waits_ = false;
         this->got_ = got;
@@ -623,20 +646,19 @@ template <class Loop> class Turn final : public detail::Waits<Loop> {
 // A turn of a lock.
 class Entered {
   public:
-    Entered(std::uint32_t got, const qolb_task &task) : got_(got), task_(task) {}
-    Entered(Entered &&other) noexcept
-        : got_(std::exchange(other.got_, std::uint32_t(QOLB_MISUSE))), task_(other.task_) {}
+    Entered(qolb_result got, const qolb_task &task) : got_(got), task_(task) {}
+    Entered(Entered &&other) noexcept : got_(std::exchange(other.got_, QOLB_MISUSE)), task_(other.task_) {}
     Entered(const Entered &) = delete;
     Entered &operator=(Entered &&) = delete;
     ~Entered() { leave(); }
     explicit operator bool() const { return got_ == QOLB_GRANTED; }
-    qolb_answer answer() const { return static_cast<qolb_answer>(got_); }
+    qolb_result answer() const { return got_; }
     void leave() {
-        if (std::exchange(got_, std::uint32_t(QOLB_MISUSE)) == QOLB_GRANTED) qolb_task_leave(&task_);
+        if (std::exchange(got_, QOLB_MISUSE) == QOLB_GRANTED) qolb_task_leave(&task_);
     }
 
   private:
-    std::uint32_t got_;
+    qolb_result got_;
     qolb_task task_;
 };
 
@@ -647,7 +669,7 @@ template <class Loop> class Enter final : public detail::Waits<Loop> {
     bool await_suspend(std::coroutine_handle<> waiter) {
         this->waiter_ = waiter;
         this->waits_ = true;
-        std::uint32_t got = qolb_task_enter(&task_, lock_, this->call, static_cast<detail::Waits<Loop> *>(this));
+        qolb_result got = qolb_task_enter(&task_, lock_, this->call, static_cast<detail::Waits<Loop> *>(this));
         if (got == QOLB_WAITING) return true;
         this->waits_ = false;
         this->got_ = got;
@@ -656,7 +678,7 @@ template <class Loop> class Enter final : public detail::Waits<Loop> {
     // The turn has the task from here on, so the next co_await enters with another.
     Entered await_resume() { return Entered(this->got_, std::exchange(task_, qolb_task QOLB_TASK_INIT)); }
     void run() override {
-        std::uint32_t got = qolb_task_poll(&task_);
+        qolb_result got = qolb_task_poll(&task_);
         if (got == QOLB_WAITING) return;
         this->waits_ = false;
         this->got_ = got;

@@ -16,7 +16,7 @@
  * thread is cancelled. A signal's handler must use no mutex: POSIX allows none, and here one that interrupts the first
  * use of the mutex that it tries waits for ever.
  *
- * QOLB_BURST=TURNS is the hard limit of a burst (man 3 qolb_lock): 1024, if it is not set, and 0 for strict order. A
+ * QOLB_BARGING=LIMIT is the barging limit (man 3 qolb_lock): 1024, if it is not set, and 0 for strict order. A
  * lock that is opened in .preinit_array, where there is no environment yet, has 1024.
  *
  * What does not call the C library's mutexes by their names is not taken in: C11's mtx_t, Rust's std::sync::Mutex, and
@@ -57,9 +57,9 @@ REAL(cancel, "GLIBC_2.2.5", pthread_t)
 
 /* ---- Settings ---- */
 
-enum { USUAL_BURST = 1024, BURSTS = MAX_BURST + 1 };
+enum { USUAL_BARGING = 1024, BARGING = LAYOUT_MAX_BURST + 1 };
 
-static uint32_t burst_of_all = USUAL_BURST;
+static uint32_t barging_of_all = USUAL_BARGING;
 
 void qolb_refuse_(const char *name, const char *value, const char *wanted) {
     dprintf(STDERR_FILENO, "qolb: %s=%s is not %s\n", name, value, wanted);
@@ -68,21 +68,21 @@ void qolb_refuse_(const char *name, const char *value, const char *wanted) {
 
 /* The number that is written there, with digits alone; 65536 if it is another or greater. */
 static uint32_t number_in(const char *digits) {
-    uint32_t number = *digits ? 0 : BURSTS;
-    for (; *digits && number < BURSTS; digits++)
-        number = *digits >= '0' && *digits <= '9' ? number * 10 + (uint32_t)(*digits - '0') : BURSTS;
-    return number < BURSTS ? number : BURSTS;
+    uint32_t number = *digits ? 0 : BARGING;
+    for (; *digits && number < BARGING; digits++)
+        number = *digits >= '0' && *digits <= '9' ? number * 10 + (uint32_t)(*digits - '0') : BARGING;
+    return number < BARGING ? number : BARGING;
 }
 
-static void choose_burst(const char *digits) {
+static void choose_barging(const char *digits) {
     if (!digits) return;
-    burst_of_all = number_in(digits);
-    if (burst_of_all == BURSTS) qolb_refuse_("QOLB_BURST", digits, "a number from 0, for strict order, to 65535");
+    barging_of_all = number_in(digits);
+    if (barging_of_all == BARGING) qolb_refuse_("QOLB_BARGING", digits, "a number from 0, for strict order, to 65535");
 }
 
 void qolb_begin_(void) {
-    choose_burst(getenv("QOLB_BURST"));
-    qolb_choose_report_(burst_of_all);
+    choose_barging(getenv("QOLB_BARGING"));
+    qolb_choose_report_(barging_of_all);
 }
 
 /* At once: dlvsym waits for who is in dlopen, which may wait in a constructor for a mutex that the caller has. And it
@@ -110,7 +110,7 @@ static struct line *take_line(void) {
     line = qolb_take_memory_(sizeof *line);
     if (!line) return NULL;
     *line = (struct line){0};
-    (void)!qolb_lock_open(&line->lock, burst_of_all); /* it is unopened */
+    (void)!qolb_lock_open(&line->lock, barging_of_all); /* it is unopened */
     return line;
 }
 
@@ -237,7 +237,7 @@ static uint64_t until(clockid_t clock, const struct timespec *end) {
 /* The answer of entering, as the C library returns it. */
 static inline int told(struct line *line, uint32_t got) {
     qolb_count_(line, got);
-    return got == QOLB_GRANTED ? 0 : got == QOLB_BUSY ? EBUSY : got == QOLB_LATE ? ETIMEDOUT : EINVAL;
+    return got == QOLB_GRANTED ? 0 : got == QOLB_BUSY ? EBUSY : got == QOLB_TIMEDOUT ? ETIMEDOUT : EINVAL;
 }
 
 /* After the leave another thread may destroy the mutex. */
@@ -354,7 +354,7 @@ static int wait_at(struct line *line, pthread_cond_t *condition, uint64_t nanose
     atomic_fetch_sub(&line->waiting, 1);
     told(line, QOLB_GRANTED);
     pthread_testcancel();
-    return got == QOLB_LATE ? ETIMEDOUT : 0;
+    return got == QOLB_TIMEDOUT ? ETIMEDOUT : 0;
 }
 
 static int wait_until(struct line *line, pthread_cond_t *condition, clockid_t clock, const struct timespec *end) {

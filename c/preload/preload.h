@@ -48,7 +48,7 @@ struct line {
     atomic_int waiting;     /* the number of threads that left it to wait at a condition */
     struct turn at;         /* of its holder: any thread may unlock */
     _Atomic uint64_t owner; /* the number of that thread, or 0 */
-    _Atomic uint64_t guess; /* of the outer word */
+    _Atomic uint64_t guess; /* of the lock word */
 };
 
 /* What is kept of an address. An entry stays in its tree, and may get another address once its own is removed. */
@@ -82,7 +82,7 @@ HIDDEN void qolb_give_spare_(struct line *line);
 
 #ifdef QOLB_REPORT
 /* Reads the environment. */
-HIDDEN void qolb_choose_report_(uint32_t burst);
+HIDDEN void qolb_choose_report_(uint32_t barging);
 /* A call to enter got this answer; a thread leaves. */
 HIDDEN void qolb_count_(struct line *line, uint32_t got);
 HIDDEN void qolb_count_leaving_(struct line *line);
@@ -93,7 +93,7 @@ HIDDEN void qolb_count_destroyed_(void);
 /* Called in the child of a fork, before it uses a lock: it has counted nothing. */
 HIDDEN void qolb_count_anew_(void);
 #else
-#define qolb_choose_report_(burst) ((void)0)
+#define qolb_choose_report_(barging) ((void)0)
 #define qolb_count_(line, got) ((void)(line), (void)(got))
 #define qolb_count_leaving_(line) ((void)0)
 #define qolb_count_held_(line, held) ((void)0)

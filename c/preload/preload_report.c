@@ -1,8 +1,8 @@
 /* What a process did with its mutexes, counted for tools and tests: in the library of `make -C c preload-report` alone.
  *
  * With QOLB_REPORT=/FOLDER/FILE each process of the program that ends by exit, not by _exit, quick_exit, exec or a
- * signal, appends a line to that file. The line says the burst; how many mutexes were ours in all, and at most at a
- * time; how often a mutex was granted, how often a call was late, and how often a mutex was not free at once; and how
+ * signal, appends a line to that file. The line says the barging limit; how many mutexes were ours in all, and at most at a
+ * time; how often a mutex was granted, how often a call timed out, and how often a mutex was not free at once; and how
  * often two threads were in one mutex at the same time, which must be 0. The child of a fork counts from 0 on. */
 #define _GNU_SOURCE
 #ifndef QOLB_REPORT
@@ -16,17 +16,17 @@
 #include <unistd.h>
 
 static struct {
-    uint32_t burst;
+    uint32_t barging;
     char file[4096]; /* empty: nothing is counted */
 } settings;
 
-static atomic_ullong mutexes, grants, late, not_free, violations;
+static atomic_ullong mutexes, grants, timed_out, not_free, violations;
 static atomic_llong at_once, most_at_once;
 
 /* A copy of the name, as a program may write its title over its environment. */
-void qolb_choose_report_(uint32_t burst) {
+void qolb_choose_report_(uint32_t barging) {
     const char *name = getenv("QOLB_REPORT");
-    settings.burst = burst;
+    settings.barging = barging;
     if (!name) return;
     if (strlen(name) >= sizeof settings.file) qolb_refuse_("QOLB_REPORT", name, "a name of less than 4,096 bytes");
     strcpy(settings.file, name);
@@ -35,7 +35,7 @@ void qolb_choose_report_(uint32_t burst) {
 void qolb_count_(struct line *line, uint32_t got) {
     if (!settings.file[0]) return;
     if (got == QOLB_BUSY) not_free++;
-    if (got == QOLB_LATE) late++;
+    if (got == QOLB_TIMEDOUT) timed_out++;
     if (got != QOLB_GRANTED) return;
     grants++;
     if (atomic_fetch_add(&line->inside, 1) != 0) violations++;
@@ -57,7 +57,7 @@ void qolb_count_mutex_(void) {
 void qolb_count_destroyed_(void) { at_once--; }
 
 void qolb_count_anew_(void) {
-    mutexes = grants = late = not_free = violations = 0;
+    mutexes = grants = timed_out = not_free = violations = 0;
     at_once = most_at_once = 0;
 }
 
@@ -67,9 +67,10 @@ __attribute__((destructor)) static void report(void) {
     qolb_process_();
     int file = settings.file[0] ? open(settings.file, O_WRONLY | O_APPEND | O_CREAT | O_CLOEXEC, 0666) : -1;
     if (file < 0) return;
-    int size = snprintf(text, sizeof text,
-                        "burst %u mutexes %llu at once %lld grants %llu late %llu not free %llu violations %llu\n",
-                        settings.burst, mutexes, most_at_once, grants, late, not_free, violations);
+    int size = snprintf(
+        text, sizeof text,
+        "barging %u mutexes %llu at once %lld grants %llu timed out %llu not free %llu violations %llu\n",
+        settings.barging, mutexes, most_at_once, grants, timed_out, not_free, violations);
     if (write(file, text, (size_t)size) != size) perror(settings.file);
     close(file);
 }

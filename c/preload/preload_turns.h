@@ -6,7 +6,7 @@
 #include "preload.h"
 
 static inline uint32_t owned(struct line *line, const struct turn *at, uint32_t got) {
-    if (got != QOLB_GRANTED && got != QOLB_LATE) return got;
+    if (got != QOLB_GRANTED && got != QOLB_TIMEDOUT) return got;
     line->at = *at;
     atomic_store_explicit(&line->owner, own_number(), memory_order_release);
     return got;
@@ -14,13 +14,13 @@ static inline uint32_t owned(struct line *line, const struct turn *at, uint32_t 
 
 static inline struct turn new_turn(struct line *line) {
     struct turn at = {0};
-    at.ticket.outer = atomic_load_explicit(&line->guess, memory_order_relaxed);
+    at.ticket.lock_word = atomic_load_explicit(&line->guess, memory_order_relaxed);
     return at;
 }
 
 static inline uint32_t enter_line(struct line *line, uint64_t nanoseconds) {
     struct turn at = new_turn(line);
-    uint32_t got = qolb_enter_at_(lock_of(&line->lock), &at, nanoseconds, 0);
+    uint32_t got = qolb_enter_at_(lock_of(&line->lock), &at, end_of(nanoseconds), 0);
     return got == QOLB_GRANTED ? owned(line, &at, got) : got;
 }
 
@@ -34,7 +34,7 @@ static inline int take_turn_of(struct line *line, struct turn *at) {
     uint64_t owner = atomic_load_explicit(&line->owner, memory_order_acquire);
     if (!owner || !atomic_compare_exchange_strong(&line->owner, &owner, 0)) return 0;
     *at = line->at;
-    atomic_store_explicit(&line->guess, at->ticket.outer / OUTER_SHUT * OUTER_SHUT, memory_order_relaxed);
+    atomic_store_explicit(&line->guess, at->ticket.lock_word / LAYOUT_SHUT * LAYOUT_SHUT, memory_order_relaxed);
     return 1;
 }
 

@@ -40,7 +40,7 @@ static void forget(const void *block) {
     memmove(blocks + k, blocks + k + 1, (size_t)(--many - k) * sizeof *blocks);
 }
 
-/* As in ../src/gaps.c, a block of no bytes has as many as its alignment. */
+/* As in ../src/heap.c, a block of no bytes has as many as its alignment. */
 struct tried rattle_alloc(size_t size, size_t align) {
     if (!size) size = align;
     void *at = malloc(size);
@@ -65,17 +65,43 @@ void rattle_dealloc(void *block) {
 /* Of each kind of line: the words, the slots, what all nodes share, and the nodes. */
 enum { WORDS, SLOTS, SHARED, FIRST_NODE, NODES = 1 };
 
-/* The bytes of one slot, of the block that the nodes share, and of a node's. */
-static void measure_lines(size_t *slot, size_t *line, size_t *node) {
-    for (uint32_t kind = QOLB_RING; kind < QOLB_KINDS; kind++) {
-        qolb_bytes zeros = {{0}};
-        qolb_node nodes[NODES] = {{0}};
-        many = 0;
-        if (qolb_open_proved_(kind, 1, NODES, QOLB_NO_LEASE, &zeros, nodes, NODES) != QOLB_DONE) fail("no line");
-        if (many != FIRST_NODE + NODES || nodes[0].own != blocks[FIRST_NODE].at) fail("a line has other blocks");
-        if (kind == QOLB_RING) *slot = blocks[SLOTS].size, *line = blocks[SHARED].size, *node = blocks[FIRST_NODE].size;
-        if (*line != blocks[SHARED].size || *node != blocks[FIRST_NODE].size) fail("kinds of lines have other sizes");
+/* How far behind the beginning of one block the address of another lies. */
+static size_t address_in(int block, int of) {
+    for (size_t behind = 0; behind + sizeof(void *) <= blocks[block].size; behind += sizeof(void *))
+        if (memcmp((const char *)blocks[block].at + behind, &blocks[of].at, sizeof(void *)) == 0) return behind;
+    fail("a block does not have the address of another");
+    return 0;
+}
+
+/* What is measured of each kind of line, in the order of the header: the bytes of one slot, of the block that the nodes
+ * share, and of a node's; and where these have the addresses of other blocks. */
+struct measured {
+    size_t slot, line, node, node_to_line, line_to_words, line_to_slots;
+};
+
+static struct measured measure_line(uint32_t kind) {
+    qolb_bytes zeros = {{0}};
+    qolb_node nodes[NODES] = {{0}};
+    many = 0;
+    if (qolb_open_proved_(kind, 1, NODES, QOLB_NO_LEASE, &zeros, nodes, NODES) != QOLB_DONE) fail("no line");
+    if (many != FIRST_NODE + NODES || nodes[0].own != blocks[FIRST_NODE].at) fail("a line has other blocks");
+    return (struct measured){.slot = blocks[SLOTS].size,
+                             .line = blocks[SHARED].size,
+                             .node = blocks[FIRST_NODE].size,
+                             .node_to_line = address_in(FIRST_NODE, SHARED),
+                             .line_to_words = address_in(SHARED, WORDS),
+                             .line_to_slots = address_in(SHARED, SLOTS)};
+}
+
+/* A ring has one slot, and a ticket line several. */
+static struct measured measure_lines(void) {
+    struct measured ring = measure_line(QOLB_RING);
+    for (uint32_t kind = QOLB_RING + 1; kind < QOLB_KINDS; kind++) {
+        struct measured other = measure_line(kind);
+        other.slot = ring.slot;
+        if (memcmp(&other, &ring, sizeof ring) != 0) fail("kinds of lines have other sizes");
     }
+    return ring;
 }
 
 int main(int argc, char **argv) {
@@ -89,10 +115,10 @@ int main(int argc, char **argv) {
         fail("the proved part tells another count of numbers");
     for (size_t k = 0; k < count; k++) printf("%llu\n", (unsigned long long)told[k]);
 
-    size_t slot = 0, line = 0, node = 0;
     const void *lock;
-    measure_lines(&slot, &line, &node);
-    printf("%zu\n%zu\n%zu\n", slot, line, node);
+    struct measured it = measure_lines();
+    printf("%zu\n%zu\n%zu\n%zu\n%zu\n%zu\n", it.slot, it.line, it.node, it.node_to_line, it.line_to_words,
+           it.line_to_slots);
     many = 0;
     if (qolb_core_open_proved_(0, 1, &lock) != QOLB_DONE) fail("no lock");
     if (many != 3 || lock != blocks[2].at) fail("a lock has other blocks");

@@ -86,6 +86,12 @@ enum {
     LAYOUT_LINE_BYTES = 112,
     /* The bytes of a node's block, to which its handle points. */
     LAYOUT_NODE_BYTES = 160,
+    /* In a node's block: where the address of the block is that the nodes share. */
+    LAYOUT_NODE_TO_LINE = 8,
+    /* In that block: where the address of the line's words is. */
+    LAYOUT_LINE_TO_WORDS = 8,
+    /* In that block: where the address of the line's slots is. */
+    LAYOUT_LINE_TO_SLOTS = 16,
     /* The bytes of a lock's words. */
     LAYOUT_CORE_WORDS_BYTES = 168,
     /* The bytes of the block of a lock's slots, of which it has none. */

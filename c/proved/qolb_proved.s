@@ -4,8 +4,8 @@
 # verdict: logic=proved functions=46 axioms=3 target=x86_64-unknown-linux-gnu cpu=x86-64-v2 sum=dac8208d650f15bf native=nat,char,string logic-built=trusted libraries-built=trusted statements=trusted incremental=trusted
 # crates: line_lanes qolb_model line_generic line_cells ring_line ticket_line link_core link_line line_kinds lock_core qolb_nodes qolb_locks qolb_c
 # sources: 45271a8185016a36115870b5352ab076b5c5b8bb39e7a37c4f0dfab57f52d1bd
-# qolb_layout.h: 33b9db2081d1678fad65793830cd7377ff4c731e315892e4a96c0110a6bdfbe0
-# this file, without this line: 0b6618f9702d1835c8b65e3d8476ebdbbc129bdb9ee3ceecfdd2c948def00b8d
+# qolb_layout.h: bf3274351997ec086fe26e54e685da2d6a899bdbfa09a3a760539a1e6d5d8ee7
+# this file, without this line: 44e8ae7687897f13748692aed9b943909aa57a92b6ade3886589c093137e2e64
 
 	.section	".text.std_alloc::boxed::Box::drop::<#93decabdc48cf5d8>","ax",@progbits
 	.p2align	4                               # -- Begin function std_alloc::boxed::Box::drop::<#93decabdc48cf5d8>

@@ -1,4 +1,4 @@
-//! Locks that are strict, in the order of tickets, or have bounded bursts. A [`Mutex`] guards a value, as `std::sync::Mutex` does.
+//! Locks that are strict, in the order of tickets, or barging, with a limit. A [`Mutex`] guards a value, as `std::sync::Mutex` does.
 //!
 //! ```
 //! use qolb::{Condition, Mutex, Stopped};
@@ -25,16 +25,16 @@
 //! # Beside `std::sync::Mutex`
 //!
 //! - A call draws a ticket by one step, and turns are in the order of tickets, so all wait until the next thread runs. A mutex made by
-//!   [`Mutex::with_burst`] lets newcomers in first, a bounded number of times: take it if more threads, of any program, want processors than there are.
+//!   [`Mutex::with_barging`] lets arriving threads overtake, a bounded number of times: take it if more threads, of any program, want processors than there are.
 //! - [`Mutex::lock`] fails if the mutex was shut ([`MutexGuard::shut`]) or this thread holds it: [`Stopped`]. There is no poison.
-//! - [`Mutex::try_lock_for`] has a time limit, and [`Mutex::lock_async`] is for tasks.
+//! - [`Mutex::try_lock_for`] has a timeout, and [`Mutex::lock_async`] is for tasks.
 //! - The lock's 320 bytes are put in a box at its first use: as at any allocation, the process ends if there is no memory.
 //!
 //! # What is proved
 //!
-//! What decides who is next in a lock, its core, is proved: it has at most one holder, it serves tickets in order, with bursts of B turns it counts at
+//! What decides who is next in a lock, its core, is proved: it has at most one holder, it serves tickets in order, with a barging limit of B it counts at
 //! most B - 1 turns of threads without a ticket from one served waiter to the next, and it tells a releasing thread of a sleep that the next waiter has
-//! announced (with bursts, announced while that thread was in). Of a line it is proved that it has at most one holder, that its requests end in their
+//! announced (with barging, announced while that thread was in). Of a line it is proved that it has at most one holder, that its requests end in their
 //! order, and which bytes each holder receives.
 //!
 //! Not proved: this file, and the C code below it, which waits, wakes, and has time limits, conditions and tasks. Both are tested. The C code was also
@@ -169,7 +169,7 @@ pub enum Answer {
     /// A handle has a node already.
     Occupied,
     /// The time is over, and the request is withdrawn.
-    Late,
+    TimedOut,
 }
 
 impl fmt::Display for Answer {
@@ -190,7 +190,7 @@ impl fmt::Display for Answer {
             Answer::BadKind => "no such kind of line",
             Answer::TooFew => "fewer handles than nodes",
             Answer::Occupied => "one of the handles has a node",
-            Answer::Late => "the time is over, and the request is withdrawn",
+            Answer::TimedOut => "the time is over, and the request is withdrawn",
         })
     }
 }
@@ -263,9 +263,9 @@ unsafe extern "C" {
     fn qolb_open(kind: u32, label: u64, nodes: u64, lease: u64, opening: &Bytes, out: *mut Handle, handles: usize) -> u32;
     safe fn qolb_memory(kind: u32, nodes: u64) -> u64;
     fn qolb_enqolb(node: &mut Handle) -> u32;
-    fn qolb_clear(node: &mut Handle) -> u32;
+    fn qolb_settle_node(node: &mut Handle) -> u32;
     fn qolb_poll(node: &mut Handle) -> u32;
-    fn qolb_wait(node: &mut Handle, polls: u64) -> u32;
+    fn qolb_spin(node: &mut Handle, polls: u64) -> u32;
     fn qolb_acquire(node: &mut Handle) -> u32;
     fn qolb_acquire_within(node: &mut Handle, nanoseconds: u64) -> u32;
     fn qolb_withdraw(node: &mut Handle) -> u32;
@@ -279,7 +279,7 @@ unsafe extern "C" {
     fn qolb_turns_left(node: &mut Handle) -> u64;
     fn qolb_deqolb(node: &mut Handle) -> u32;
     fn qolb_shut(node: &mut Handle) -> u32;
-    fn qolb_close(node: &mut Handle) -> u32;
+    fn qolb_node_free(node: &mut Handle) -> u32;
     fn qolb_number(node: &mut Handle) -> u64;
     fn qolb_label(node: &mut Handle) -> u64;
     fn qolb_state(node: &mut Handle) -> u32;
@@ -298,8 +298,9 @@ unsafe extern "C" {
     fn qolb_lock_enter_within(lock: *mut RawLock, nanoseconds: u64) -> u32;
     fn qolb_lock_leave(lock: *mut RawLock) -> u32;
     fn qolb_lock_shut(lock: *mut RawLock) -> u32;
-    fn qolb_lock_close(lock: *mut RawLock) -> u32;
+    fn qolb_lock_destroy(lock: *mut RawLock) -> u32;
     fn qolb_lock_is_mine(lock: *const RawLock) -> std::ffi::c_int;
+    fn qolb_lock_is_held(lock: *const RawLock) -> std::ffi::c_int;
     fn qolb_cond_wait(cond: *mut RawCond, lock: *mut RawLock) -> u32;
     fn qolb_cond_wait_within(cond: *mut RawCond, lock: *mut RawLock, nanoseconds: u64) -> u32;
     fn qolb_cond_signal(cond: *mut RawCond) -> u32;
@@ -363,8 +364,8 @@ impl Node {
 
     /// Polls whether the node is busy, and makes no request: `Done`, `Busy`; `Misuse` if it waits or holds.
     #[must_use]
-    pub fn clear(&mut self) -> Answer {
-        told(unsafe { qolb_clear(self.0.get_mut()) })
+    pub fn settle(&mut self) -> Answer {
+        told(unsafe { qolb_settle_node(self.0.get_mut()) })
     }
 
     /// Polls whether the request is at its turn: `Granted`, `Waiting`, `Closed`; `Misuse` if there is none.
@@ -375,8 +376,8 @@ impl Node {
 
     /// Polls at most `polls` times, and spins between two: `Granted`, `Waiting`, `Closed`, `Misuse`.
     #[must_use]
-    pub fn wait(&mut self, polls: u64) -> Answer {
-        told(unsafe { qolb_wait(self.0.get_mut(), polls) })
+    pub fn spin(&mut self, polls: u64) -> Answer {
+        told(unsafe { qolb_spin(self.0.get_mut(), polls) })
     }
 
     /// Withdraws the request, unless it is at its turn: `Withdrawn`, `Granted`, `Closed`; `Misuse` if there is none.
@@ -464,9 +465,9 @@ impl Node {
         unsafe { qolb_label(self.0.get_mut()) }
     }
 
-    /// Closes a node that neither waits nor holds. Any other is returned.
-    pub fn close(mut self) -> Result<(), Node> {
-        match told(unsafe { qolb_close(self.0.get_mut()) }) {
+    /// Frees a node that neither waits nor holds. Any other is returned.
+    pub fn free(mut self) -> Result<(), Node> {
+        match told(unsafe { qolb_node_free(self.0.get_mut()) }) {
             Answer::Done => Ok(()),
             _ => Err(self),
         }
@@ -490,9 +491,9 @@ impl Node {
         }
     }
 
-    /// Requests the line, and waits at most `time`, also while the node is busy: `Granted`, `Late`, `Closed`, `Misuse`.
+    /// Requests the line, and waits at most `time`, also while the node is busy: `Granted`, `TimedOut`, `Closed`, `Misuse`.
     ///
-    /// After `Late` the node is withdrawn. It polls at least once.
+    /// After `TimedOut` the node is withdrawn. It polls at least once.
     #[must_use]
     pub fn acquire_for(&mut self, time: Duration) -> Answer {
         told(unsafe { qolb_acquire_within(self.0.get_mut(), nanoseconds(time)) })
@@ -519,7 +520,7 @@ impl Node {
     pub fn try_lock_for(&mut self, time: Duration) -> Result<Option<Guard<'_>>, Stopped> {
         match self.acquire_for(time) {
             Answer::Granted => Ok(Some(Guard(self))),
-            Answer::Late => Ok(None),
+            Answer::TimedOut => Ok(None),
             answer => Err(stopped(answer)),
         }
     }
@@ -607,7 +608,7 @@ impl Drop for Node {
             qolb_link(self.0.get_mut());
             qolb_withdraw(self.0.get_mut());
             qolb_deqolb(self.0.get_mut());
-            qolb_close(self.0.get_mut());
+            qolb_node_free(self.0.get_mut());
         }
     }
 }
@@ -628,7 +629,7 @@ fn told(answer: u32) -> Answer {
         12 => Answer::BadKind,
         13 => Answer::TooFew,
         14 => Answer::Occupied,
-        15 => Answer::Late,
+        15 => Answer::TimedOut,
         _ => Answer::Misuse,
     }
 }
@@ -652,7 +653,7 @@ fn state_told(state: u32) -> State {
 #[repr(C, align(16))]
 struct RawLock {
     own: *mut c_void,
-    turns: u64,
+    limit: u64,
     more: [u64; 38],
 }
 
@@ -676,7 +677,7 @@ fn from_now_to(end: Instant) -> Duration {
 /// dropped while a thread holds it or waits for it, which a leaked guard may cause, its box stays.
 pub struct RawQolb {
     boxed: AtomicPtr<RawLock>,
-    turns: u16,
+    limit: u16,
 }
 
 // SAFETY: the library lets any threads call for one lock at the same time, and only the library reads or changes its contents.
@@ -686,14 +687,14 @@ unsafe impl Send for RawQolb {}
 impl RawQolb {
     /// A strict lock: first come, first served.
     pub const fn new() -> RawQolb {
-        RawQolb::with_burst(0)
+        RawQolb::with_barging(0)
     }
 
-    /// A lock with bursts of at most `turns` turns, for threads that enter again and again; with 0 or 1 it is strict.
+    /// A lock with this barging limit, for threads that enter again and again; with 0 or 1 it is strict.
     ///
-    /// With `p` threads before it, a waiter is overtaken by at most `(p + 1) * (turns - 1)` turns of newcomers.
-    pub const fn with_burst(turns: u16) -> RawQolb {
-        RawQolb { boxed: AtomicPtr::new(null_mut()), turns }
+    /// With `p` threads before it, a waiter is overtaken by at most `(p + 1) * (limit - 1)` barging threads.
+    pub const fn with_barging(limit: u16) -> RawQolb {
+        RawQolb { boxed: AtomicPtr::new(null_mut()), limit }
     }
 
     fn at(&self) -> *mut RawLock {
@@ -704,7 +705,7 @@ impl RawQolb {
     /// Of threads that make one at the same time, one's is taken.
     #[cold]
     fn put_in_box(&self) -> *mut RawLock {
-        let made = Box::into_raw(Box::new(RawLock { own: null_mut(), turns: self.turns.into(), more: [0; 38] }));
+        let made = Box::into_raw(Box::new(RawLock { own: null_mut(), limit: self.limit.into(), more: [0; 38] }));
         match self.boxed.compare_exchange(null_mut(), made, Ordering::AcqRel, Ordering::Acquire) {
             Ok(_) => made,
             Err(at) => {
@@ -727,7 +728,7 @@ impl RawQolb {
         self.took(unsafe { qolb_lock_try(self.at()) })
     }
 
-    /// Enters, and waits at most `time`: `Granted`, `Late`, `Closed`; `Misuse` at once if the calling thread holds it.
+    /// Enters, and waits at most `time`: `Granted`, `TimedOut`, `Closed`; `Misuse` at once if the calling thread holds it.
     #[must_use]
     pub fn enter_for(&self, time: Duration) -> Answer {
         self.took(unsafe { qolb_lock_enter_within(self.at(), nanoseconds(time)) })
@@ -748,6 +749,13 @@ impl RawQolb {
     /// Whether the calling thread holds it.
     pub fn is_mine(&self) -> bool {
         unsafe { qolb_lock_is_mine(self.at()) == 1 }
+    }
+
+    /// Whether a thread or a task holds it, or is about to. It reads the lock and does not try it, so this may have changed when it returns.
+    pub fn is_held(&self) -> bool {
+        let at = self.boxed.load(Ordering::Acquire);
+        // SAFETY: a lock in a box lives as long as this does.
+        !at.is_null() && unsafe { qolb_lock_is_held(at) == 1 }
     }
 
     /// Tells the thread sanitizer of an answer by which the thread may have entered.
@@ -803,14 +811,14 @@ impl Default for RawQolb {
 
 impl fmt::Debug for RawQolb {
     fn fmt(&self, f: &mut fmt::Formatter<'_>) -> fmt::Result {
-        f.debug_struct("RawQolb").field("is_mine", &self.is_mine()).finish()
+        f.debug_struct("RawQolb").field("is_held", &self.is_held()).field("is_mine", &self.is_mine()).finish()
     }
 }
 
 impl Drop for RawQolb {
     fn drop(&mut self) {
         let at = *self.boxed.get_mut();
-        if !at.is_null() && told(unsafe { qolb_lock_close(at) }) == Answer::Done {
+        if !at.is_null() && told(unsafe { qolb_lock_destroy(at) }) == Answer::Done {
             // SAFETY: it was made by a box, and nobody uses it any more.
             drop(unsafe { Box::from_raw(at) });
         }
@@ -821,7 +829,7 @@ impl Drop for RawQolb {
 fn entered(answer: Answer) -> Result<bool, Stopped> {
     match answer {
         Answer::Granted => Ok(true),
-        Answer::Busy | Answer::Late => Ok(false),
+        Answer::Busy | Answer::TimedOut => Ok(false),
         Answer::NoMemory => no_memory(),
         answer => Err(stopped(answer)),
     }
@@ -867,12 +875,12 @@ unsafe impl<T: ?Sized + Send> Sync for Mutex<T> {}
 impl<T> Mutex<T> {
     /// A strict mutex: first come, first served.
     pub const fn new(value: T) -> Mutex<T> {
-        Mutex::with_burst(value, 0)
+        Mutex::with_barging(value, 0)
     }
 
-    /// A mutex with bursts of at most `turns` turns, for threads that lock it again and again ([`RawQolb::with_burst`]); with 0 or 1 it is strict.
-    pub const fn with_burst(value: T, turns: u16) -> Mutex<T> {
-        Mutex { raw: RawQolb::with_burst(turns), value: UnsafeCell::new(value) }
+    /// A mutex with this barging limit, for threads that lock it again and again ([`RawQolb::with_barging`]); with 0 or 1 it is strict.
+    pub const fn with_barging(value: T, limit: u16) -> Mutex<T> {
+        Mutex { raw: RawQolb::with_barging(limit), value: UnsafeCell::new(value) }
     }
 
     /// Returns the value.
@@ -1170,7 +1178,7 @@ impl Condition {
         tsan::acquire(lock);
         match told(answer) {
             Answer::Granted => Ok((mutex.guard(), true)),
-            Answer::Late => Ok((mutex.guard(), false)),
+            Answer::TimedOut => Ok((mutex.guard(), false)),
             answer => Err(stopped(answer)),
         }
     }
@@ -1446,7 +1454,7 @@ mod api {
     fn had(answer: Answer) -> bool {
         match answer {
             Answer::Granted => true,
-            Answer::Busy | Answer::Late => false,
+            Answer::Busy | Answer::TimedOut => false,
             answer => panic!("qolb: {answer}"),
         }
     }
@@ -1473,9 +1481,12 @@ mod api {
         unsafe fn unlock(&self) {
             self.leave();
         }
+        fn is_locked(&self) -> bool {
+            self.is_held()
+        }
     }
 
-    // SAFETY: every release is as fair as the lock: strict, or with bursts.
+    // SAFETY: every release is as fair as the lock: strict or barging.
     unsafe impl RawMutexFair for RawQolb {
         unsafe fn unlock_fair(&self) {
             self.leave();

@@ -1,5 +1,16 @@
-/* The functions by which the proved part allocates, over those of gaps.c. The proved part calls them by these names. */
-#include "gaps.h"
+/* The functions by which the proved part allocates, over the program's malloc and free. The proved part calls them by
+ * these names.
+ *
+ * A thread writes to its node's block in each call, and to the words and slots of a table. Each of these blocks begins at
+ * a multiple of 128 bytes, and no other begins in its last 128: so no cache line has data of two nodes, nor has a pair of
+ * lines that is fetched together, and a slot of a table, with its 64 bytes and what goes with them, is in one pair. What
+ * all nodes of a line read, and none writes, is a smaller block. */
+#include "heap.h"
+#include <stdint.h>
+#include <stdlib.h>
+#include <string.h>
+
+BY_THREAD struct core_arena *qolb_core_arena_;
 
 /* The answer of an allocation. `at` is never NULL: without memory it is the address of a byte that nobody uses. */
 struct tried {
@@ -7,25 +18,52 @@ struct tried {
     void *at;
 };
 
-__attribute__((visibility("hidden"))) struct tried rattle_alloc(size_t size, size_t align);
-__attribute__((visibility("hidden"))) struct tried rattle_realloc(void *block, size_t kept, size_t size, size_t align);
-__attribute__((visibility("hidden"))) void rattle_dealloc(void *block);
+HIDDEN struct tried rattle_alloc(size_t size, size_t align);
+HIDDEN struct tried rattle_realloc(void *block, size_t kept, size_t size, size_t align);
+HIDDEN void rattle_dealloc(void *block);
 
-static struct tried tried(void *block) {
-    static char nothing;
-    return block ? (struct tried){1, block} : (struct tried){0, &nothing};
+/* The next block of the lock's core that the thread opens, which must be as large as the arena's next one; else NULL. */
+static void *given_by_lock(size_t size) {
+    static const size_t sizes[CORE_BLOCKS] = {LAYOUT_CORE_WORDS_BYTES, LAYOUT_CORE_SLOTS_BYTES,
+                                              LAYOUT_CORE_BLOCK_BYTES};
+    struct core_arena *arena = qolb_core_arena_;
+    if (!arena) return NULL;
+    if (arena->taken == CORE_BLOCKS || size != sizes[arena->taken]) __builtin_trap();
+    return arena->block[arena->taken++];
+}
+
+/* malloc gives multiples of 16 bytes, so there is room for a `struct before`. */
+static void *block_of(size_t size) {
+    char *given = size <= SIZE_MAX - 2 * APART ? malloc(asked_bytes(size)) : NULL;
+    if (!given) return NULL;
+    char *block = given + (is_small(size) ? sizeof(struct before) : APART - (uintptr_t)given % APART);
+    ((struct before *)block - 1)->given = given;
+    return block;
+}
+
+void *qolb_malloc_(size_t size) {
+    void *of_lock = given_by_lock(size);
+    return of_lock ? of_lock : block_of(size);
+}
+
+void qolb_free_(void *block) {
+    if (block) free(((struct before *)block - 1)->given);
 }
 
 /* A block of no bytes has as many as its alignment, which is at most 16. */
-static size_t bytes_for(size_t size, size_t align) { return size ? size : align; }
-
 struct tried rattle_alloc(size_t size, size_t align) {
-    return tried(qolb_malloc_(bytes_for(size, align)));
+    static char nothing;
+    void *block = qolb_malloc_(size ? size : align);
+    return block ? (struct tried){1, block} : (struct tried){0, &nothing};
 }
 
+/* `kept`: the bytes that the block has. */
 struct tried rattle_realloc(void *block, size_t kept, size_t size, size_t align) {
-    (void)kept;
-    return tried(qolb_realloc_(block, bytes_for(size, align)));
+    struct tried moved = rattle_alloc(size, align);
+    if (!moved.is_there) return moved;
+    memcpy(moved.at, block, kept < size ? kept : size);
+    qolb_free_(block);
+    return moved;
 }
 
 void rattle_dealloc(void *block) { qolb_free_(block); }

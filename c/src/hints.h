@@ -12,8 +12,7 @@
 #ifndef QOLB_HINTS_H
 #define QOLB_HINTS_H
 
-#include "bells.h"
-#include "gaps.h"
+#include "line.h"
 #include <stdatomic.h>
 
 /* In an entry: whether its node is granted the line; and the unit of the number of the successor. */
@@ -28,38 +27,61 @@ static inline void will_write(const volatile void *at) {
     __asm__ volatile("prefetchw %0" : : "m"(*(const volatile char *)at));
 }
 
-/* The slot that a waiting node will read: that of its place, or the line's one. */
-static inline const char *slot_of(qolb_node *node) {
-    const struct hints *hints = hints_of(node);
-    return hints->step ? hints->slots + qolb_waits_at_proved_(node) / PLACE_WORDS * hints->step : hints->slots;
+/* The address that lies in a block of the proved part behind so many bytes: ../proved/layout.c finds them. */
+static inline char *address_in(const void *block, size_t behind) {
+    return *(char *const *)((const char *)block + behind);
 }
 
-static inline _Atomic uint64_t *entry_of(const struct hints *hints, uint64_t node) {
-    return hints->home + PLACE_WORDS * node;
+static inline const char *proved_line_of(const struct node *my) {
+    return address_in(my->proved.own, LAYOUT_NODE_TO_LINE);
+}
+
+/* The first slot of the node's line. */
+static inline const char *slots_of(const struct node *my) {
+    return address_in(proved_line_of(my), LAYOUT_LINE_TO_SLOTS);
+}
+
+/* The slot that a waiting node will read: that of its place, or the line's one. */
+static inline const char *slot_of(struct node *my) {
+    if (my->line->kind != QOLB_TICKET) return slots_of(my);
+    return slots_of(my) + qolb_waits_at_proved_(&my->proved) / LAYOUT_PLACE_WORDS * LAYOUT_SLOT_BYTES;
+}
+
+/* Of a link line: the word of the last request, and each node's entry. */
+static inline _Atomic uint64_t *home_of_link(const struct node *my) {
+    return (_Atomic uint64_t *)address_in(proved_line_of(my), LAYOUT_LINE_TO_WORDS);
+}
+
+static inline _Atomic uint64_t *entry_of(const struct node *my, uint64_t number) {
+    return home_of_link(my) + LAYOUT_PLACE_WORDS * number;
+}
+
+static inline _Atomic uint64_t *own_entry(const struct node *my) {
+    return entry_of(my, (uint64_t)(my - my->line->node) + 1);
 }
 
 /* A link line's node that is granted the line will write the bytes and its own entry. The word of the last request is
- * still wanted by who handed over, to ask again. */
-static inline void hint_turn_of_link(const struct hints *hints) {
-    _Atomic uint64_t *own = entry_of(hints, hints->node);
+ * still wanted by the node that handed over, to ask again. */
+static inline void hint_turn_of_link(const struct node *my, const char *slot) {
+    _Atomic uint64_t *own = own_entry(my);
     if (!(atomic_load_explicit(own, memory_order_relaxed) & IS_GRANTED)) return;
-    will_write(hints->slots);
+    will_write(slot);
     will_write(own);
 }
 
 /* Before a poll, with slot_of the node. */
-static inline void hint_turn(const struct hints *hints, const char *slot) {
-    if (hints->home) hint_turn_of_link(hints);
-    else if (slot) will_read(slot);
+static inline void hint_turn(const struct node *my, const char *slot) {
+    if (my->line->kind == QOLB_LINK) hint_turn_of_link(my, slot);
+    else will_read(slot);
 }
 
-/* Before a release of a link line that others wait for: one may have linked, by the entry. */
-static inline void hint_release(const struct hints *hints) {
-    _Atomic uint64_t *own = entry_of(hints, hints->node);
+/* Before a release of a link line: a node may have linked, by the entry. */
+static inline void hint_release(const struct node *my) {
+    _Atomic uint64_t *own = own_entry(my);
     will_write(own);
-    will_write(hints->home);
+    will_write(home_of_link(my));
     uint64_t next = atomic_load_explicit(own, memory_order_relaxed) / LINK_UNIT;
-    if (next) will_write(entry_of(hints, next));
+    if (next) will_write(entry_of(my, next));
 }
 
 #endif

@@ -12,8 +12,7 @@
 #ifndef QOLB_PROBES_H
 #define QOLB_PROBES_H
 
-#include "gaps.h"
-#include "proved.h"
+#include <stdint.h>
 
 #if defined(__has_include) && !defined(QOLB_NO_PROBES)
 #if __has_include(<sys/sdt.h>)
@@ -24,10 +23,6 @@
 struct probed {
     uint64_t label, number, line;
 };
-
-static inline struct probed of_node(qolb_node *node) {
-    return (struct probed){qolb_label_proved_(node), qolb_number_proved_(node), *first_bell_of(node)};
-}
 
 /* The number goes into a register: perf adds no probe that has a constant at one place and none at another. */
 #ifdef DTRACE_PROBE3
@@ -42,11 +37,11 @@ static inline struct probed of_node(qolb_node *node) {
 #endif
 
 /* The probe of a wait's end. */
-#define PROBE_END(got, of)                                 \
-    do {                                                   \
-        if ((got) == QOLB_GRANTED) PROBE(granted, of);     \
-        else if ((got) == QOLB_LATE) PROBE(withdrawn, of); \
-        else PROBE(closed, of);                            \
+#define PROBE_END(got, of)                                     \
+    do {                                                       \
+        if ((got) == QOLB_GRANTED) PROBE(granted, of);         \
+        else if ((got) == QOLB_TIMEDOUT) PROBE(withdrawn, of); \
+        else PROBE(closed, of);                                \
     } while (0)
 
 #endif

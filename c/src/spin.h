@@ -1,64 +1,91 @@
-/* How long a waiter spins before it sleeps, and how long it pauses between two polls: the one policy of nodes and of
- * locks (docs/DECISIONS.md says what was tried). One of the library's internal files.
+/* How a thread waits: how long it spins before it sleeps, how long it pauses between two looks, and when it yields. The
+ * one policy of nodes and of locks (docs/DECISIONS.md, "Waiting", says what was tried). One of the library's internal
+ * files.
  *
- * A waiter that finds that it is not at its turn pauses, and polls again: a node for some 60 ns (qolb_spin_once_), as
- * nobody else polls its word; at a lock for some 90 ns, and, if others are between it and the turn, for some 150 ns
- * more for each: a poll takes the cache line from who passes the turn on (Mellor-Crummey and Scott, TOCS 1991).
+ * A waiter in a queue polls until its turn has come. A poll takes the cache line from the thread that passes the turn
+ * on, so a waiter pauses longer the more threads are before it (Mellor-Crummey and Scott, TOCS 1991). How long it spins
+ * follows from that number, too:
  *
- * Once the call answers 0 the waiter sleeps, and calls it anew when it is woken. At most it spins 50 us if four or
- * fewer are before it; 2 us if more are, as its turn is far; and 20 us if it can't tell. Sleeping and waking cost about
- * as much, so a wait takes at most about twice the best (Karlin and others, SOSP 1991).
+ *   fewer threads than processors     50 us, or 1 us for each of them: all may be running
+ *   fewer than twice the processors   50 us, with a yield before each poll: a thread nearer to its turn may want this
+ *                                     processor
+ *   more                              2 us
+ *   it can't tell                     20 us
  *
- * Each thread learns how long spinning pays: where processors have other work, who spins keeps the holder from going
- * on. A spin that ends with a sleep halves the length of the thread's next one, down to 2 us, and each spin begins with
- * an eighth more. A spin after a sleep has a length of its own, and lasts 10 us at least: a waiter is woken ahead of
- * its turn, and a wake takes about as long.
+ * Then it sleeps. Sleeping and waking cost about 50 us, so a wait takes at most about twice the best (Karlin and
+ * others, SOSP 1991). A thread also learns how long spinning pays, because a spinning thread may keep the holder from
+ * a processor that other programs want, too: a spin that ends with a sleep halves the thread's next one, and each spin
+ * begins with an eighth more.
  *
- * A waiter that was woken, and is not at its turn, yields its processor once: it may have taken that from the holder,
- * in one of eight turns of 10 us where 32 threads wait. Else no waiter yields: that makes handoffs slower, and a
- * real-time thread gives way to none of a lower priority. A process that could use one processor only at its
- * first wait does not spin. */
+ * A thread that finds a barging lock taken spins in another way before it queues: it looks at the lock word, and each
+ * pause between two looks is twice the one before.
+ *
+ * A yield gives the processor to another thread that wants it. If that is a thread of another program, a yield can last
+ * a whole time slice for nothing. Then this process makes no yields for a while (spin.c).
+ *
+ * All lengths are of pauses: a yield, or the loss of the processor, makes a spin longer. With one processor nobody
+ * spins. */
 #ifndef QOLB_SPIN_H
 #define QOLB_SPIN_H
 
-#include "gaps.h"
-#include <sched.h>
+#include "common.h"
 #include <stdatomic.h>
 #include <stdint.h>
 
 /* ---- The policy, in nanoseconds ---- */
 
+/* How long a waiter in a queue spins before it sleeps, at most. */
 enum {
-    POLL_PAUSE = 90,     /* between two polls */
-    NODE_PAUSE = 60,     /* the same, of a node */
-    POLL_FARTHER = 150,  /* more for each turn between, if it can tell: of three at most */
-    SPIN_NEAR = 50000,   /* before a sleep, with at most NEAR_TURNS before the waiter, the holder among them */
-    SPIN_FAR = 2000,     /* with more; and the least that a thread learns */
-    SPIN_WOKEN = 10000,  /* the least after a sleep, unless more are before it */
-    SPIN_UNKNOWN = 20000 /* if it can't be told how many */
+    SPIN_NEAR = 50000,    /* as long as a sleep and a wake take */
+    SPIN_EACH = 1000,     /* for each thread before it, if that is more: as long as a short turn may take */
+    SPIN_FAR = 2000,      /* its turn is farther away; also the least that a thread learns */
+    SPIN_UNKNOWN = 20000, /* it does not know how many threads are before it */
+    SPIN_WOKEN = 10000    /* the least that a thread learns for a spin after a sleep, because a waiter is woken ahead
+                           * of its turn, and a wake takes about as long */
 };
-enum { LONGEST_PAUSE = POLL_PAUSE + 3 * POLL_FARTHER, NEAR_TURNS = 4, GROWS_BY = 8, SHRINKS_BY = 2 };
 
-/* The queue head of a lock with bursts (lock/waits.c) watches it: the pause between two looks, POLL_PAUSE once it has
- * requested the handoff; and how long newcomers may go in before it requests that: a time, and a part of the bound. */
-enum { WATCH_PAUSE = 300, WATCH_PATIENCE = 1000000, REQUEST_PART = 16 };
+/* Its pauses between two polls. */
+enum {
+    POLL_PAUSE = 90,   /* of a lock's waiter that is next */
+    NODE_PAUSE = 60,   /* of a node: nobody else polls its word */
+    POLL_FARTHER = 250 /* more for each other thread before it: a hand-over takes at least as long */
+};
 
-/* The number of those before a waiter, if it can't be told. */
+/* How fast a thread learns: by a part of what it knows. */
+enum { GROWS_BY = 8, SHRINKS_BY = 2 };
+
+/* A thread that finds a barging lock taken: how long it pauses in all before it queues; its first pause, and the
+ * longest one, which is double the time of a short critical section with a thought behind it; and how long it has
+ * paused when it begins to yield before each look. */
+enum { BARGE_SPIN = 10000, BARGE_PAUSE = 200, BARGE_LONGEST = 4000, BARGE_YIELD_FROM = 200 };
+
+/* The queue head of a barging lock (lock/waits.c): its pause between two looks, POLL_PAUSE once it has requested the
+ * lock; how long it has looked at a taken lock, and was overtaken, when it requests it; and how long after it first
+ * slept, since a lock that is reserved for a sleeping thread is idle until that is awake. */
+enum { WATCH_PAUSE = 300, WATCH_PATIENCE = 2000, SLEEPER_PATIENCE = 1000000 };
+
+/* Yields (spin.c). One that lasts so long is dear: a thread of this program would have given the processor back sooner.
+ * Each dear one counts as many others. Once so many are counted there are none for a quarter of a second. */
+enum { YIELD_DEAR = 1000000, YIELD_COUNTS = 2, YIELDS_COUNTED = 16, YIELDS_REST = 250000000 };
+
+/* The number of threads before a waiter, if it can't be told. */
 #define UNKNOWN_TURNS UINT64_MAX
 
-/* ---- Pauses ---- */
+/* ---- The machine ---- */
 
-/* How many instructions `pause` take 1,024 ns, which is counted once: they take 10 to 140 cycles, by the processor. 0:
- * not counted, or the process may use one processor only. */
-extern __attribute__((visibility("hidden"))) atomic_uint qolb_pauses_;
+/* How many instructions `pause` take 1,024 ns, which is counted once: they take 10 to 140 cycles, by the processor; and
+ * how many processors the process may use. 0: not counted, or the process may use one processor only. */
+extern __attribute__((visibility("hidden"))) atomic_uint qolb_pauses_, qolb_processors_;
 
-/* Counts them, unless the process may use one processor only: then 0. */
+/* Counts both, unless the process may use one processor only: then 0. */
 __attribute__((visibility("hidden"))) unsigned qolb_count_pauses_(void);
 
 static inline unsigned pauses_in_1024(void) {
-    unsigned counted = atomic_load_explicit(&qolb_pauses_, memory_order_relaxed);
+    unsigned counted = atomic_load_explicit(&qolb_pauses_, memory_order_acquire);
     return counted ? counted : qolb_count_pauses_();
 }
+
+static inline unsigned processors(void) { return atomic_load_explicit(&qolb_processors_, memory_order_relaxed); }
 
 /* Pauses for these nanoseconds, at most 1,000,000; returns 0, at once, if the process may use one processor only. */
 static inline int qolb_pause_(unsigned nanoseconds) {
@@ -70,23 +97,34 @@ static inline int qolb_pause_(unsigned nanoseconds) {
     return 1;
 }
 
-/* ---- Spinning ---- */
+/* Lets another thread have the processor, unless yields are dear. */
+__attribute__((visibility("hidden"))) void qolb_yield_(void);
 
-/* What a waiter has spun since it last slept in this wait. {0} when the wait begins. */
+/* ---- Waiting in a queue ---- */
+
+/* What a waiter has spun since it last slept in this wait. {0} when the wait begins, but for `yields`. */
 struct spin {
-    unsigned spun; /* nanoseconds */
-    int slept;     /* it has slept in this wait, or was told to */
+    unsigned spun, most; /* nanoseconds: so far, and when it is to end */
+    int slept;           /* it has slept in this wait, or was told to */
+    int yields;          /* it is to yield while it is far from its turn */
+    uint64_t before;     /* the number of threads before it at the last look */
 };
 
 enum { FIRST_SPIN, WOKEN_SPIN, HEAD_SPIN, SPINS };
 
 /* The length of the thread's next spins, in nanoseconds: without a sleep in the same wait, after one, and as the queue
- * head of a lock with bursts. 0: as long as may be. */
+ * head of a barging lock. 0 or SPIN_NEAR: as long as may be. */
 extern __attribute__((visibility("hidden"))) BY_THREAD unsigned qolb_learned_[SPINS];
 
-static inline unsigned longest_spin(uint64_t before) {
-    if (before == UNKNOWN_TURNS) return SPIN_UNKNOWN;
-    return before <= NEAR_TURNS ? SPIN_NEAR : SPIN_FAR;
+/* Whether it yields before it polls. */
+static inline int is_to_yield(const struct spin *spin) {
+    return spin->yields && spin->before >= processors() && spin->before < (uint64_t)2 * processors();
+}
+
+static inline unsigned longest_spin(const struct spin *spin) {
+    if (spin->before == UNKNOWN_TURNS) return SPIN_UNKNOWN;
+    if (spin->before >= processors()) return is_to_yield(spin) ? SPIN_NEAR : SPIN_FAR;
+    return spin->before * SPIN_EACH > SPIN_NEAR ? (unsigned)spin->before * SPIN_EACH : SPIN_NEAR;
 }
 
 /* The length of a spin that begins. */
@@ -98,26 +136,30 @@ static inline unsigned begin_spin(unsigned *learned) {
 /* A spin that ends at once, as the turn is far, says nothing of the next one. */
 static inline void end_spin(struct spin *spin, unsigned *learned) {
     unsigned less = spin->spun / SHRINKS_BY, least = spin->slept ? SPIN_WOKEN : SPIN_FAR;
-    if (spin->spun > SPIN_FAR + LONGEST_PAUSE) *learned = less > least ? less : least;
+    if (spin->most > SPIN_FAR) *learned = less > least ? less : least;
     spin->spun = 0;
     spin->slept = 1;
 }
 
-/* Whether a waiter with this number before it is to spin on. If it is time to sleep: 0; the next call begins a new
- * spin. The number may be another with each call. It reads no clock: a thread that loses its processor spins on
+/* Whether a waiter with this number of threads before it is to spin on. If it is time to sleep: 0; the next call begins
+ * a new spin. The number may be another with each call. It reads no clock: a thread that loses its processor spins on
  * afterwards. */
 static inline int qolb_spins_on_(struct spin *spin, uint64_t before) {
-    unsigned *learned = &qolb_learned_[spin->slept ? WOKEN_SPIN : FIRST_SPIN], most = longest_spin(before);
-    unsigned patience = spin->spun ? *learned : begin_spin(learned);
-    if (spin->spun + POLL_PAUSE <= (patience < most ? patience : most) && pauses_in_1024()) return 1;
+    unsigned *learned = &qolb_learned_[spin->slept ? WOKEN_SPIN : FIRST_SPIN];
+    unsigned patience = spin->spun ? *learned : begin_spin(learned), may_spin = pauses_in_1024();
+    spin->before = before;
+    spin->most = longest_spin(spin);
+    if (patience < SPIN_NEAR && patience < spin->most) spin->most = patience;
+    if (spin->spun + POLL_PAUSE <= spin->most && may_spin) return 1;
     return end_spin(spin, learned), 0;
 }
 
-/* Pauses before a poll; a waiter that was woken yields first. */
+/* Pauses before a poll. A waiter that was woken yields first: it may have taken the processor from the holder. */
 static inline void qolb_spin_for_(struct spin *spin, unsigned pause) {
-    if (spin->slept && spin->spun == 0) sched_yield();
-    qolb_pause_(pause);
-    spin->spun += pause;
+    unsigned left = spin->most - spin->spun;
+    if ((spin->slept && spin->spun == 0) || is_to_yield(spin)) qolb_yield_();
+    qolb_pause_(pause < left ? pause : left);
+    spin->spun += pause < left ? pause : left;
 }
 
 /* Both, of a node: pauses, and returns 1; or 0, at once. */
@@ -125,9 +167,26 @@ static inline int qolb_spin_once_(struct spin *spin, uint64_t before) {
     return qolb_spins_on_(spin, before) ? qolb_spin_for_(spin, NODE_PAUSE), 1 : 0;
 }
 
-/* The same for the queue head of a lock with bursts, which pauses for `pause` nanoseconds between two looks. It has
- * spun for `*spun` since its wait began, or since it slept. A spin in which turns ended pays, as a head that sleeps has
- * to be woken by who leaves; one in which none did makes the next one shorter, down to 2 us. */
+/* ---- Waiting for the word of a barging lock ---- */
+
+/* A thread that spins before it queues. {0} when it begins. */
+struct barge {
+    unsigned spun, pause; /* nanoseconds: so far, and the last time */
+};
+
+/* Pauses before a look, and returns 1; or 0, at once, when it is time to queue. */
+static inline int qolb_barge_once_(struct barge *barge) {
+    unsigned twice = barge->pause * 2;
+    barge->pause = twice == 0 ? BARGE_PAUSE : twice < BARGE_LONGEST ? twice : BARGE_LONGEST;
+    if (barge->spun >= BARGE_SPIN || !qolb_pause_(barge->pause)) return 0;
+    if (barge->spun >= BARGE_YIELD_FROM) qolb_yield_();
+    barge->spun += barge->pause;
+    return 1;
+}
+
+/* The same for the queue head, which pauses for `pause` nanoseconds between two looks. It has spun for `*spun` since
+ * its wait began, or since it slept. A spin in which critical sections ended pays, because a head that sleeps has to be
+ * woken by the thread that leaves; one in which none did makes the next one shorter, down to 2 us. */
 static inline int qolb_watch_once_(unsigned *spun, unsigned pause, int pays) {
     unsigned *learned = &qolb_learned_[HEAD_SPIN], least = SPIN_FAR;
     unsigned patience = *spun ? *learned : begin_spin(learned), less = patience / SHRINKS_BY;

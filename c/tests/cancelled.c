@@ -62,13 +62,13 @@ static int cancelled(uint32_t kind, int how, int busy) {
         WANT(qolb_acquire_within(&n[2], 30000000000), QOLB_GRANTED);
     }
     WANT(told == PTHREAD_CANCELED, 1);
-    WANT(waiter.got, how == SHORT ? QOLB_LATE : QOLB_GRANTED);
+    WANT(waiter.got, how == SHORT ? QOLB_TIMEDOUT : QOLB_GRANTED);
     WANT(waiter.released, how == SHORT ? 99 : QOLB_DONE);
     WANT(qolb_state(&waiter.node), how == SHORT ? QOLB_STATE_ROLLED : QOLB_STATE_IDLE);
     WANT(qolb_deqolb(&n[2]), QOLB_DONE);
     WANT(qolb_acquire(&waiter.node), QOLB_GRANTED);
     WANT(qolb_deqolb(&waiter.node), QOLB_DONE);
-    WANT(qolb_close(&n[0]) + qolb_close(&n[2]) + qolb_close(&waiter.node), QOLB_DONE);
+    WANT(qolb_node_free(&n[0]) + qolb_node_free(&n[2]) + qolb_node_free(&waiter.node), QOLB_DONE);
     return 0;
 }
 

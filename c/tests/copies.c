@@ -35,20 +35,20 @@ static int find_both(void) {
     if (!library) return puts(dlerror()), 1;
     own = (struct copy){.enter = qolb_lock_enter,
                         .leave = qolb_lock_leave,
-                        .close = qolb_lock_close,
+                        .close = qolb_lock_destroy,
                         .is_mine = qolb_lock_is_mine,
                         .open_line = qolb_open,
                         .acquire = qolb_acquire,
                         .deqolb = qolb_deqolb,
-                        .close_node = qolb_close};
+                        .close_node = qolb_node_free};
     *(void **)&other.enter = named(library, "qolb_lock_enter");
     *(void **)&other.leave = named(library, "qolb_lock_leave");
-    *(void **)&other.close = named(library, "qolb_lock_close");
+    *(void **)&other.close = named(library, "qolb_lock_destroy");
     *(void **)&other.is_mine = named(library, "qolb_lock_is_mine");
     *(void **)&other.open_line = named(library, "qolb_open");
     *(void **)&other.acquire = named(library, "qolb_acquire");
     *(void **)&other.deqolb = named(library, "qolb_deqolb");
-    *(void **)&other.close_node = named(library, "qolb_close");
+    *(void **)&other.close_node = named(library, "qolb_node_free");
     WANT(own.enter != other.enter && own.acquire != other.acquire, 1);
     return 0;
 }

@@ -1,4 +1,4 @@
-/* The proved lock (src/core.h) by many threads at once, strict and with bursts: sums are exact, no two are served,
+/* The proved lock (src/core.h) by many threads at once, strict and with barging: sums are exact, no two are served,
  * turns are in the order of tickets, no more newcomers overtake than the bound, nobody is served while the lock is
  * shut; who sleeps by the announced address and value is woken. And by one thread: each call that a ticket's state does
  * not allow is misuse and changes nothing; a lock lies in the room that it is opened in.
@@ -6,7 +6,7 @@
  *   build/core_c [ROUNDS [THREADS]]       400 rounds by two threads, as many in all by more, up to 64 threads */
 #define _GNU_SOURCE
 #include "../src/core.h"
-#include "../src/gaps.h"
+#include "../src/heap.h"
 #include <linux/futex.h>
 #include <pthread.h>
 #include <sched.h>
@@ -36,15 +36,16 @@ enum { MOST_THREADS = 64, MOST_LOCKS = 256, NEAR = 15, FEW_LOOKS = 4 };
 static uint64_t labels; /* each lock has one of its own */
 
 /* Opens a lock, in a room of its own: a lock on the heap would be there for ever. */
-static struct qolb_core opened(uint64_t burst) {
+static struct qolb_core opened(uint64_t barging) {
     static _Alignas(128) struct { char words[256], slots[128], block[128]; } rooms[MOST_LOCKS];
     static int used;
     struct qolb_core core;
     CHECK(used < MOST_LOCKS);
-    qolb_core_room_ = (struct core_room){rooms[used].words, rooms[used].slots, rooms[used].block};
+    struct core_arena arena = {{rooms[used].words, rooms[used].slots, rooms[used].block}, 0};
+    qolb_core_arena_ = &arena;
     used++;
-    CHECK(qolb_core_open_proved_(burst, ++labels, &core) == QOLB_DONE);
-    qolb_core_room_ = (struct core_room){NULL, NULL, NULL};
+    CHECK(qolb_core_open_proved_(barging, ++labels, &core) == QOLB_DONE);
+    qolb_core_arena_ = NULL;
     return core;
 }
 
@@ -55,7 +56,7 @@ enum { TRIES = 1, NEARS = 2, WITHDRAWS = 4, SLEEPS = 8, SHUTS = 16 };
 
 static struct scene {
     struct qolb_core core;
-    uint64_t burst;
+    uint64_t barging;
     int does;
     long rounds;
     /* Guarded by the lock. */
@@ -85,7 +86,7 @@ static int does(struct caller *caller, int what) { return (scene.does & what) &&
 static void sleep_at(uint32_t *at, uint32_t value) { syscall(SYS_futex, at, FUTEX_WAIT_PRIVATE, value, NULL, NULL, 0); }
 static void wake_at(uint32_t *at) { syscall(SYS_futex, at, FUTEX_WAKE_PRIVATE, 0x7fffffff, NULL, NULL, 0); }
 
-static int has_bursts(void) { return scene.burst > 1; }
+static int is_barging(void) { return scene.barging > 1; }
 
 /* A turn: nobody else is served, and the order and the bound are kept. */
 static void is_served(struct caller *caller, int is_head) {
@@ -100,7 +101,7 @@ static void is_served(struct caller *caller, int is_head) {
     } else {
         scene.newcomers++;
         if (scene.newcomers > scene.most_newcomers) scene.most_newcomers = scene.newcomers;
-        CHECK(scene.newcomers < (long)scene.burst);
+        CHECK(scene.newcomers < (long)scene.barging);
     }
     if (does(caller, SHUTS)) {
         CHECK(qolb_core_shut_proved_(&scene.core, &caller->ticket) == QOLB_DONE);
@@ -145,7 +146,7 @@ static void strict_turn(struct caller *caller) {
     pass_on(caller);
 }
 
-/* The queue head of a lock with bursts. */
+/* The queue head of a barging lock. */
 static void head_turn(struct caller *caller) {
     uint32_t got;
     for (int looks = 0; (got = qolb_core_take_outer_proved_(&scene.core, &caller->ticket)) == QOLB_WAITING; looks++) {
@@ -154,7 +155,7 @@ static void head_turn(struct caller *caller) {
         if (looks <= FEW_LOOKS) sched_yield();
         else if (qolb_core_announce_head_sleep_proved_(&scene.core, &caller->ticket) == QOLB_ASLEEP_) {
             scene.head_slept++;
-            sleep_at(qolb_core_outer_(&scene.core), (uint32_t)caller->ticket.outer);
+            sleep_at(qolb_core_outer_(&scene.core), (uint32_t)caller->ticket.lock_word);
         }
     }
     CHECK(got == QOLB_GRANTED || got == QOLB_CLOSED);
@@ -213,12 +214,12 @@ static void *calls(void *of) {
     struct caller *caller = of;
     pthread_barrier_wait(&all_there);
     for (long k = 0; k < scene.rounds; k++) {
-        if (has_bursts() && goes_in(caller)) {
+        if (is_barging() && goes_in(caller)) {
             is_served(caller, 0);
             leave(caller);
             scene.by_outer++;
         } else if (asks(caller) && (caller->ticket.state == QOLB_TICKET_AT_TURN_ || waits(caller))) {
-            if (has_bursts()) head_turn(caller);
+            if (is_barging()) head_turn(caller);
             else strict_turn(caller);
         }
         CHECK(caller->ticket.state == QOLB_TICKET_FREE_);
@@ -227,19 +228,19 @@ static void *calls(void *of) {
 }
 
 /* Of all scenes: what is in each run, what is of luck, and the most in a row. */
-static const char *const counted[] = {"turns",           "by the outer word",       "tried", "shut", "withdrawn",
-                                      "slept",           "slept at the outer word", "far",   "told", "reopened",
+static const char *const counted[] = {"turns",           "by the lock word",       "tried", "shut", "withdrawn",
+                                      "slept",           "slept at the lock word", "far",   "told", "reopened",
                                       "drawn by another"};
 enum { COUNTS = sizeof counted / sizeof counted[0], CERTAIN = 4 };
 static long sums[COUNTS + 1];
 
-static void plays(int threads, uint64_t burst, int does_what, long rounds) {
+static void plays(int threads, uint64_t barging, int does_what, long rounds) {
     static struct caller callers[MOST_THREADS];
     pthread_t thread[MOST_THREADS];
     memset(&scene, 0, sizeof scene);
     memset(callers, 0, sizeof callers);
-    scene.core = opened(burst);
-    scene.burst = burst;
+    scene.core = opened(barging);
+    scene.barging = barging;
     scene.does = does_what;
     scene.rounds = rounds;
     scene.last_number = -1;
@@ -267,7 +268,7 @@ static const struct {
     const char *name;
     call *call;
     int allowed; /* the states that allow it, as bits */
-    uint64_t least_burst, most_burst;
+    uint64_t least_barging, most_barging;
 } every[] = {
 #define FREE (1 << QOLB_TICKET_FREE_)
 #define WAITING (1 << QOLB_TICKET_WAITING_)
@@ -310,49 +311,49 @@ static void is_misuse(const struct qolb_core *core, struct qolb_ticket *ticket, 
 }
 
 /* With a ticket in this state: each call that the state or the lock does not allow, and each call of another lock. */
-static void misuses(const struct qolb_core *core, uint64_t burst, struct qolb_ticket *ticket, uint32_t state) {
-    struct qolb_core other = opened(burst);
+static void misuses(const struct qolb_core *core, uint64_t barging, struct qolb_ticket *ticket, uint32_t state) {
+    struct qolb_core other = opened(barging);
     CHECK(ticket->state == state);
     for (int k = 0; k < CALLS; k++) {
-        int fits = burst >= every[k].least_burst && burst <= every[k].most_burst;
+        int fits = barging >= every[k].least_barging && barging <= every[k].most_barging;
         if (!fits || !(every[k].allowed >> state & 1)) is_misuse(core, ticket, k);
         if (state != QOLB_TICKET_FREE_) is_misuse(&other, ticket, k);
     }
 }
 
-static void all_misuse(uint64_t burst) {
-    struct qolb_core core = opened(burst);
+static void all_misuse(uint64_t barging) {
+    struct qolb_core core = opened(barging);
     struct qolb_ticket a, b, c;
     memset(&a, 0, sizeof a), memset(&b, 0, sizeof b), memset(&c, 0, sizeof c);
-    misuses(&core, burst, &a, QOLB_TICKET_FREE_);
+    misuses(&core, barging, &a, QOLB_TICKET_FREE_);
     CHECK(qolb_core_ask_proved_(&core, &a) == QOLB_GRANTED);
-    misuses(&core, burst, &a, QOLB_TICKET_AT_TURN_);
+    misuses(&core, barging, &a, QOLB_TICKET_AT_TURN_);
     CHECK(qolb_core_ask_proved_(&core, &b) == QOLB_WAITING);
-    misuses(&core, burst, &b, QOLB_TICKET_WAITING_);
+    misuses(&core, barging, &b, QOLB_TICKET_WAITING_);
     CHECK(qolb_core_announce_sleep_proved_(&core, &b) == QOLB_ASLEEP_);
-    misuses(&core, burst, &b, QOLB_TICKET_ASLEEP_);
+    misuses(&core, barging, &b, QOLB_TICKET_ASLEEP_);
     CHECK(qolb_core_retract_sleep_proved_(&core, &b) == QOLB_WAITING);
-    call *serve = burst > 1 ? qolb_core_take_outer_proved_ : qolb_core_check_open_proved_;
+    call *serve = barging > 1 ? qolb_core_take_outer_proved_ : qolb_core_check_open_proved_;
     CHECK(serve(&core, &a) == QOLB_GRANTED);
-    misuses(&core, burst, &a, burst > 1 ? QOLB_TICKET_HEAD_INSIDE_ : QOLB_TICKET_SERVED_);
-    if (burst > 1) {
+    misuses(&core, barging, &a, barging > 1 ? QOLB_TICKET_HEAD_INSIDE_ : QOLB_TICKET_SERVED_);
+    if (barging > 1) {
         CHECK(qolb_core_release_proved_(&core, &a) == QOLB_DONE);
-        misuses(&core, burst, &a, QOLB_TICKET_INSIDE_);
+        misuses(&core, barging, &a, QOLB_TICKET_INSIDE_);
         CHECK(qolb_core_shut_proved_(&core, &a) == QOLB_DONE);
-        misuses(&core, burst, &a, QOLB_TICKET_INSIDE_SHUT_);
+        misuses(&core, barging, &a, QOLB_TICKET_INSIDE_SHUT_);
         CHECK(qolb_core_leave_proved_(&core, &a) == QOLB_DONE);
     } else {
         CHECK(qolb_core_shut_proved_(&core, &a) == QOLB_DONE);
-        misuses(&core, burst, &a, QOLB_TICKET_SERVED_SHUT_);
+        misuses(&core, barging, &a, QOLB_TICKET_SERVED_SHUT_);
         CHECK(qolb_core_release_proved_(&core, &a) == QOLB_DONE);
     }
-    misuses(&core, burst, &a, QOLB_TICKET_FREE_);
+    misuses(&core, barging, &a, QOLB_TICKET_FREE_);
     CHECK(qolb_core_poll_proved_(&core, &b) == QOLB_GRANTED && serve(&core, &b) == QOLB_CLOSED);
-    misuses(&core, burst, &b, burst > 1 ? QOLB_TICKET_HEAD_INSIDE_SHUT_ : QOLB_TICKET_SERVED_SHUT_);
+    misuses(&core, barging, &b, barging > 1 ? QOLB_TICKET_HEAD_INSIDE_SHUT_ : QOLB_TICKET_SERVED_SHUT_);
     CHECK(qolb_core_reopen_proved_(&core, &b) == QOLB_GRANTED && qolb_core_release_proved_(&core, &b) == QOLB_DONE);
-    if (burst > 1) CHECK(qolb_core_leave_proved_(&core, &b) == QOLB_DONE);
+    if (barging > 1) CHECK(qolb_core_leave_proved_(&core, &b) == QOLB_DONE);
     /* A free ticket may go to another lock. */
-    struct qolb_core other = opened(burst);
+    struct qolb_core other = opened(barging);
     CHECK(qolb_core_ask_proved_(&other, &b) == QOLB_GRANTED && qolb_core_release_proved_(&other, &b) == QOLB_DONE);
     CHECK(qolb_core_try_ask_proved_(&core, &c) == QOLB_GRANTED && qolb_core_release_proved_(&core, &c) == QOLB_DONE);
 }
@@ -368,9 +369,11 @@ static void opens(void) {
     struct qolb_ticket ticket;
     memset(&ticket, 0, sizeof ticket);
     for (int again = 0; again < 2; again++) {
-        qolb_core_room_ = (struct core_room){words, slots, block};
+        struct core_arena arena = {{words, slots, block}, 0};
+        qolb_core_arena_ = &arena;
         CHECK(qolb_core_open_proved_(4, ++labels, &core) == QOLB_DONE);
-        CHECK(!qolb_core_room_.words && !qolb_core_room_.slots && !qolb_core_room_.block);
+        CHECK(arena.taken == CORE_BLOCKS);
+        qolb_core_arena_ = NULL;
         CHECK(core.at == (void *)block && qolb_core_words_(&core) == (void *)words);
         /* The second time the ticket is of the lock that lay there before. */
         CHECK(qolb_core_ask_proved_(&core, &ticket) == QOLB_GRANTED && ticket.number == 0);

@@ -10,7 +10,7 @@
 #include "accesses.h"
 
 #include "../src/core.h"
-#include "../src/gaps.h"
+#include "../src/heap.h"
 
 /* The stand-in, by other names. */
 #define qolb_core_open_proved_ stand_in_open
@@ -119,11 +119,12 @@ struct side {
 };
 static struct side proved, stand_in;
 
-static void opens(struct side *side, uint32_t (*open)(uint64_t, uint64_t, struct qolb_core *), uint64_t burst,
+static void opens(struct side *side, uint32_t (*open)(uint64_t, uint64_t, struct qolb_core *), uint64_t barging,
                   uint64_t label) {
-    qolb_core_room_ = (struct core_room){side->words, side->slots, side->block};
-    if (open(burst, label, &side->core) != QOLB_DONE) abort();
-    qolb_core_room_ = (struct core_room){NULL, NULL, NULL};
+    struct core_arena arena = {{side->words, side->slots, side->block}, 0};
+    qolb_core_arena_ = &arena;
+    if (open(barging, label, &side->core) != QOLB_DONE) abort();
+    qolb_core_arena_ = NULL;
 }
 
 static void differs(int k, const char *what, uint64_t got, uint64_t wanted) {
@@ -137,7 +138,7 @@ static void compares(int k, uint32_t got, const struct qolb_ticket *ticket, cons
 #define SAME(field) \
     if (ticket->field != other->field) differs(k, #field, ticket->field, other->field)
     SAME(state);
-    SAME(outer);
+    SAME(lock_word);
     if (ticket->state != QOLB_TICKET_FREE_ || got == QOLB_DONE) {
         SAME(number);
         SAME(sleepers);
@@ -246,12 +247,12 @@ static int seldom_meets(int k) {
 }
 
 static void schedule(uint64_t label) {
-    static const uint64_t bursts[] = {0, 1, 2, 3, 16};
+    static const uint64_t limits[] = {0, 1, 2, 3, 16};
     int far_off = label % FAR_OFF == 0; /* enough tickets that some can't be withdrawn */
     unsigned tickets = far_off ? MOST_TICKETS : 2 + (unsigned)draw(5);
-    uint64_t burst = bursts[draw(5)];
-    opens(&proved, qolb_core_open_proved_, burst, label);
-    opens(&stand_in, stand_in_open, burst, label);
+    uint64_t barging = limits[draw(5)];
+    opens(&proved, qolb_core_open_proved_, barging, label);
+    opens(&stand_in, stand_in_open, barging, label);
     /* A ticket that is free may have been of another lock. */
     for (unsigned t = 0; t < MOST_TICKETS; t++)
         if (proved.tickets[t].state != QOLB_TICKET_FREE_ || draw(2)) {
@@ -298,23 +299,23 @@ static struct accesses is_unfinished(struct side *side, bool is_proved) {
     return accesses;
 }
 
-static void unfinished(uint64_t label, uint64_t burst) {
+static void unfinished(uint64_t label, uint64_t barging) {
     struct qolb_ticket *holder = &proved.tickets[HOLDER];
-    opens(&proved, qolb_core_open_proved_, burst, label);
-    opens(&stand_in, stand_in_open, burst, label);
+    opens(&proved, qolb_core_open_proved_, barging, label);
+    opens(&stand_in, stand_in_open, barging, label);
     memset(proved.tickets, 0, sizeof proved.tickets), memset(stand_in.tickets, 0, sizeof stand_in.tickets);
     calls(asks, HOLDER);
-    if (burst > 1) calls(number_of(qolb_core_take_outer_proved_), HOLDER);
+    if (barging > 1) calls(number_of(qolb_core_take_outer_proved_), HOLDER);
     for (calls(asks_near, WITHDRAWER); proved.tickets[WITHDRAWER].rounds <= MOST_NEAR; calls(asks_near, WITHDRAWER))
         calls(withdraws, WITHDRAWER);
     struct accesses by_stand_in = is_unfinished(&stand_in, false), by = is_unfinished(&proved, true);
     same_accesses(releases, &by, &by_stand_in);
     compares(releases, QOLB_UNFINISHED_, holder, &stand_in.tickets[HOLDER]);
     if (by.count != 2 * PASSED || holder->number != PASSED) abort();
-    if (holder->state != (burst > 1 ? QOLB_TICKET_HEAD_INSIDE_ : QOLB_TICKET_ENDING_)) abort();
+    if (holder->state != (barging > 1 ? QOLB_TICKET_HEAD_INSIDE_ : QOLB_TICKET_ENDING_)) abort();
     came[releases][QOLB_UNFINISHED_]++;
     calls(releases, HOLDER);
-    if (holder->state != (burst > 1 ? QOLB_TICKET_INSIDE_ : QOLB_TICKET_FREE_)) abort();
+    if (holder->state != (barging > 1 ? QOLB_TICKET_INSIDE_ : QOLB_TICKET_FREE_)) abort();
 }
 
 /* The calls, with 65,535 sleepers counted at a cell. */

@@ -135,7 +135,7 @@ enum { THREADS = 4, NODES = 160, MOST_LINES = 64 };
 static int many(int coroutines, int rounds, unsigned seed) {
     int lines = std::min<int>(MOST_LINES, (coroutines / 2 + NODES - 1) / NODES),
         at_lock = std::max(0, coroutines - lines * NODES);
-    qolb::Lock lock(qolb::burst{static_cast<std::uint16_t>(seed % 2 * 64)});
+    qolb::Lock lock(qolb::barging{static_cast<std::uint16_t>(seed % 2 * 64)});
     std::vector<std::vector<Share>> shares(THREADS);
     std::vector<qolb::Node> last;
     added_nodes = added_lock = guarded = 0;
@@ -227,7 +227,7 @@ static int wishes_end() {
     return of_closed;
 }
 
-static Job enters(qolb::Lock &lock, qolb::Inline &now, std::vector<qolb_answer> &told, bool stays) {
+static Job enters(qolb::Lock &lock, qolb::Inline &now, std::vector<qolb_result> &told, bool stays) {
     qolb::Entered turn = co_await qolb::enter(lock, now);
     told.push_back(turn.answer());
     if (turn && stays) co_await std::suspend_always();
@@ -236,15 +236,15 @@ static Job enters(qolb::Lock &lock, qolb::Inline &now, std::vector<qolb_answer> 
 static int entering_is_told() {
     qolb::Lock lock;
     qolb::Inline now;
-    std::vector<qolb_answer> told;
+    std::vector<qolb_result> told;
     std::vector<Job> jobs;
     if (lock.enter() != QOLB_GRANTED) return 1;
     for (int k = 0; k < 3; k++) jobs.push_back(enters(lock, now, told, k == 1)), jobs.back().handle.resume();
     jobs[0].handle.destroy(); // it gives up
     lock.leave();
-    if (told != std::vector<qolb_answer>{QOLB_GRANTED}) return 1;
+    if (told != std::vector<qolb_result>{QOLB_GRANTED}) return 1;
     jobs[1].handle.destroy(); // it leaves
-    if (told != std::vector<qolb_answer>{QOLB_GRANTED, QOLB_GRANTED} || lock.enter() != QOLB_GRANTED ||
+    if (told != std::vector<qolb_result>{QOLB_GRANTED, QOLB_GRANTED} || lock.enter() != QOLB_GRANTED ||
         lock.shut() != QOLB_DONE)
         return 1;
     jobs[1] = enters(lock, now, told, false), jobs[1].handle.resume();

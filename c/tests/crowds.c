@@ -22,9 +22,9 @@ enum { SANITIZED = 0 };
 
 static qolb_lock lock;
 static int tells;
-static const uint32_t bursts[] = {0, 2, 1024};
+static const uint32_t barging[] = {0, 2, 1024};
 
-static void begin(uint32_t burst) { lock = (qolb_lock)QOLB_LOCK_INIT_BURSTS(burst); }
+static void begin(uint32_t barging) { lock = (qolb_lock)QOLB_LOCK_INIT_BARGING(barging); }
 
 static double ms_since(double since) { return (seconds(CLOCK_MONOTONIC) - since) * 1e3; }
 
@@ -49,7 +49,7 @@ static double is_late(int with_mutex) {
     until.tv_nsec += LIMIT_MS * MS;
     until.tv_sec += until.tv_nsec / 1000000000, until.tv_nsec %= 1000000000;
     if (with_mutex) MUST(pthread_mutex_timedlock(&mutex, &until) != 0, 1);
-    else MUST(qolb_lock_enter_within(&lock, (uint64_t)LIMIT_MS * MS), QOLB_LATE);
+    else MUST(qolb_lock_enter_within(&lock, (uint64_t)LIMIT_MS * MS), QOLB_TIMEDOUT);
     return ms_since(since) - LIMIT_MS;
 }
 
@@ -84,11 +84,11 @@ static void all_are_late(int with_mutex, double *late) {
 
 /* The median is within a millisecond, or twice a mutex's in the same try, as the machine may have other work; in the
  * best of some tries. */
-static int late_in_time(uint32_t burst) {
+static int late_in_time(uint32_t barging) {
     enum { ALL = WAITERS * ROUNDS, MEDIAN = ALL / 2, P99 = ALL * 99 / 100, TRIES = 5 };
     static double late[2][ALL];
     int in_time = 0;
-    begin(burst);
+    begin(barging);
     MUST(qolb_lock_enter(&lock), QOLB_GRANTED);
     pthread_mutex_lock(&mutex);
     for (int k = 0; k < TRIES && !in_time; k++) {
@@ -99,10 +99,10 @@ static int late_in_time(uint32_t burst) {
     pthread_mutex_unlock(&mutex);
     MUST(qolb_lock_leave(&lock), QOLB_DONE);
     if (tells)
-        printf("bursts %u: late by %.3f ms (median), %.3f (p99), a mutex by %.3f, %.3f\n", burst, late[0][MEDIAN],
+        printf("barging %u: late by %.3f ms (median), %.3f (p99), a mutex by %.3f, %.3f\n", barging, late[0][MEDIAN],
                late[0][P99], late[1][MEDIAN], late[1][P99]);
     WANT(SANITIZED || in_time, 1);
-    WANT(qolb_lock_close(&lock), QOLB_DONE);
+    WANT(qolb_lock_destroy(&lock), QOLB_DONE);
     return 0;
 }
 
@@ -134,7 +134,7 @@ static void tasks_wait(int many) {
 enum { SHORT = 1500 };
 
 static void *gives_up_often(void *times) {
-    for (int k = 0; k < (int)(intptr_t)times; k++) MUST(qolb_lock_enter_within(&lock, SHORT), QOLB_LATE);
+    for (int k = 0; k < (int)(intptr_t)times; k++) MUST(qolb_lock_enter_within(&lock, SHORT), QOLB_TIMEDOUT);
     return NULL;
 }
 
@@ -148,12 +148,12 @@ static size_t bytes_in_use(void) { return SANITIZED ? 0 : mallinfo2().uordblks; 
 
 /* Nobody waits for them, and one leave passes them all: by the thread's own time, and the best of three tries, or of
  * ten where the machine has other work. Of more than may be open the others draw no ticket. A task is before them: with
- * bursts it is the queue head, which each would be otherwise. */
-static int passes(int given_up, uint32_t burst) {
+ * barging it is the queue head, which each would be otherwise. */
+static int passes(int given_up, uint32_t barging) {
     double best = 1e9, wall = 1e9;
     size_t taken = 0;
     for (int round = 0; round < 3 || (round < 10 && !SANITIZED && best >= PASSED_IN_MS); round++) {
-        begin(burst);
+        begin(barging);
         MUST(qolb_lock_enter(&lock), QOLB_GRANTED);
         in_another(gives_up_often, 1);
         tasks_wait(1);
@@ -169,11 +169,11 @@ static int passes(int given_up, uint32_t burst) {
         WANT(SANITIZED || bytes_in_use() < before + 4096, 1);
         MUST(qolb_lock_try(&lock), QOLB_GRANTED);
         MUST(qolb_lock_leave(&lock), QOLB_DONE);
-        WANT(qolb_lock_close(&lock), QOLB_DONE);
+        WANT(qolb_lock_destroy(&lock), QOLB_DONE);
     }
     if (tells)
-        printf("bursts %u: %d given up: %zu bytes, passed in %.3f ms, %.3f of its own\n", burst, given_up, taken, wall,
-               best);
+        printf("barging %u: %d given up: %zu bytes, passed in %.3f ms, %.3f of its own\n", barging, given_up, taken,
+               wall, best);
     WANT(SANITIZED || best < PASSED_IN_MS, 1);
     return 0;
 }
@@ -183,13 +183,13 @@ static long looks;
 
 static void *looks_often(void *limit) {
     for (looks = 0; seconds(CLOCK_MONOTONIC) < until; looks++)
-        MUST(qolb_lock_enter_within(&lock, (uint64_t)(intptr_t)limit), QOLB_LATE);
+        MUST(qolb_lock_enter_within(&lock, (uint64_t)(intptr_t)limit), QOLB_TIMEDOUT);
     return NULL;
 }
 
 /* Calls that give up at once, again and again, beside a holder that is stalled. */
-static int looks_in_vain(double length, int limit, uint32_t burst) {
-    begin(burst);
+static int looks_in_vain(double length, int limit, uint32_t barging) {
+    begin(barging);
     MUST(qolb_lock_enter(&lock), QOLB_GRANTED);
     in_another(gives_up_often, 1);
     tasks_wait(1);
@@ -201,10 +201,10 @@ static int looks_in_vain(double length, int limit, uint32_t burst) {
     MUST(qolb_lock_leave(&lock), QOLB_DONE);
     double took = ms_since(since);
     if (tells)
-        printf("bursts %u: %ld calls of at most %d ns in %.0f s: %zu bytes, passed in %.3f ms\n", burst, looks, limit,
-               length, taken, took);
+        printf("barging %u: %ld calls of at most %d ns in %.0f s: %zu bytes, passed in %.3f ms\n", barging, looks,
+               limit, length, taken, took);
     WANT(SANITIZED || taken <= (limit ? MOST_BYTES : 4096), 1);
-    WANT(qolb_lock_close(&lock), QOLB_DONE);
+    WANT(qolb_lock_destroy(&lock), QOLB_DONE);
     return 0;
 }
 
@@ -254,7 +254,7 @@ static int keeps_the_order(void) {
         pthread_join(comer[k].id, NULL);
         WANT(comer[k].place, k);
     }
-    WANT(qolb_lock_close(&lock), QOLB_DONE);
+    WANT(qolb_lock_destroy(&lock), QOLB_DONE);
     return 0;
 }
 
@@ -279,7 +279,7 @@ static int by_the_thousand(int threads) {
     if (tells)
         printf("%d threads: in order, in %.3f ms, %ld sleeps, at most %ld\n", threads, ms_since(since), sleeps, most);
     WANT(SANITIZED || sleeps <= most, 1);
-    WANT(qolb_lock_close(&lock), QOLB_DONE);
+    WANT(qolb_lock_destroy(&lock), QOLB_DONE);
     free(comers);
     return 0;
 }
@@ -287,17 +287,17 @@ static int by_the_thousand(int threads) {
 /* ---- Tasks by the thousand ---- */
 
 /* Each has its turn in the call of the one before, without a call in another; of some each other gave up. */
-static int tasks_by_the_thousand(uint32_t burst, int gives_up) {
-    begin(burst);
+static int tasks_by_the_thousand(uint32_t barging, int gives_up) {
+    begin(barging);
     MUST(qolb_lock_enter(&lock), QOLB_GRANTED);
     tasks_wait(GIVEN_UP);
     for (int k = 0; k < GIVEN_UP; k += 2)
         if (gives_up) MUST(qolb_task_cancel(&tasks[k]), QOLB_WITHDRAWN);
     double since = seconds(CLOCK_MONOTONIC);
     MUST(qolb_lock_leave(&lock), QOLB_DONE);
-    if (tells) printf("bursts %u: %d tasks in %.3f ms\n", burst, GIVEN_UP >> gives_up, ms_since(since));
+    if (tells) printf("barging %u: %d tasks in %.3f ms\n", barging, GIVEN_UP >> gives_up, ms_since(since));
     WANT(had, GIVEN_UP);
-    WANT(qolb_lock_close(&lock), QOLB_DONE);
+    WANT(qolb_lock_destroy(&lock), QOLB_DONE);
     return 0;
 }
 
@@ -312,7 +312,7 @@ static int too_many_tasks(void) {
     MUST(qolb_lock_leave(&lock), QOLB_DONE);
     WANT(qolb_task_enter(&tasks[0], &lock, has_turn, NULL), QOLB_GRANTED);
     WANT(qolb_task_leave(&tasks[0]), QOLB_DONE);
-    WANT(qolb_lock_close(&lock), QOLB_DONE);
+    WANT(qolb_lock_destroy(&lock), QOLB_DONE);
     return 0;
 }
 
@@ -348,7 +348,7 @@ static __attribute__((noinline)) int on_the_stack(int round) {
     union {
         qolb_lock lock;
         unsigned char bytes[sizeof(qolb_lock)];
-    } it = {QOLB_LOCK_INIT_BURSTS(round % 3 ? 0 : 2)};
+    } it = {QOLB_LOCK_INIT_BARGING(round % 3 ? 0 : 2)};
     stack.lock = &it.lock, stack.inside = 0;
     atomic_store(&stack.round, round);
     await(&stack.gone, round);
@@ -356,7 +356,7 @@ static __attribute__((noinline)) int on_the_stack(int round) {
         MUST(qolb_lock_enter(&it.lock), QOLB_GRANTED);
         MUST(qolb_lock_shut(&it.lock), QOLB_DONE);
     }
-    if (round % 4 & CLOSES) MUST(qolb_lock_close(&it.lock), QOLB_DONE);
+    if (round % 4 & CLOSES) MUST(qolb_lock_destroy(&it.lock), QOLB_DONE);
     memset(it.bytes, FILLED, sizeof it.bytes);
     for (volatile int k = 0; k < 100; k++) continue;
     for (size_t k = 0; k < sizeof it.bytes; k++) WANT(it.bytes[k], FILLED);
@@ -379,10 +379,10 @@ int main(int argc, char **argv) {
     int threads = argc > 2 ? atoi(argv[2]) : 1000, locks = argc > 3 ? atoi(argv[3]) : 20000;
     tells = argc > 1;
     alarm((unsigned)length * 6 + 600);
-    for (size_t k = 0; k < sizeof bursts / sizeof bursts[0]; k++) {
-        if (late_in_time(bursts[k]) || passes(GIVEN_UP, bursts[k]) || passes(2 * MOST_OPEN, bursts[k])) return 1;
-        if (looks_in_vain(length / 6, 0, bursts[k]) || looks_in_vain(length / 6, SHORT, bursts[k])) return 1;
-        if (tasks_by_the_thousand(bursts[k], 0) || tasks_by_the_thousand(bursts[k], 1)) return 1;
+    for (size_t k = 0; k < sizeof barging / sizeof barging[0]; k++) {
+        if (late_in_time(barging[k]) || passes(GIVEN_UP, barging[k]) || passes(2 * MOST_OPEN, barging[k])) return 1;
+        if (looks_in_vain(length / 6, 0, barging[k]) || looks_in_vain(length / 6, SHORT, barging[k])) return 1;
+        if (tasks_by_the_thousand(barging[k], 0) || tasks_by_the_thousand(barging[k], 1)) return 1;
     }
     return keeps_the_order() || too_many_tasks() || by_the_thousand(SANITIZED ? threads / 5 : threads) ||
            by_the_million(locks);

@@ -36,14 +36,14 @@ struct Node {
     }
 };
 
-// Where nodes have lines of three kinds, locks are strict, and have bursts of two lengths.
-qolb::burst bursts_for(qolb_kind kind) { return qolb::burst{static_cast<std::uint16_t>(kind * 32)}; }
+// Where nodes have lines of three kinds, locks are strict, or have one of two barging limits.
+qolb::barging barging_for(qolb_kind kind) { return qolb::barging{static_cast<std::uint16_t>(kind * 32)}; }
 
 struct Lock {
     qolb::lock lock;
     std::unique_lock<qolb::lock> held{lock};
 
-    explicit Lock(qolb_kind kind) : lock(bursts_for(kind)) {}
+    explicit Lock(qolb_kind kind) : lock(barging_for(kind)) {}
     template <class Time> bool within(Time time) { return had(lock.try_lock_for(time)); }
     template <class End> bool until(End end) { return had(lock.try_lock_until(end)); }
     void can_be_had() { held.unlock(); }
@@ -60,10 +60,10 @@ struct Signal {
     qolb::Condition cond;
     bool is_so = false;
 
-    explicit Signal(qolb_kind kind) : lock(bursts_for(kind)) {}
+    explicit Signal(qolb_kind kind) : lock(barging_for(kind)) {}
     template <class Time> bool within(Time time) {
         std::unique_lock<qolb::lock> held(lock);
-        return is_so || cond.wait_for(held, time);
+        return is_so || cond.wait_for(held, time) == std::cv_status::no_timeout;
     }
     template <class End> bool until(End end) {
         std::unique_lock<qolb::lock> held(lock);

@@ -87,7 +87,7 @@ struct Line {
 constexpr qolb_node_state EMPTY = QOLB_STATE_EMPTY, IDLE = QOLB_STATE_IDLE, LINK = QOLB_STATE_LINKING,
                           QUEUED = QOLB_STATE_QUEUED, HOLDS = QOLB_STATE_HOLDING, LEFT = QOLB_STATE_LEFT,
                           ROLLED = QOLB_STATE_ROLLED, SHUT = QOLB_STATE_SHUT;
-constexpr qolb_answer DONE = QOLB_DONE, GRANTED = QOLB_GRANTED, CLOSED = QOLB_CLOSED, BUSY = QOLB_BUSY,
+constexpr qolb_result DONE = QOLB_DONE, GRANTED = QOLB_GRANTED, CLOSED = QOLB_CLOSED, BUSY = QOLB_BUSY,
                       NO = QOLB_MISUSE;
 
 // The outcome of a call that may throw.
@@ -123,7 +123,7 @@ template <class Call> int meanwhile(Line &line, Call call) {
 }
 
 constexpr int G = static_cast<int>(qolb::Got::granted), C = static_cast<int>(qolb::Got::closed),
-              B = static_cast<int>(qolb::Got::busy), L = static_cast<int>(qolb::Got::late),
+              B = static_cast<int>(qolb::Got::busy), L = static_cast<int>(qolb::Got::timed_out),
               M = static_cast<int>(qolb::Got::misuse);
 
 const int event = eventfd(0, EFD_CLOEXEC);
@@ -134,10 +134,10 @@ const int event = eventfd(0, EFD_CLOEXEC);
 const std::vector<Row> rows = {
     {"enqolb", [](Line &l) { return l.node.enqolb(); },
      {NO, GRANTED, NO, NO, NO, BUSY, BUSY, CLOSED}, {EMPTY, HOLDS, LINK, QUEUED, HOLDS, LEFT, ROLLED, SHUT}},
-    {"clear", [](Line &l) { return l.node.clear(); }, {NO, DONE, NO, NO, NO, BUSY, BUSY, DONE}, STAYS},
+    {"settle", [](Line &l) { return l.node.settle(); }, {NO, DONE, NO, NO, NO, BUSY, BUSY, DONE}, STAYS},
     {"poll", [](Line &l) { return l.node.poll(); }, {NO, NO, NO, QOLB_WAITING, NO, NO, NO, NO}, STAYS},
-    {"wait", [](Line &l) { return l.node.wait(3); }, {NO, NO, NO, QOLB_WAITING, NO, NO, NO, NO}, STAYS},
-    {"wait for no poll", [](Line &l) { return l.node.wait(0); }, {NO, NO, NO, NO, NO, NO, NO, NO}, STAYS},
+    {"spin", [](Line &l) { return l.node.spin(3); }, {NO, NO, NO, QOLB_WAITING, NO, NO, NO, NO}, STAYS},
+    {"spin for no poll", [](Line &l) { return l.node.spin(0); }, {NO, NO, NO, NO, NO, NO, NO, NO}, STAYS},
     {"notify", [](Line &l) { return l.node.notify([](void *) {}, nullptr); },
      {NO, NO, NO, QOLB_WAITING, NO, NO, NO, NO}, STAYS},
     {"notify_fd", [](Line &l) { return l.node.notify_fd(event); }, {NO, NO, NO, QOLB_WAITING, NO, NO, NO, NO}, STAYS},
@@ -166,7 +166,7 @@ const std::vector<Row> rows = {
      {NO, NO, NO, NO, DONE, NO, NO, NO}, {EMPTY, IDLE, LINK, QUEUED, IDLE, LEFT, ROLLED, SHUT}},
     {"shut", [](Line &l) { return l.node.shut(); },
      {NO, NO, NO, NO, DONE, NO, NO, NO}, {EMPTY, IDLE, LINK, QUEUED, SHUT, LEFT, ROLLED, SHUT}},
-    {"close", [](Line &l) { return l.node.close(); },
+    {"free", [](Line &l) { return l.node.free(); },
      {NO, DONE, NO, NO, NO, DONE, DONE, DONE}, {EMPTY, EMPTY, LINK, QUEUED, HOLDS, EMPTY, EMPTY, EMPTY}},
     {"turns_left", [](Line &l) { return static_cast<int>(l.node.turns_left()); }, {0, 0, 0, 0, lease, 0, 0, 0}, STAYS},
     {"number", [](Line &l) { return static_cast<int>(l.node.number()); }, {0, 2, 2, 2, 2, 2, 2, 2}, STAYS},
@@ -229,7 +229,7 @@ struct Of {
     Row prepend, clear;
 };
 
-int is_clear_then(Line &line) { return line.goes_on(), line.node.clear(); }
+int is_clear_then(Line &line) { return line.goes_on(), line.node.settle(); }
 
 const Of of_link = {
     {"prepend",
@@ -268,7 +268,7 @@ bool rounds_up(qolb_kind kind) {
     } times[] = {{0.25, 1}, {1.0, 1}, {1.5, 2}, {2.0, 2}, {16000.75, 16001}};
     for (auto time : times) {
         std::uint64_t since = now;
-        bool late = line.node.acquire_for(duration<double, std::nano>(time.nanoseconds)) == qolb::Got::late;
+        bool late = line.node.acquire_for(duration<double, std::nano>(time.nanoseconds)) == qolb::Got::timed_out;
         if (!late || now - since != time.wanted)
             return std::printf("%f ns: late after %llu\n", time.nanoseconds,
                                static_cast<unsigned long long>(now - since)),
@@ -276,19 +276,20 @@ bool rounds_up(qolb_kind kind) {
     }
     // The same for a period as fine as can be, where an hour would not fit its number; and for a coarse one.
     std::uint64_t since = now;
-    if (line.node.acquire_for(duration<std::int64_t, std::atto>(1)) != qolb::Got::late || now - since != 1)
+    if (line.node.acquire_for(duration<std::int64_t, std::atto>(1)) != qolb::Got::timed_out || now - since != 1)
         return false;
     since = now;
-    if (line.node.acquire_for(duration<std::int64_t, std::pico>(2001)) != qolb::Got::late || now - since != 3)
+    if (line.node.acquire_for(duration<std::int64_t, std::pico>(2001)) != qolb::Got::timed_out || now - since != 3)
         return false;
     since = now;
-    return line.node.acquire_for(duration<int, std::ratio<60>>(1)) == qolb::Got::late && now - since == 60000000000;
+    return line.node.acquire_for(duration<int, std::ratio<60>>(1)) == qolb::Got::timed_out &&
+           now - since == 60000000000;
 }
 
-// The bytes of a ticket line of two nodes: four cells of 256 bytes, the line, two nodes, each a multiple of 128, and
-// 128 more for each of five blocks.
+// The bytes of a ticket line of two nodes: the words and the slots of four cells and 128 more for each, what the nodes
+// share, two nodes, of a multiple of 128 less 16 and 128 more; and in C the line, two nodes and two places.
 bool tells_memory() {
-    constexpr std::uint64_t keeps = 4 * 256 + 128 + 2 * 256 + 5 * 128;
+    constexpr std::uint64_t keeps = 2 * (4 * 128 + 128) + 128 + 2 * (256 - 16 + 128) + 40 + 2 * 48 + 2 * 8;
     return qolb::memory(QOLB_TICKET, 2) == keeps && qolb::memory(QOLB_TICKET, 0) == 0 &&
            qolb::memory(QOLB_TICKET, 201) == 0;
 }

@@ -125,10 +125,10 @@ const NO_WISH: &str = "Misuse Done Done";
 #[rustfmt::skip]
 const ROWS: [Row; 31] = [
     ("enqolb", |l| told(l.node.enqolb()), ["Granted", NO, NO, NO, "Busy", "Busy", "Closed"], [Holding, Linking, Queued, Holding, Left, Rolled, Shut]),
-    ("clear", |l| told(l.node.clear()), ["Done", NO, NO, NO, "Busy", "Busy", "Done"], STAYS),
+    ("settle", |l| told(l.node.settle()), ["Done", NO, NO, NO, "Busy", "Busy", "Done"], STAYS),
     ("poll", |l| told(l.node.poll()), [NO, NO, "Waiting", NO, NO, NO, NO], STAYS),
-    ("wait", |l| told(l.node.wait(3)), [NO, NO, "Waiting", NO, NO, NO, NO], STAYS),
-    ("wait for no poll", |l| told(l.node.wait(0)), [NO; 7], STAYS),
+    ("spin", |l| told(l.node.spin(3)), [NO, NO, "Waiting", NO, NO, NO, NO], STAYS),
+    ("spin for no poll", |l| told(l.node.spin(0)), [NO; 7], STAYS),
     ("withdraw", |l| told(l.node.withdraw()), [NO, NO, "Withdrawn", NO, NO, NO, NO], [Idle, Linking, Rolled, Holding, Left, Rolled, Shut]),
     ("link", |l| told(l.node.link()), [NO, "Queued", NO, NO, NO, NO, NO], [Idle, Queued, Queued, Holding, Left, Rolled, Shut]),
     ("read", |l| l.node.read().is_some().to_string(), ["false", "false", "false", "true", "false", "false", "false"], STAYS),
@@ -146,7 +146,7 @@ const ROWS: [Row; 31] = [
     ("label", |l| l.node.label().to_string(), ["7"; 7], STAYS),
     ("acquire", |l| l.meanwhile(|node| told(node.acquire())), ["Granted", NO, NO, NO, "Granted", "Granted", "Closed"], [Holding, Linking, Queued, Holding, Holding, Holding, Shut]),
     ("try_acquire", |l| told(l.node.try_acquire()), ["Granted", NO, NO, NO, "Busy", "Busy", "Closed"], [Holding, Linking, Queued, Holding, Left, Rolled, Shut]),
-    ("acquire_for", |l| told(l.node.acquire_for(SHORT)), ["Granted", NO, NO, NO, "Late", "Late", "Closed"], [Holding, Linking, Queued, Holding, Left, Rolled, Shut]),
+    ("acquire_for", |l| told(l.node.acquire_for(SHORT)), ["Granted", NO, NO, NO, "TimedOut", "TimedOut", "Closed"], [Holding, Linking, Queued, Holding, Left, Rolled, Shut]),
     ("lock", |l| l.meanwhile(|node| of_guard(node.lock().map(Some))), ["true", NO, NO, NO, "true", "true", "Closed"], [Idle, Linking, Queued, Holding, Idle, Idle, Shut]),
     ("try_lock", |l| of_guard(l.node.try_lock()), ["true", NO, NO, NO, "None", "None", "Closed"], [Idle, Linking, Queued, Holding, Left, Rolled, Shut]),
     ("try_lock_for", |l| of_guard(l.node.try_lock_for(SHORT)), ["true", NO, NO, NO, "None", "None", "Closed"], [Idle, Linking, Queued, Holding, Left, Rolled, Shut]),
@@ -166,7 +166,7 @@ fn is_clear_then(line: &mut Line) -> String {
     let _ = line.third.link();
     line.third.deqolb();
     line.first.deqolb();
-    told(line.node.clear())
+    told(line.node.settle())
 }
 
 /// Only a link line has the first half of a request, and the state of a node that is not busy any more.
@@ -188,7 +188,7 @@ fn holds(kind: Kind, state: State, row: &Row, column: usize) {
 fn closes(kind: Kind, state: State) {
     let line = Line::new(kind, state);
     let may = matches!(state, Idle | Left | Rolled | Shut);
-    match line.node.close() {
+    match line.node.free() {
         Ok(()) => assert!(may, "a node was closed in the state {state:?}"),
         Err(mut node) => assert!(!may && node.state() == state, "a node was not closed in the state {state:?}"),
     }
@@ -224,7 +224,7 @@ fn wishes_end(kind: Kind) {
     let Line { mut node, first: mut holder, third: mut last } = Line::new(kind, Queued);
     assert_eq!((wants(&mut node, &first), wants(&mut node, &second)), (Answer::Waiting, Answer::Waiting));
     assert_eq!((last.enqolb(), wants(&mut last, &third), last.withdraw()), (Answer::Queued, Answer::Waiting, Answer::Withdrawn));
-    assert!(last.close().is_ok());
+    assert!(last.free().is_ok());
     assert_eq!(holder.deqolb(), Answer::Done);
     assert_eq!((is_told(&told_first), is_told(&told_second)), (false, true));
     assert_eq!((node.poll(), node.notify_off(), node.deqolb()), (Answer::Granted, Answer::Done, Answer::Done));
@@ -239,9 +239,9 @@ fn a_dropped_future_withdraws(kind: Kind) {
     assert_eq!((first.deqolb(), first.try_acquire()), (Answer::Done, Answer::Granted));
 }
 
-/// Of a strict mutex and of one with bursts: free, held by a thread, held by a task, free again though a future gave up, and shut.
+/// Of a strict mutex and of one with barging: free, held by a thread, held by a task, free again though a future gave up, and shut.
 fn each_future() {
-    let (mutex, lock) = (Mutex::new(0), Mutex::with_burst(0, 64));
+    let (mutex, lock) = (Mutex::new(0), Mutex::with_barging(0, 64));
     let both = || (polled(mutex.lock_async()), polled(lock.lock_async()));
     let all = |told: &str| (told.to_string(), told.to_string());
     let mut context = Context::from_waker(Waker::noop());
@@ -279,7 +279,7 @@ const TEXTS: [(Answer, &str); 16] = [
     (Answer::BadKind, "no such kind of line"),
     (Answer::TooFew, "fewer handles than nodes"),
     (Answer::Occupied, "one of the handles has a node"),
-    (Answer::Late, "the time is over, and the request is withdrawn"),
+    (Answer::TimedOut, "the time is over, and the request is withdrawn"),
 ];
 
 /// `?` takes what opening and a lock refuse, in a function whose error is any.
@@ -316,7 +316,7 @@ fn says() {
 /// What a link line of three nodes keeps: 256 bytes and 128 for each node, the line, three nodes, each a multiple of 128, and 128 more for each of
 /// six blocks.
 fn tells_memory() {
-    assert_eq!(qolb::memory(Kind::Link, 3), Some(256 + 3 * 128 + 128 + 3 * 256 + 6 * 128));
+    assert_eq!(qolb::memory(Kind::Link, 3), Some(4 * 128 + 128 + 256 + 128 + 3 * (256 - 16 + 128) + 40 + 3 * 48 + 4 * 8));
     assert_eq!((qolb::memory(Kind::Link, 0), qolb::memory(Kind::Link, 201)), (None, None));
 }
 

@@ -1,5 +1,5 @@
 /* Real-time threads at a lock: one of SCHED_FIFO never waits for a thread of SCHED_OTHER on the same processor by
- * spinning, as that one would not run meanwhile. At a strict lock and at one with bursts:
+ * spinning, as that one would not run meanwhile. At a strict lock and at one with barging:
  *
  * - Others leave and are preempted in that call by the thread that they wake; that one, in its turn, wakes another of a
  *   higher priority, which enters.
@@ -97,7 +97,7 @@ static void *closes(void *argument) {
     enter();
     leave();
     double since = seconds(CLOCK_THREAD_CPUTIME_ID);
-    MUST(qolb_lock_close(&lock), QOLB_DONE);
+    MUST(qolb_lock_destroy(&lock), QOLB_DONE);
     longest[1] = seconds(CLOCK_THREAD_CPUTIME_ID) - since;
     return argument;
 }
@@ -121,7 +121,7 @@ static void *may_be_in_real_time(void *argument) {
 }
 
 int main(int argc, char **argv) {
-    static const uint32_t bursts[] = {0, 2, 1024};
+    static const uint32_t barging[] = {0, 2, 1024};
     pthread_t thread;
     int may = 0;
     alarm(300);
@@ -132,10 +132,10 @@ int main(int argc, char **argv) {
     if (!may) return puts("fifo: not tried, as the system gives no real-time priority"), 0;
     with_mutex = argc > 1 && strcmp(argv[1], "mutex") == 0;
     if (with_mutex) return enters_when_woken_in_a_leave();
-    for (size_t k = 0; k < sizeof bursts / sizeof bursts[0]; k++) {
-        lock = (qolb_lock)QOLB_LOCK_INIT_BURSTS(bursts[k]);
+    for (size_t k = 0; k < sizeof barging / sizeof barging[0]; k++) {
+        lock = (qolb_lock)QOLB_LOCK_INIT_BARGING(barging[k]);
         if (enters_when_woken_in_a_leave() || closes_when_woken_in_a_leave()) return 1;
-        WANT(qolb_lock_close(&lock), QOLB_DONE);
+        WANT(qolb_lock_destroy(&lock), QOLB_DONE);
     }
     return 0;
 }

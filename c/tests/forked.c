@@ -27,7 +27,7 @@ static int goes_on(qolb_node *n, uint64_t was, uint64_t leaves) {
 }
 
 static int closes(qolb_node *n) {
-    for (int k = 0; k < 2; k++) WANT(qolb_close(&n[k]), QOLB_DONE);
+    for (int k = 0; k < 2; k++) WANT(qolb_node_free(&n[k]), QOLB_DONE);
     return 0;
 }
 
@@ -46,7 +46,7 @@ static int forks(uint32_t kind) {
         int wrong = goes_on(n, 5, 6) || closes(n);
         wrong = wrong || qolb_open(kind, 2, 1, QOLB_NO_LEASE, &zeros, &fresh, 1) != QOLB_DONE ||
                 qolb_acquire(&fresh) != QOLB_GRANTED;
-        wrong = wrong || qolb_deqolb(&fresh) != QOLB_DONE || qolb_close(&fresh) != QOLB_DONE;
+        wrong = wrong || qolb_deqolb(&fresh) != QOLB_DONE || qolb_node_free(&fresh) != QOLB_DONE;
         exit(wrong);
     }
     WANT(waitpid(child, &ended, 0) == child, 1);
@@ -68,12 +68,12 @@ static int lock_goes_on(qolb_lock *lock, uint64_t was, uint64_t leaves) {
     WANT(qolb_lock_enter(lock), QOLB_GRANTED);
     WANT(guarded, leaves);
     WANT(qolb_lock_leave(lock), QOLB_DONE);
-    WANT(qolb_lock_close(lock), QOLB_DONE);
+    WANT(qolb_lock_destroy(lock), QOLB_DONE);
     return 0;
 }
 
-static int forks_a_lock(uint64_t burst) {
-    qolb_lock lock = QOLB_LOCK_INIT_BURSTS(burst);
+static int forks_a_lock(uint64_t barging) {
+    qolb_lock lock = QOLB_LOCK_INIT_BARGING(barging);
     int ended;
     WANT(qolb_lock_enter(&lock), QOLB_GRANTED);
     guarded = 5;

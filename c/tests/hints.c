@@ -1,12 +1,10 @@
-/* Whether a node's hints (../src/hints.h) are the words and the slots that a handoff reads and writes, and are not
- * taken for those of a node that lay there before. Prints only errors. */
+/* Whether a node's hints (../src/hints.h) are the words and the slots that a handoff reads and writes. Prints only
+ * errors. */
 #define _GNU_SOURCE
 #include <hints.h>
-#include <pthread.h>
 #include <stdio.h>
 #include <stdlib.h>
 #include <string.h>
-#include <unistd.h>
 
 enum { MOST = 200 };
 
@@ -24,27 +22,28 @@ static void open_line(uint32_t kind, uint64_t nodes, const qolb_bytes *opening) 
 }
 
 static void close_line(uint64_t nodes) {
-    for (uint64_t k = 0; k < nodes; k++) CHECK(qolb_close(&node[k]) == QOLB_DONE);
+    for (uint64_t k = 0; k < nodes; k++) CHECK(qolb_node_free(&node[k]) == QOLB_DONE);
 }
 
 /* Of a link line: node 2 has the line, node 3 waits for it and gets it. */
 static void hand_over_link(const qolb_bytes *opening) {
-    const struct hints *hints = hints_of(&node[1]);
+    struct node *my = node_of(&node[1]);
     qolb_bytes bytes = *opening;
     uint64_t was;
-    CHECK(memcmp(hints->slots, opening, sizeof *opening) == 0);
+    CHECK(memcmp(slot_of(my), opening, sizeof *opening) == 0);
     CHECK(qolb_enqolb(&node[1]) == QOLB_GRANTED);
-    CHECK(read_word(hints->home) == 2);
+    CHECK(read_word(home_of_link(my)) == 2);
     CHECK(qolb_enqolb(&node[2]) == QOLB_QUEUED);
-    CHECK(read_word(hints->home) == 3);
-    CHECK(read_word(entry_of(hints, 2)) / LINK_UNIT == 3);
-    CHECK(!(read_word(entry_of(hints, 3)) & IS_GRANTED));
+    CHECK(read_word(home_of_link(my)) == 3);
+    CHECK(own_entry(my) == entry_of(my, 2));
+    CHECK(read_word(own_entry(my)) / LINK_UNIT == 3);
+    CHECK(!(read_word(entry_of(my, 3)) & IS_GRANTED));
     CHECK(qolb_add_lane(&node[1], 0, 5, &was) == QOLB_DONE && qolb_deqolb(&node[1]) == QOLB_DONE);
-    CHECK(read_word(entry_of(hints, 3)) & IS_GRANTED);
+    CHECK(read_word(entry_of(my, 3)) & IS_GRANTED);
     bytes.byte[0] += 5;
-    CHECK(memcmp(hints->slots, &bytes, sizeof bytes) == 0);
+    CHECK(memcmp(slot_of(my), &bytes, sizeof bytes) == 0);
     CHECK(qolb_poll(&node[2]) == QOLB_GRANTED && qolb_deqolb(&node[2]) == QOLB_DONE);
-    CHECK(read_word(hints->home) == 0);
+    CHECK(read_word(home_of_link(my)) == 0);
 }
 
 /* Of another line: two nodes take turns, and each finds the bytes of the other in its slot once it is granted the line;
@@ -52,14 +51,14 @@ static void hand_over_link(const qolb_bytes *opening) {
 static void hand_over(uint32_t kind, const qolb_bytes *opening) {
     enum { TURNS = 2 * 256 };
     qolb_bytes bytes = *opening;
-    const char *first = slot_of(&node[0]);
+    const char *first = slot_of(node_of(&node[0]));
     int apart = 0;
     uint64_t was;
     CHECK(qolb_enqolb(&node[0]) == QOLB_GRANTED);
     for (int k = 0; k < TURNS; k++) {
         qolb_node *holder = &node[k % 2], *next = &node[(k + 1) % 2];
         CHECK(qolb_enqolb(next) == QOLB_QUEUED);
-        const char *slot = slot_of(next);
+        const char *slot = slot_of(node_of(next));
         CHECK(qolb_add_lane(holder, 0, 1, &was) == QOLB_DONE);
         CHECK(kind == QOLB_RING || memcmp(slot, &bytes, sizeof bytes) != 0 || k == 0);
         CHECK(qolb_read(holder, &bytes) == QOLB_DONE && qolb_deqolb(holder) == QOLB_DONE);
@@ -71,37 +70,14 @@ static void hand_over(uint32_t kind, const qolb_bytes *opening) {
     CHECK(qolb_deqolb(&node[TURNS % 2]) == QOLB_DONE);
 }
 
-/* All nodes of a line have the same, but for their number. */
+/* All nodes of a line have the same slots and words, and each an entry of its own. */
 static void check_hints(uint32_t kind, uint64_t nodes) {
-    const struct hints *first = hints_of(&node[0]);
-    CHECK((first->home != NULL) == (kind == QOLB_LINK) && first->slots && (first->step != 0) == (kind == QOLB_TICKET));
+    const struct node *first = node_of(&node[0]);
     for (uint64_t k = 0; k < nodes; k++) {
-        const struct hints *hints = hints_of(&node[k]);
-        CHECK(hints->home == first->home && hints->slots == first->slots && hints->step == first->step);
-        CHECK(hints->node == k + 1);
+        const struct node *my = node_of(&node[k]);
+        CHECK(slots_of(my) == slots_of(first));
+        CHECK(kind != QOLB_LINK || own_entry(my) == entry_of(first, k + 1));
     }
-}
-
-static void *releases_soon(void *unused) {
-    usleep(2000);
-    CHECK(qolb_deqolb(&node[1]) == QOLB_DONE);
-    return unused;
-}
-
-/* A node waits, and ends its turn by shutting the line. Those of a line that is opened then may lie where it lay, and
- * have other hints. */
-static void come_behind_one_that_waited(uint32_t kind, const qolb_bytes *opening) {
-    pthread_t id;
-    open_line(QOLB_LINK, 2, opening);
-    CHECK(qolb_acquire(&node[1]) == QOLB_GRANTED);
-    CHECK(pthread_create(&id, NULL, releases_soon, NULL) == 0);
-    CHECK(qolb_acquire(&node[0]) == QOLB_GRANTED);
-    CHECK(pthread_join(id, NULL) == 0);
-    CHECK(qolb_shut(&node[0]) == QOLB_DONE);
-    CHECK(qolb_close(&node[1]) == QOLB_DONE && qolb_close(&node[0]) == QOLB_DONE);
-    open_line(kind, 2, opening);
-    for (int k = 0; k < 2; k++) CHECK(qolb_acquire(&node[k]) == QOLB_GRANTED && qolb_deqolb(&node[k]) == QOLB_DONE);
-    close_line(2);
 }
 
 int main(void) {
@@ -116,7 +92,5 @@ int main(void) {
             if (kind != QOLB_LINK && counts[n] >= 2) hand_over(kind, &opening);
             close_line(counts[n]);
         }
-    for (int round = 0; round < 20; round++)
-        for (uint32_t kind = 0; kind < QOLB_KINDS; kind++) come_behind_one_that_waited(kind, &opening);
     return 0;
 }

@@ -42,7 +42,7 @@ static void *uses_lock(void *argument) {
         MUST(KEEPS(qolb_lock_is_mine(&lock)), 1);
         if (k % 5 == 0) {
             got = (uint32_t)KEEPS(qolb_cond_wait_within(&cond, &lock, 100 * US));
-            MUST(got == QOLB_GRANTED || got == QOLB_LATE, 1);
+            MUST(got == QOLB_GRANTED || got == QOLB_TIMEDOUT, 1);
         }
         MUST(KEEPS(qolb_cond_signal(&cond)), QOLB_DONE);
         MUST(KEEPS(qolb_lock_leave(&lock)), QOLB_DONE);
@@ -71,7 +71,7 @@ static void *finds_no_memory(void *unused) {
     has_no_memory = 1;
     uint32_t got = (uint32_t)KEEPS(qolb_lock_enter_within(&lock, 50 * US));
     has_no_memory = 0;
-    MUST(got == QOLB_GRANTED || got == QOLB_LATE, 1);
+    MUST(got == QOLB_GRANTED || got == QOLB_TIMEDOUT, 1);
     if (got == QOLB_GRANTED) MUST(qolb_lock_leave(&lock), QOLB_DONE);
     return unused;
 }
@@ -156,7 +156,7 @@ static void of_nodes(void) {
     for (uint32_t kind = 0; kind < QOLB_KINDS; kind++) {
         MUST(qolb_open(kind, 1, THREADS, QOLB_NO_LEASE, &zeros, nodes, THREADS), QOLB_DONE);
         in_threads(uses_node, each);
-        for (int k = 0; k < THREADS; k++) MUST(KEEPS(qolb_close(&nodes[k])), QOLB_DONE);
+        for (int k = 0; k < THREADS; k++) MUST(KEEPS(qolb_node_free(&nodes[k])), QOLB_DONE);
     }
 }
 #else
@@ -170,14 +170,14 @@ int main(int argc, char **argv) {
         return 0;
     }
     for (int k = 0; k < 3; k++) {
-        lock = (qolb_lock)QOLB_LOCK_INIT_BURSTS(k == 0 ? 0 : k == 1 ? 2 : 1024);
+        lock = (qolb_lock)QOLB_LOCK_INIT_BARGING(k == 0 ? 0 : k == 1 ? 2 : 1024);
         in_threads(uses_lock, NULL);
         without_memory();
         tells_a_full_descriptor();
         MUST(KEEPS(qolb_lock_enter(&lock)), QOLB_GRANTED);
         MUST(KEEPS(qolb_lock_shut(&lock)), QOLB_DONE);
         MUST(KEEPS(qolb_lock_enter(&lock)), QOLB_CLOSED);
-        MUST(KEEPS(qolb_lock_close(&lock)), QOLB_DONE);
+        MUST(KEEPS(qolb_lock_destroy(&lock)), QOLB_DONE);
     }
     of_nodes();
     return 0;

@@ -42,7 +42,7 @@ static void *work(void *argument) {
         uint32_t got = round % 3 == 0   ? qolb_try(&me->node)
                        : round % 3 == 1 ? qolb_acquire_within(&me->node, 1000000)
                                         : qolb_acquire(&me->node);
-        if (got == QOLB_BUSY || got == QOLB_LATE) {
+        if (got == QOLB_BUSY || got == QOLB_TIMEDOUT) {
             /* A node that gave up has no turn and gets none, also if the grant was at that moment: else the line would
              * stay with it. */
             uint32_t state = qolb_state(&me->node);
@@ -80,7 +80,7 @@ static int share(uint32_t kind) {
     for (int k = 0; k < THREADS; k++) {
         WANT(workers[k].wrong, 0);
         WANT(workers[k].had + workers[k].gave_up, ROUNDS);
-        WANT(qolb_close(&workers[k].node), QOLB_DONE);
+        WANT(qolb_node_free(&workers[k].node), QOLB_DONE);
 #ifndef UNGUARDED
         had += workers[k].had;
         WANT(guarded.by[k] == workers[k].had, 1);
@@ -124,7 +124,7 @@ static int told_sees(uint32_t kind, int in_halves) {
     WANT(guarded.turns, 7);
     WANT(pthread_join(id, &wrong), 0);
     WANT(wrong == NULL, 1);
-    for (int k = 0; k < 2; k++) WANT(qolb_close(&n[k]), QOLB_DONE);
+    for (int k = 0; k < 2; k++) WANT(qolb_node_free(&n[k]), QOLB_DONE);
     return 0;
 }
 
@@ -151,12 +151,12 @@ static int answers(uint32_t kind) {
     WANT(qolb_state(&n[0]), QOLB_STATE_HOLDING);
     /* The second node waits without a grant: for 20 ms, not at all, and while it is busy. */
     double since = now();
-    WANT(qolb_acquire_within(&n[1], 20000000), QOLB_LATE);
+    WANT(qolb_acquire_within(&n[1], 20000000), QOLB_TIMEDOUT);
     WANT(now() - since >= 0.02, 1);
     WANT(qolb_state(&n[1]), QOLB_STATE_ROLLED);
     WANT(qolb_enqolb(&n[1]), QOLB_BUSY);
     since = now();
-    WANT(qolb_acquire_within(&n[1], 20000000), QOLB_LATE);
+    WANT(qolb_acquire_within(&n[1], 20000000), QOLB_TIMEDOUT);
     WANT(now() - since >= 0.02, 1);
     WANT(qolb_try(&n[1]), QOLB_BUSY);
     WANT(qolb_deqolb(&n[0]), QOLB_DONE);
@@ -175,7 +175,7 @@ static int answers(uint32_t kind) {
     WANT(qolb_acquire(&n[0]), QOLB_CLOSED);
     WANT(qolb_acquire_within(&n[1], 1000000000), QOLB_CLOSED);
     WANT(qolb_turns_left(&n[1]), 0);
-    for (int k = 0; k < 2; k++) WANT(qolb_close(&n[k]), QOLB_DONE);
+    for (int k = 0; k < 2; k++) WANT(qolb_node_free(&n[k]), QOLB_DONE);
     WANT(qolb_label(&n[0]), 0);
     /* A line with no lease. */
     WANT(qolb_open(kind, 0, 1, QOLB_NO_LEASE, &zeros, n, 1), QOLB_DONE);
@@ -184,11 +184,11 @@ static int answers(uint32_t kind) {
     n[1] = qolb_move(&n[0]);
     WANT(qolb_deqolb(&n[0]), QOLB_MISUSE);
     WANT(qolb_deqolb(&n[1]), QOLB_DONE);
-    WANT(qolb_close(&n[1]), QOLB_DONE);
+    WANT(qolb_node_free(&n[1]), QOLB_DONE);
     return 0;
 }
 
-#define NAMED(answer) WANT(strcmp(qolb_answer_name(answer), #answer), 0)
+#define NAMED(answer) WANT(strcmp(qolb_result_name(answer), #answer), 0)
 
 static int names(void) {
     NAMED(QOLB_DONE);
@@ -206,8 +206,8 @@ static int names(void) {
     NAMED(QOLB_BAD_KIND);
     NAMED(QOLB_TOO_FEW);
     NAMED(QOLB_OCCUPIED);
-    NAMED(QOLB_LATE);
-    WANT(strcmp(qolb_answer_name(16), "?"), 0);
+    NAMED(QOLB_TIMEDOUT);
+    WANT(strcmp(qolb_result_name(16), "?"), 0);
     WANT(strcmp(qolb_kind_name(QOLB_RING), "ring"), 0);
     WANT(strcmp(qolb_kind_name(QOLB_LINK), "link"), 0);
     WANT(strcmp(qolb_kind_name(QOLB_TICKET), "ticket"), 0);

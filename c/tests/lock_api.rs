@@ -34,7 +34,7 @@ fn main() {
     });
     let held: MutexGuard<'_, RawQolb, u64> = COUNT.lock();
     assert_eq!(*held, 8000);
-    assert!(COUNT.try_lock().is_none() && COUNT.is_locked());
+    assert!(COUNT.is_locked() && COUNT.try_lock().is_none());
     std::thread::scope(|scope| _ = scope.spawn(is_late));
     // The holder waits for itself by no call.
     for way in ["lock", "unlocked"] {

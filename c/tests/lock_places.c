@@ -11,8 +11,8 @@
 
 enum { MANY = 40, THREADS = 4 };
 
-static qolb_lock of_bursts(uint32_t burst) {
-    qolb_lock lock = QOLB_LOCK_INIT_BURSTS(burst);
+static qolb_lock of_barging(uint32_t barging) {
+    qolb_lock lock = QOLB_LOCK_INIT_BARGING(barging);
     return lock;
 }
 
@@ -49,15 +49,15 @@ static int counted(qolb_lock *lock, long turns) {
 }
 
 /* Each multiple of 16: the lock is right, and writes to no byte before or behind it. */
-static int lies_anywhere(uint32_t burst) {
+static int lies_anywhere(uint32_t barging) {
     enum { AROUND = 128, PLACE = 16, FILLED = 0x5a };
     static _Alignas(128) unsigned char bytes[AROUND + AROUND + sizeof(qolb_lock) + AROUND];
     for (size_t at = AROUND; at < AROUND + AROUND; at += PLACE) {
         memset(bytes, FILLED, sizeof bytes);
         qolb_lock *lock = (qolb_lock *)(bytes + at);
-        *lock = of_bursts(burst);
+        *lock = of_barging(barging);
         if (counted(lock, 3000)) return 1;
-        WANT(qolb_lock_close(lock), QOLB_DONE);
+        WANT(qolb_lock_destroy(lock), QOLB_DONE);
         for (size_t k = 0; k < sizeof bytes; k++)
             if (k < at || k >= at + sizeof *lock) WANT(bytes[k], FILLED);
     }
@@ -70,25 +70,25 @@ static int takes_no_heap(void) {
     WANT(sizeof(qolb_lock), 320);
     size_t before = mallinfo2().uordblks;
     for (int k = 0; k < LOCKS; k++) {
-        locks[k] = of_bursts(k % 2 ? 0 : 64);
+        locks[k] = of_barging(k % 2 ? 0 : 64);
         WANT(qolb_lock_enter(&locks[k]), QOLB_GRANTED);
         WANT(qolb_lock_leave(&locks[k]), QOLB_DONE);
     }
     WANT(mallinfo2().uordblks, before);
-    for (int k = 0; k < LOCKS; k++) WANT(qolb_lock_close(&locks[k]), QOLB_DONE);
+    for (int k = 0; k < LOCKS; k++) WANT(qolb_lock_destroy(&locks[k]), QOLB_DONE);
     return 0;
 }
 
 /* On the stack, contended, closed at once, and others in the same bytes. */
 static int on_the_stack(void) {
     for (int round = 0; round < 300; round++) {
-        qolb_lock lock = of_bursts(round % 3 == 0 ? 0 : round % 3 == 1 ? 2 : 1024);
+        qolb_lock lock = of_barging(round % 3 == 0 ? 0 : round % 3 == 1 ? 2 : 1024);
         if (counted(&lock, 20)) return 1;
         if (round % 2) {
             WANT(qolb_lock_enter(&lock), QOLB_GRANTED);
             WANT(qolb_lock_shut(&lock), QOLB_DONE);
         }
-        WANT(qolb_lock_close(&lock), QOLB_DONE);
+        WANT(qolb_lock_destroy(&lock), QOLB_DONE);
     }
     return 0;
 }
@@ -107,7 +107,7 @@ static void *holds_many(void *argument) {
             MUST(qolb_lock_enter(&held[k]), QOLB_MISUSE);
             MUST(qolb_lock_try(&held[k]), QOLB_BUSY);
             MUST(qolb_lock_enter_within(&held[k], 0), QOLB_MISUSE);
-            MUST(qolb_lock_close(&held[k]), QOLB_MISUSE);
+            MUST(qolb_lock_destroy(&held[k]), QOLB_BUSY);
             MUST(qolb_lock_is_mine(&held[k]), 1);
         }
         for (int k = 0; k < MANY; k++) {
@@ -119,11 +119,11 @@ static void *holds_many(void *argument) {
     return NULL;
 }
 
-static int many_at_a_time(uint32_t burst) {
+static int many_at_a_time(uint32_t barging) {
     enum { TIMES = 200 };
     struct user users[THREADS] = {{0}};
     memset(guarded, 0, sizeof guarded);
-    for (int k = 0; k < MANY; k++) held[k] = of_bursts(burst);
+    for (int k = 0; k < MANY; k++) held[k] = of_barging(barging);
     for (int k = 0; k < THREADS; k++) {
         users[k].turns = TIMES;
         MUST(pthread_create(&users[k].id, NULL, holds_many, &users[k]), 0);
@@ -131,7 +131,7 @@ static int many_at_a_time(uint32_t burst) {
     for (int k = 0; k < THREADS; k++) pthread_join(users[k].id, NULL);
     for (int k = 0; k < MANY; k++) {
         WANT(guarded[k], TIMES * THREADS);
-        WANT(qolb_lock_close(&held[k]), QOLB_DONE);
+        WANT(qolb_lock_destroy(&held[k]), QOLB_DONE);
     }
     return 0;
 }
@@ -155,7 +155,7 @@ static void *waits_for_word(void *argument) {
 /* At a condition of a lock that is one of many: told by a signal, and by a shut. */
 static int waits_with_many(int shut) {
     struct user waiter = {.lock = &held[MANY - 1]};
-    for (int k = 0; k < MANY; k++) held[k] = of_bursts(k % 2 ? 64 : 0);
+    for (int k = 0; k < MANY; k++) held[k] = of_barging(k % 2 ? 64 : 0);
     has_told = 0;
     MUST(pthread_create(&waiter.id, NULL, waits_for_word, &waiter), 0);
     until_asleep(&waiter.number);
@@ -165,7 +165,7 @@ static int waits_with_many(int shut) {
     WANT(shut ? qolb_lock_shut(waiter.lock) : qolb_lock_leave(waiter.lock), QOLB_DONE);
     pthread_join(waiter.id, NULL);
     WANT(waiter.got, shut ? QOLB_CLOSED : QOLB_GRANTED);
-    for (int k = 0; k < MANY; k++) WANT(qolb_lock_close(&held[k]), QOLB_DONE);
+    for (int k = 0; k < MANY; k++) WANT(qolb_lock_destroy(&held[k]), QOLB_DONE);
     return 0;
 }
 
@@ -182,9 +182,9 @@ static void *comes_first(void *argument) {
     return NULL;
 }
 
-static int opened_once(uint32_t burst) {
+static int opened_once(uint32_t barging) {
     for (int round = 0; round < 100; round++) {
-        qolb_lock lock = of_bursts(burst);
+        qolb_lock lock = of_barging(barging);
         struct user users[THREADS] = {{0}};
         long count = 0;
         pthread_barrier_init(&together, NULL, THREADS);
@@ -195,7 +195,7 @@ static int opened_once(uint32_t burst) {
         for (int k = 0; k < THREADS; k++) pthread_join(users[k].id, NULL);
         pthread_barrier_destroy(&together);
         WANT(count, THREADS);
-        WANT(qolb_lock_close(&lock), QOLB_DONE);
+        WANT(qolb_lock_destroy(&lock), QOLB_DONE);
     }
     return 0;
 }
@@ -208,20 +208,20 @@ static void *ends_as_holder(void *unused) {
 /* The locks stay held: the first of them were in the thread's table, and the others in themselves. */
 static int holder_that_ended(void) {
     pthread_t id;
-    for (int k = 0; k < MANY; k++) held[k] = of_bursts(k % 3 ? 0 : 16);
+    for (int k = 0; k < MANY; k++) held[k] = of_barging(k % 3 ? 0 : 16);
     MUST(pthread_create(&id, NULL, ends_as_holder, NULL), 0);
     pthread_join(id, NULL);
     for (int k = 0; k < MANY; k++) {
         WANT(qolb_lock_try(&held[k]), QOLB_BUSY);
         WANT(qolb_lock_leave(&held[k]), QOLB_MISUSE);
-        WANT(qolb_lock_close(&held[k]), QOLB_MISUSE);
-        WANT(qolb_lock_enter_within(&held[k], 1000), QOLB_LATE);
+        WANT(qolb_lock_destroy(&held[k]), QOLB_BUSY);
+        WANT(qolb_lock_enter_within(&held[k], 1000), QOLB_TIMEDOUT);
     }
     for (int k = 0; k < MANY; k++) { /* other locks, in the same bytes */
-        held[k] = of_bursts(0);
+        held[k] = of_barging(0);
         WANT(qolb_lock_enter(&held[k]), QOLB_GRANTED);
         WANT(qolb_lock_leave(&held[k]), QOLB_DONE);
-        WANT(qolb_lock_close(&held[k]), QOLB_DONE);
+        WANT(qolb_lock_destroy(&held[k]), QOLB_DONE);
     }
     return 0;
 }
@@ -244,7 +244,7 @@ static void leaves_held(void) {
     for (int k = 0; k < MANY; k++) {
         MUST(qolb_lock_is_mine(&held[k]), 1);
         MUST(qolb_lock_enter(&held[k]), QOLB_MISUSE);
-        if (end.does == WAITS) MUST(qolb_cond_wait_within(&told, &held[k], 1000), QOLB_LATE);
+        if (end.does == WAITS) MUST(qolb_cond_wait_within(&told, &held[k], 1000), QOLB_TIMEDOUT);
         MUST(qolb_lock_leave(&held[k]), QOLB_DONE);
         MUST(qolb_lock_leave(&held[k]), QOLB_MISUSE);
     }
@@ -282,32 +282,32 @@ static int uses_in_a_destructor(int holds, int rounds, int does) {
     static _Alignas(4096) char stack[1 << 20];
     pthread_attr_t at_stack;
     pthread_t id;
-    for (int k = 0; k < MANY; k++) held[k] = of_bursts(k % 3 ? 0 : 16);
-    end.rounds = rounds, end.does = does, end.other = of_bursts(does % 2 ? 0 : 16);
+    for (int k = 0; k < MANY; k++) held[k] = of_barging(k % 3 ? 0 : 16);
+    end.rounds = rounds, end.does = does, end.other = of_barging(does % 2 ? 0 : 16);
     WANT(pthread_attr_init(&at_stack) | pthread_attr_setstack(&at_stack, stack, sizeof stack), 0);
     WANT(pthread_key_create(&end.key, in_a_destructor), 0);
     MUST(pthread_create(&id, &at_stack, ends_with_key, holds ? held : NULL), 0);
     pthread_join(id, NULL);
     MUST(pthread_create(&id, &at_stack, holds_none, NULL), 0);
     pthread_join(id, NULL);
-    WANT(qolb_lock_close(&end.other), does == ENTERS_AND_STAYS ? QOLB_MISUSE : QOLB_DONE);
-    for (int k = 0; k < MANY; k++) WANT(qolb_lock_close(&held[k]), holds && does >= ENTERS ? QOLB_MISUSE : QOLB_DONE);
+    WANT(qolb_lock_destroy(&end.other), does == ENTERS_AND_STAYS ? QOLB_BUSY : QOLB_DONE);
+    for (int k = 0; k < MANY; k++) WANT(qolb_lock_destroy(&held[k]), holds && does >= ENTERS ? QOLB_BUSY : QOLB_DONE);
     WANT(pthread_attr_destroy(&at_stack), 0);
     return pthread_key_delete(end.key);
 }
 
 /* A lock whose memory went while its thread held it: another in the same bytes is not held, open or not yet. */
 static int another_in_the_same_bytes(int opens) {
-    for (int k = 0; k < MANY; k++) held[k] = of_bursts(0);
+    for (int k = 0; k < MANY; k++) held[k] = of_barging(0);
     for (int k = 0; k < MANY; k++) WANT(qolb_lock_enter(&held[k]), QOLB_GRANTED);
-    for (int k = 0; k < MANY; k++) held[k] = of_bursts(k % 2 ? 64 : 0);
+    for (int k = 0; k < MANY; k++) held[k] = of_barging(k % 2 ? 64 : 0);
     for (int k = 0; opens && k < MANY; k++) WANT(qolb_lock_open(&held[k], k % 2 ? 64 : 0), QOLB_DONE);
     for (int k = 0; k < MANY; k++) WANT(qolb_lock_leave(&held[k]), QOLB_MISUSE);
     for (int k = 0; k < MANY; k++) {
         WANT(qolb_lock_enter(&held[k]), QOLB_GRANTED);
         WANT(qolb_lock_leave(&held[k]), QOLB_DONE);
         WANT(qolb_lock_leave(&held[k]), QOLB_MISUSE);
-        WANT(qolb_lock_close(&held[k]), QOLB_DONE);
+        WANT(qolb_lock_destroy(&held[k]), QOLB_DONE);
     }
     return 0;
 }
@@ -324,10 +324,10 @@ static void *enters_once(void *argument) {
 
 /* Behind more waiters than a request may have that can be withdrawn: one call gives up at its limit, one at once, and
  * one waits until they have left, or the lock is shut. While it waits the lock is not closed. */
-static int limits_behind_many(uint32_t burst, int shut) {
+static int limits_behind_many(uint32_t barging, int shut) {
     enum { WAITERS = 80 };
     static struct user waiters[WAITERS];
-    qolb_lock lock = of_bursts(burst);
+    qolb_lock lock = of_barging(barging);
     struct user last = {.lock = &lock, .turns = 20000L * MS};
     memset(waiters, 0, sizeof waiters);
     WANT(qolb_lock_enter(&lock), QOLB_GRANTED);
@@ -342,12 +342,12 @@ static int limits_behind_many(uint32_t burst, int shut) {
     MUST(pthread_create(&at_once.id, NULL, enters_once, &at_once), 0);
     pthread_join(late.id, NULL);
     pthread_join(at_once.id, NULL);
-    WANT(late.got == QOLB_LATE && at_once.got == QOLB_LATE, 1);
+    WANT(late.got == QOLB_TIMEDOUT && at_once.got == QOLB_TIMEDOUT, 1);
     WANT(seconds(CLOCK_MONOTONIC) - since >= 0.005, 1);
     WANT_UNLESS_BUSY(seconds(CLOCK_MONOTONIC) - since < 2);
     MUST(pthread_create(&last.id, NULL, enters_once, &last), 0);
     until_asleep(&last.number);
-    WANT(qolb_lock_close(&lock), QOLB_MISUSE);
+    WANT(qolb_lock_destroy(&lock), QOLB_BUSY);
     WANT(shut ? qolb_lock_shut(&lock) : qolb_lock_leave(&lock), QOLB_DONE);
     for (int k = 0; k < WAITERS; k++) {
         pthread_join(waiters[k].id, NULL);
@@ -355,7 +355,7 @@ static int limits_behind_many(uint32_t burst, int shut) {
     }
     pthread_join(last.id, NULL);
     WANT(last.got, shut ? QOLB_CLOSED : QOLB_GRANTED);
-    WANT(qolb_lock_close(&lock), QOLB_DONE);
+    WANT(qolb_lock_destroy(&lock), QOLB_DONE);
     return 0;
 }
 

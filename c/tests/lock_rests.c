@@ -5,11 +5,12 @@
  * does. Prints only errors. */
 #define _GNU_SOURCE
 #include "want.h"
-#include <lock/lock.h>
+#include <lock/entries.h>
 #include <sched.h>
 #include <stdarg.h>
 #include <stdio.h>
 #include <stdlib.h>
+#include <string.h>
 #include <sys/syscall.h>
 #include <sys/wait.h>
 #include <time.h>
@@ -18,26 +19,34 @@
 enum { MS = 1000000, KEPT = 8 };
 #define NEVER UINT64_MAX
 
-/* How often a waiter polls before it sleeps, as qolb.h says: behind the holder alone each 90 ns, for 50 us; behind one
- * more each 240 ns; farther than a round from its turn each 540 ns, until 2 us are over. A spin that ends with a sleep
- * halves the next one, which begins with an eighth more. */
+/* How often a waiter polls before it sleeps, as qolb.h says, with four processors: behind the holder alone every 90 ns,
+ * for 50 us; 250 ns later for each further thread before it; with eight before it for 2 us. A spin that ends with a
+ * sleep halves the next one, which begins with an eighth more. */
+enum { PROCESSORS = 4, SOME_BEFORE = 5, MANY_BEFORE = 8 };
+#define PAUSE(before) (90 + 250 * ((before)-1))
 enum {
-    NEAR = 50000 / 90,
-    BEHIND_ONE = (50000 - 90) / 240 + 1,
-    FAR = (2000 - 90) / 540 + 1,
+    NEAR = 50000 / PAUSE(1),
+    BEHIND_ONE = (50000 - 90) / PAUSE(2) + 1,
+    BEHIND_SOME = (50000 - 90) / PAUSE(SOME_BEFORE) + 1,
+    BEHIND_MANY = (2000 - 90) / PAUSE(MANY_BEFORE) + 1,
     LESS = NEAR * 90 / 2 * 9 / 8 / 90
 };
+
+/* How often a thread yields before it queues at a barging lock: between its looks after 200, 400, 800, .. and at last
+ * 4,000 ns, but not before the first two, for 10 us. */
+enum { YIELDS_TO_BARGE = 5 };
 
 /* The time; and since `begins` the numbers of clock calls, sleeps, polls, yields and wakes, the longest time that a
  * sleep may have lasted, and the calls that a waiter must not make. */
 static uint64_t now = 5000000000, clocks, sleeps, longest, polls, yields, wakes, wrong;
 static const void *slept_at[KEPT], *woken_at[KEPT];
+static uint64_t yield_lasts;
 
-/* An action during this number of sleeps, before this number of polls, or before a request is withdrawn. It happens
- * once. */
+/* An action during this number of sleeps or yields, before this number of polls or looks at the clock, or before a
+ * request is withdrawn. It happens once. */
 static struct {
     void (*does)(void);
-    uint64_t at_sleep, at_poll;
+    uint64_t at_sleep, at_yield, at_poll, at_clock;
     int at_withdrawal;
 } event;
 
@@ -51,20 +60,24 @@ static void begins(void (*does)(void)) {
     for (int k = 0; k < SPINS; k++) qolb_learned_[k] = 0;
     clocks = sleeps = longest = polls = yields = wakes = 0;
     event.does = does;
-    event.at_sleep = event.at_poll = 0;
+    event.at_sleep = event.at_yield = event.at_poll = event.at_clock = 0;
     event.at_withdrawal = 0;
 }
 
 int __wrap_clock_gettime(clockid_t clock, struct timespec *out) {
     if (clock != CLOCK_MONOTONIC) wrong++;
-    clocks++;
+    if (++clocks == event.at_clock) happens();
     out->tv_sec = (time_t)(now / 1000000000);
     out->tv_nsec = (long)(now % 1000000000);
     return 0;
 }
 
 int __wrap_nanosleep(const struct timespec *time, struct timespec *left) { return (void)time, (void)left, wrong++, 0; }
-int __wrap_sched_yield(void) { return yields++, 0; }
+int __wrap_sched_yield(void) {
+    now += yield_lasts;
+    if (++yields == event.at_yield) happens();
+    return 0;
+}
 
 /* A sleep without a limit ends for no reason, and so does one in which something happens; any other takes its time. */
 static void sleep_until(const void *word, uint64_t end) {
@@ -128,7 +141,7 @@ static struct turn other;
 
 static uint32_t enters(uint64_t nanoseconds) {
     other = (struct turn){0};
-    return qolb_enter_at_(lock_of(&lock), &other, nanoseconds, 0);
+    return qolb_enter_at_(lock_of(&lock), &other, end_of(nanoseconds), 0);
 }
 
 static void leaves(void) {
@@ -140,9 +153,9 @@ static void shuts(void) {
 }
 
 /* Behind some turns. */
-static int is_held(uint64_t burst) {
+static int is_held(uint64_t barging) {
     enum { TURNS = 9 };
-    lock = (qolb_lock)QOLB_LOCK_INIT_BURSTS(burst);
+    lock = (qolb_lock)QOLB_LOCK_INIT_BARGING(barging);
     for (int k = 0; k < TURNS; k++) {
         WANT(qolb_lock_enter(&lock), QOLB_GRANTED);
         leaves();
@@ -156,46 +169,47 @@ static int is_left_by_other(void) {
     begins(NULL);
     qolb_leave_at_(lock_of(&lock), &other);
     WANT(wakes, 0);
-    WANT(qolb_lock_close(&lock), QOLB_DONE);
+    WANT(qolb_lock_destroy(&lock), QOLB_DONE);
     return 0;
 }
 
 static int is_left(void) {
     leaves();
-    WANT(qolb_lock_close(&lock), QOLB_DONE);
+    WANT(qolb_lock_destroy(&lock), QOLB_DONE);
     return 0;
 }
 
 /* ---- Resting ---- */
 
 /* Late to the nanosecond, after one sleep; at once for no time at all. The request that was late stays before the next
- * one until a leave passes it. The head of a lock with bursts polls no cell. */
-static int late(uint64_t burst) {
-    if (is_held(burst)) return 1;
+ * one until a leave passes it. The head of a barging lock polls no cell. */
+static int late(uint64_t barging) {
+    if (is_held(barging)) return 1;
     for (int again = 0; again < 2; again++) {
         uint64_t since = now;
         begins(NULL);
-        WANT(enters(20 * MS), QOLB_LATE);
+        WANT(enters(20 * MS), QOLB_TIMEDOUT);
         WANT(now - since, 20 * MS);
         WANT(sleeps, 1);
-        WANT(yields, 0);
+        WANT(yields, barging ? YIELDS_TO_BARGE : 0);
         WANT(longest, 20 * MS);
-        WANT(polls, burst ? 0 : again ? BEHIND_ONE : NEAR);
+        WANT(polls, barging ? 0 : again ? BEHIND_ONE : NEAR);
     }
     begins(NULL);
-    WANT(enters(0), QOLB_LATE);
-    WANT(sleeps + polls, 0);
+    WANT(enters(0), QOLB_TIMEDOUT);
+    WANT(qolb_try_at_(lock_of(&lock), &other), QOLB_BUSY);
+    WANT(sleeps + polls + yields, 0);
     return is_left();
 }
 
-/* As long as it takes, without a look at the clock: it sleeps, and if it is woken for no reason it yields and polls
- * anew. A leave wakes it, by one call. */
+/* As long as it takes, without a look at the clock but around a yield: it sleeps, and if it is woken for no reason it
+ * yields and polls anew. A leave wakes it, by one call. */
 static int sleeps_on(void) {
     if (is_held(0)) return 1;
     begins(leaves);
     event.at_sleep = 3;
     WANT(enters(NEVER), QOLB_GRANTED);
-    WANT(clocks, 0);
+    WANT(clocks, 4);
     WANT(sleeps, 3);
     WANT(yields, 2);
     WANT(longest, NEVER);
@@ -205,14 +219,14 @@ static int sleeps_on(void) {
     return is_left_by_other();
 }
 
-/* The head of a lock with bursts: a leave wakes it at the outer word. */
+/* The head of a barging lock: a leave wakes it at the lock word. */
 static int head_sleeps_on(void) {
     if (is_held(64)) return 1;
     begins(leaves);
     event.at_sleep = 2;
     WANT(enters(NEVER), QOLB_GRANTED);
     WANT(sleeps, 2);
-    WANT(yields, 0);
+    WANT(yields, YIELDS_TO_BARGE);
     WANT(longest, NEVER);
     WANT(wakes, 1);
     WANT(woken_at[0] == slept_at[1], 1);
@@ -234,25 +248,61 @@ static int granted_awake(void) {
     return is_left();
 }
 
-/* Behind more than four it polls for less. */
-static int far_from_its_turn(void) {
-    enum { BEFORE = 7 };
-    struct turn before[BEFORE] = {{.core = 0}};
+/* Behind this number of threads, the holder among them. It waits for so long, and is late. */
+static struct turn waiting[MANY_BEFORE];
+
+static int begins_behind(unsigned before, uint64_t nanoseconds) {
+    memset(waiting, 0, sizeof waiting);
     if (is_held(0)) return 1;
-    for (int k = 0; k < BEFORE; k++)
-        WANT(qolb_core_ask_proved_(&lock_of(&lock)->core, &before[k].ticket), QOLB_WAITING);
+    for (unsigned k = 1; k < before; k++)
+        WANT(qolb_core_ask_proved_(&lock_of(&lock)->core, &waiting[k].ticket), QOLB_WAITING);
     begins(NULL);
-    WANT(enters(MS), QOLB_LATE);
-    WANT(polls, FAR);
+    WANT(enters(nanoseconds), QOLB_TIMEDOUT);
     WANT(sleeps, 1);
-    leaves();
-    for (int k = 0; k < BEFORE; k++) {
-        WANT(qolb_core_poll_proved_(&lock_of(&lock)->core, &before[k].ticket), QOLB_GRANTED);
-        WANT(qolb_core_check_open_proved_(&lock_of(&lock)->core, &before[k].ticket), QOLB_GRANTED);
-        qolb_leave_at_(lock_of(&lock), &before[k]);
-    }
-    WANT(qolb_lock_close(&lock), QOLB_DONE);
     return 0;
+}
+
+static int all_leave(unsigned before) {
+    leaves();
+    for (unsigned k = 1; k < before; k++) {
+        WANT(qolb_core_poll_proved_(&lock_of(&lock)->core, &waiting[k].ticket), QOLB_GRANTED);
+        WANT(qolb_core_check_open_proved_(&lock_of(&lock)->core, &waiting[k].ticket), QOLB_GRANTED);
+        qolb_leave_at_(lock_of(&lock), &waiting[k]);
+    }
+    WANT(qolb_lock_destroy(&lock), QOLB_DONE);
+    return 0;
+}
+
+/* Behind as many threads as there are processors, or more, it yields before each poll; behind twice as many it polls
+ * for less, and does not yield. */
+static int far_from_its_turn(void) {
+    if (begins_behind(PROCESSORS - 1, MS)) return 1;
+    WANT(yields, 0);
+    if (all_leave(PROCESSORS - 1) || begins_behind(SOME_BEFORE, MS)) return 1;
+    WANT(polls, BEHIND_SOME);
+    WANT(yields, BEHIND_SOME);
+    if (all_leave(SOME_BEFORE) || begins_behind(MANY_BEFORE, MS)) return 1;
+    WANT(polls, BEHIND_MANY);
+    WANT(yields, 0);
+    return all_leave(MANY_BEFORE);
+}
+
+/* While yields last as long as those to another program's busy thread, there are none for a quarter of a second. */
+static int stops_dear_yields(void) {
+    enum { MOST = 8, REST = 250 };
+    yield_lasts = 2 * MS;
+    if (begins_behind(SOME_BEFORE, 1000 * MS)) return 1;
+    WANT(yields, MOST);
+    if (all_leave(SOME_BEFORE) || begins_behind(SOME_BEFORE, 20 * MS)) return 1;
+    WANT(yields, 1); /* the sleep was longer than the rest */
+    if (all_leave(SOME_BEFORE) || begins_behind(SOME_BEFORE, 20 * MS)) return 1;
+    WANT(yields, 0);
+    now += REST * MS;
+    yield_lasts = MS / 100;
+    if (all_leave(SOME_BEFORE) || begins_behind(SOME_BEFORE, 20 * MS)) return 1;
+    WANT(yields, BEHIND_SOME);
+    yield_lasts = 0;
+    return all_leave(SOME_BEFORE);
 }
 
 /* The time is over, and the lock is granted, or is shut, before the withdrawal. */
@@ -262,24 +312,41 @@ static int at_the_end(int is_shut) {
     event.at_withdrawal = 1;
     WANT(enters(MS), is_shut ? QOLB_CLOSED : QOLB_GRANTED);
     if (!is_shut) return is_left_by_other();
-    WANT(qolb_lock_close(&lock), QOLB_DONE);
+    WANT(qolb_lock_destroy(&lock), QOLB_DONE);
     return 0;
 }
 
 static void time_passes(void) { now += 5 * MS; }
 
+/* ---- Spinning before it queues ---- */
+
+/* The lock is left, or shut, or the thread's time is over, while it spins: it is in, without a ticket, or is told. */
+static int spins_before_it_queues(void (*does)(void), uint64_t nanoseconds, uint32_t answer) {
+    if (is_held(64)) return 1;
+    begins(does);
+    event.at_yield = 2;
+    WANT(enters(nanoseconds), answer);
+    WANT(yields, 2);
+    WANT(sleeps + polls + wakes, 0);
+    WANT(other.ticket.state, answer == QOLB_GRANTED ? QOLB_TICKET_INSIDE_ : QOLB_TICKET_FREE_);
+    if (answer == QOLB_GRANTED) return is_left_by_other();
+    if (answer == QOLB_TIMEDOUT) return is_left();
+    WANT(qolb_lock_destroy(&lock), QOLB_DONE);
+    return 0;
+}
+
 /* Woken without a grant: the rest of the time is used. Who waits for its turn of the queue yields. */
-static int woken_for_nothing(uint64_t burst) {
+static int woken_for_nothing(uint64_t barging) {
     qolb_cond cond = QOLB_COND_INIT;
-    if (is_held(burst)) return 1;
+    if (is_held(barging)) return 1;
     for (int way = 0; way < 2; way++) {
         uint64_t since = now;
         begins(time_passes);
         event.at_sleep = 1;
-        WANT(way ? qolb_cond_wait_within(&cond, &lock, 20 * MS) : enters(20 * MS), QOLB_LATE);
+        WANT(way ? qolb_cond_wait_within(&cond, &lock, 20 * MS) : enters(20 * MS), QOLB_TIMEDOUT);
         WANT(now - since, 20 * MS);
         WANT(sleeps, 2);
-        WANT(yields, way || burst ? 0 : 1);
+        WANT(yields, way ? 0 : barging ? YIELDS_TO_BARGE : 1);
         WANT(longest, 20 * MS);
     }
     return is_left();
@@ -291,7 +358,7 @@ static int at_condition(void) {
     if (is_held(0)) return 1;
     uint64_t since = now;
     begins(NULL);
-    WANT(qolb_cond_wait_within(&cond, &lock, 20 * MS), QOLB_LATE);
+    WANT(qolb_cond_wait_within(&cond, &lock, 20 * MS), QOLB_TIMEDOUT);
     WANT(now - since, 20 * MS);
     WANT(sleeps, 1);
     WANT(polls + yields + wakes, 0);
@@ -306,23 +373,23 @@ static void has_a_turn(void *task) {
 }
 
 /* The limit counts from the call on: a task's call that is made meanwhile, as the lock is left, is in it. */
-static int at_condition_beside_a_call(uint64_t burst, uint64_t nanoseconds) {
+static int at_condition_beside_a_call(uint64_t barging, uint64_t nanoseconds) {
     qolb_cond cond = QOLB_COND_INIT;
     qolb_task task = {0};
-    if (is_held(burst)) return 1;
+    if (is_held(barging)) return 1;
     WANT(qolb_task_enter(&task, &lock, has_a_turn, &task), QOLB_WAITING);
     uint64_t since = now;
     lasts = nanoseconds;
     begins(NULL);
-    WANT(qolb_cond_wait_within(&cond, &lock, 20 * MS), QOLB_LATE);
+    WANT(qolb_cond_wait_within(&cond, &lock, 20 * MS), QOLB_TIMEDOUT);
     WANT(now - since, lasts < 20 * MS ? 20 * MS : lasts);
     WANT(sleeps, lasts < 20 * MS ? 1 : 0);
     return is_left();
 }
 
 /* A limit that would end behind the last time of the clock is none. */
-static int almost_without_a_limit(uint64_t burst) {
-    if (is_held(burst)) return 1;
+static int almost_without_a_limit(uint64_t barging) {
+    if (is_held(barging)) return 1;
     begins(leaves);
     event.at_sleep = 1;
     WANT(enters(NEVER - 1), QOLB_GRANTED);
@@ -330,8 +397,13 @@ static int almost_without_a_limit(uint64_t burst) {
     return is_left_by_other();
 }
 
-/* While the head of a lock with bursts waits newcomers have turns, until the lock is reserved for it. */
+/* While the head of a barging lock waits newcomers have turns, until the lock is reserved for it. */
 static uint64_t newcomers;
+
+enum {
+    LOOKS = 40
+}; /* by then a waiter with a limit, which looks at the clock before each look at the lock, is the head */
+static int while_it_sleeps;
 
 static void newcomer_has_a_turn(void) {
     leaves();
@@ -339,18 +411,20 @@ static void newcomer_has_a_turn(void) {
     if (qolb_lock_try(&lock) != QOLB_GRANTED) return;
     newcomers++;
     event.does = newcomer_has_a_turn;
-    event.at_sleep = sleeps + 1;
+    event.at_sleep = while_it_sleeps ? sleeps + 1 : 0;
+    event.at_clock = while_it_sleeps ? 0 : clocks + LOOKS;
 }
 
-/* The head requests the lock after a sixteenth of the burst, or a millisecond: the newcomer that is in then is the
- * last. */
-static int requests_the_lock(uint64_t burst, uint64_t each_lasts, uint64_t last) {
-    if (is_held(burst)) return 1;
+/* The head requests the lock once it was overtaken while it looked; if it slept, after a millisecond. The barging thread that
+ * is in then is the last. */
+static int requests_the_lock(int asleep, uint64_t each_lasts, uint64_t last) {
+    if (is_held(1024)) return 1;
     begins(newcomer_has_a_turn);
-    event.at_sleep = 1;
-    lasts = each_lasts, newcomers = 0;
-    WANT(enters(NEVER), QOLB_GRANTED);
+    while_it_sleeps = asleep, lasts = each_lasts, newcomers = 0;
+    event.at_sleep = asleep, event.at_clock = asleep ? 0 : LOOKS;
+    WANT(enters(20 * MS), QOLB_GRANTED);
     WANT(newcomers, last);
+    WANT(sleeps, asleep ? last + 1 : 0);
     return is_left_by_other();
 }
 
@@ -361,11 +435,14 @@ static int sleeps_at_once(void) {
     CPU_SET(sched_getcpu(), &set);
     atomic_store(&qolb_pauses_, 0);
     WANT(sched_setaffinity(0, sizeof set, &set), 0);
-    if (is_held(0)) return 1;
-    begins(NULL);
-    WANT(enters(MS), QOLB_LATE);
-    WANT(polls, 0);
-    WANT(sleeps, 1);
+    for (uint64_t barging = 0; barging <= 64; barging += 64) {
+        if (is_held(barging)) return 1;
+        begins(NULL);
+        WANT(enters(MS), QOLB_TIMEDOUT);
+        WANT(polls + yields, 0);
+        WANT(sleeps, 1);
+        if (is_left()) return 1;
+    }
     WANT(wrong, 0);
     return 0;
 }
@@ -395,7 +472,7 @@ static void next_sleeps(void) {
     }
     event.does = next_sleeps;
     event.at_sleep = sleeps + 1;
-    if (qolb_enter_at_(lock_of(&lock), &mine, 20 * MS, 0) != QOLB_LATE) wrong++;
+    if (qolb_enter_at_(lock_of(&lock), &mine, end_of(20 * MS), 0) != QOLB_TIMEDOUT) wrong++;
 }
 
 static void holder_leaves(void) { qolb_leave_at_(lock_of(&lock), &holder); }
@@ -425,7 +502,7 @@ static int guards_are_freed(void) {
     enum { PLACES = 1024, PLACE = 16 };
     static char places[PLACES * PLACE];
     for (int k = 0; k < PLACES; k++) {
-        atomic_uint *guard = qolb_guard_(&places[k * PLACE]);
+        atomic_uint *guard = guard_at((uintptr_t)&places[k * PLACE]);
         WANT(atomic_load(guard), 1);
         qolb_free_guards_();
         WANT(atomic_load(guard), 0);
@@ -437,12 +514,18 @@ int main(void) {
     alarm(60); /* who never looks at the clock, or never rests, does not end */
     if (with_one_processor()) return 1;
     atomic_store(&qolb_pauses_, 80); /* also where there is one processor */
+    atomic_store(&qolb_processors_, PROCESSORS);
     if (late(0) || late(64) || sleeps_on() || head_sleeps_on() || granted_awake() || far_from_its_turn()) return 1;
     if (at_the_end(0) || at_the_end(1) || woken_for_nothing(0) || woken_for_nothing(64) || at_condition()) return 1;
-    for (uint64_t burst = 0; burst <= 64; burst += 64)
-        if (at_condition_beside_a_call(burst, 15 * MS) || at_condition_beside_a_call(burst, 60 * MS)) return 1;
+    for (uint64_t barging = 0; barging <= 64; barging += 64)
+        if (at_condition_beside_a_call(barging, 15 * MS) || at_condition_beside_a_call(barging, 60 * MS)) return 1;
     if (almost_without_a_limit(0) || almost_without_a_limit(64)) return 1;
-    if (requests_the_lock(1024, 0, 1024 / 16 + 1) || requests_the_lock(65535, MS / 4, 4)) return 1;
+    if (stops_dear_yields()) return 1;
+    if (requests_the_lock(0, 0, 1) || requests_the_lock(1, MS / 4, 4)) return 1;
+    if (spins_before_it_queues(leaves, NEVER, QOLB_GRANTED) || spins_before_it_queues(leaves, MS, QOLB_GRANTED))
+        return 1;
+    if (spins_before_it_queues(shuts, NEVER, QOLB_CLOSED) || spins_before_it_queues(time_passes, MS, QOLB_TIMEDOUT))
+        return 1;
     if (wakes_in_order(0) || wakes_in_order(1) || guards_are_freed()) return 1;
     WANT(wrong, 0);
     return 0;

@@ -29,8 +29,8 @@ static void start(struct helper *it, void *(*work)(void *)) { MUST(pthread_creat
 
 /* ---- What each call answers ---- */
 
-static qolb_lock of_bursts(uint64_t turns) {
-    qolb_lock lock = QOLB_LOCK_INIT_BURSTS(turns);
+static qolb_lock of_barging(uint64_t turns) {
+    qolb_lock lock = QOLB_LOCK_INIT_BARGING(turns);
     return lock;
 }
 
@@ -46,37 +46,43 @@ static int of_an_unopened_one(void) {
     WANT(qolb_cond_signal(&cond), QOLB_DONE);
     WANT(qolb_cond_broadcast(&cond), QOLB_DONE);
     WANT(qolb_lock_is_mine(&lock), 0);
-    WANT(qolb_lock_close(&lock), QOLB_DONE);
+    WANT(qolb_lock_destroy(&lock), QOLB_DONE);
     WANT(memcmp(&lock, &zeros, sizeof lock), 0);
     return 0;
 }
 
 /* Each number of turns, of a lock that is opened by its first use and by the call; memory of calloc; and closed and
  * used again. */
-static int of_any_bursts(void) {
+static int of_any_barging(void) {
     static const uint64_t turns[] = {0, 1, 2, 3, 1024, 65535, 65536, (uint64_t)1 << 32, UINT64_MAX};
     qolb_lock *zeros = calloc(1, sizeof *zeros), opened = QOLB_LOCK_INIT;
     if (!zeros) return 1;
     WANT(qolb_lock_enter(zeros), QOLB_GRANTED);
     WANT(qolb_lock_leave(zeros), QOLB_DONE);
-    WANT(qolb_lock_close(zeros), QOLB_DONE);
+    WANT(qolb_lock_destroy(zeros), QOLB_DONE);
     free(zeros);
     for (size_t k = 0; k < sizeof turns / sizeof turns[0]; k++) {
-        qolb_lock lock = QOLB_LOCK_INIT_BURSTS(turns[k]);
+        qolb_lock lock = QOLB_LOCK_INIT_BARGING(turns[k]);
         for (int again = 0; again < 2; again++) {
             WANT(qolb_lock_enter(&lock), QOLB_GRANTED);
             WANT(qolb_lock_leave(&lock), QOLB_DONE);
             WANT(qolb_lock_open(&lock, 5), QOLB_OCCUPIED);
-            WANT(qolb_lock_close(&lock), QOLB_DONE);
-            WANT(lock.turns == turns[k], 1);
+            WANT(qolb_lock_destroy(&lock), QOLB_DONE);
+            WANT(lock.limit == turns[k], 1);
         }
         WANT(qolb_lock_open(&opened, turns[k]), QOLB_DONE);
         WANT(qolb_lock_open(&opened, turns[k]), QOLB_OCCUPIED);
         WANT(qolb_lock_enter(&opened), QOLB_GRANTED);
         WANT(qolb_lock_leave(&opened), QOLB_DONE);
-        WANT(qolb_lock_close(&opened), QOLB_DONE);
+        WANT(qolb_lock_destroy(&opened), QOLB_DONE);
     }
     return 0;
+}
+
+static uint64_t monotonic(void) {
+    struct timespec now;
+    clock_gettime(CLOCK_MONOTONIC, &now);
+    return (uint64_t)now.tv_sec * 1000000000 + (uint64_t)now.tv_nsec;
 }
 
 /* The answers to another thread, of a holder's lock. */
@@ -87,8 +93,13 @@ static void *of_another(void *argument) {
     MUST(qolb_lock_shut(me->lock), QOLB_MISUSE);
     MUST(qolb_cond_wait(me->cond, me->lock), QOLB_MISUSE);
     MUST(qolb_lock_try(me->lock), QOLB_BUSY);
-    MUST(qolb_lock_enter_within(me->lock, 0), QOLB_LATE);
-    MUST(qolb_lock_close(me->lock), QOLB_MISUSE);
+    MUST(qolb_lock_enter_within(me->lock, 0), QOLB_TIMEDOUT);
+    MUST(qolb_lock_enter_until(me->lock, 0), QOLB_TIMEDOUT);
+    uint64_t end = monotonic() + 20 * MS;
+    MUST(qolb_lock_enter_until(me->lock, end), QOLB_TIMEDOUT);
+    MUST(monotonic() >= end && monotonic() < end + 10000 * (uint64_t)MS, 1);
+    MUST(qolb_lock_is_held(me->lock), 1);
+    MUST(qolb_lock_destroy(me->lock), QOLB_BUSY);
     return NULL;
 }
 
@@ -99,8 +110,9 @@ static int of_others(qolb_lock *lock) {
     pthread_join(other.id, NULL);
     double since = seconds(CLOCK_MONOTONIC);
     WANT(qolb_lock_enter_within(lock, 20 * MS), QOLB_MISUSE);
+    WANT(qolb_lock_enter_until(lock, UINT64_MAX), QOLB_MISUSE);
     WANT(qolb_lock_enter(lock), QOLB_MISUSE);
-    WANT(qolb_cond_wait_within(&cond, lock, 20 * MS), QOLB_LATE);
+    WANT(qolb_cond_wait_within(&cond, lock, 20 * MS), QOLB_TIMEDOUT);
     WANT(seconds(CLOCK_MONOTONIC) - since >= 0.02, 1);
     return 0;
 }
@@ -113,25 +125,32 @@ static int of_a_shut_one(qolb_lock *lock) {
         WANT(qolb_lock_enter(lock), QOLB_CLOSED);
         WANT(qolb_lock_try(lock), QOLB_CLOSED);
         WANT(qolb_lock_enter_within(lock, MS), QOLB_CLOSED);
+        WANT(qolb_lock_enter_until(lock, UINT64_MAX), QOLB_CLOSED);
+        WANT(qolb_lock_is_held(lock), 0);
     }
-    WANT(qolb_lock_close(lock), QOLB_DONE);
+    WANT(qolb_lock_destroy(lock), QOLB_DONE);
     WANT(qolb_lock_enter(lock), QOLB_GRANTED);
     WANT(qolb_lock_leave(lock), QOLB_DONE);
-    WANT(qolb_lock_close(lock), QOLB_DONE);
+    WANT(qolb_lock_destroy(lock), QOLB_DONE);
     return 0;
 }
 
-static int of_the_holder(uint32_t burst) {
-    qolb_lock lock = of_bursts(burst);
+static int of_the_holder(uint32_t barging) {
+    qolb_lock lock = of_barging(barging);
+    WANT(qolb_lock_is_held(&lock), 0);
     WANT(qolb_lock_enter(&lock), QOLB_GRANTED);
     WANT(qolb_lock_is_mine(&lock), 1);
+    WANT(qolb_lock_is_held(&lock), 1);
     WANT(qolb_lock_try(&lock), QOLB_BUSY);
-    WANT(qolb_lock_close(&lock), QOLB_MISUSE);
+    WANT(qolb_lock_destroy(&lock), QOLB_BUSY);
     if (of_others(&lock)) return 1;
     WANT(qolb_lock_is_mine(&lock), 1);
     WANT(qolb_lock_leave(&lock), QOLB_DONE);
     WANT(qolb_lock_leave(&lock), QOLB_MISUSE);
     WANT(qolb_lock_is_mine(&lock), 0);
+    WANT(qolb_lock_is_held(&lock), 0);
+    WANT(qolb_lock_enter_until(&lock, 0), QOLB_GRANTED);
+    WANT(qolb_lock_leave(&lock), QOLB_DONE);
     WANT(qolb_lock_try(&lock), QOLB_GRANTED);
     return of_a_shut_one(&lock);
 }
@@ -161,11 +180,11 @@ static void *notes_its_turn(void *argument) {
     return NULL;
 }
 
-/* Some threads were late before, and a thread tried. Waiting threads take no processor. With bursts those that wait
+/* Some threads were late before, and a thread tried. Waiting threads take no processor. With barging those that wait
  * keep their order, too. */
-static int in_order(uint32_t burst) {
+static int in_order(uint32_t barging) {
     enum { THREADS = 8, LATE = 3 };
-    qolb_lock lock = of_bursts(burst);
+    qolb_lock lock = of_barging(barging);
     struct helper late[LATE] = {{0}}, threads[THREADS] = {{0}};
     guarded.served = 0;
     WANT(qolb_lock_enter(&lock), QOLB_GRANTED);
@@ -174,7 +193,7 @@ static int in_order(uint32_t burst) {
         late[k].nanoseconds = 3 * MS;
         start(&late[k], enters_once);
         pthread_join(late[k].id, NULL);
-        WANT(late[k].got, QOLB_LATE);
+        WANT(late[k].got, QOLB_TIMEDOUT);
         WANT(qolb_lock_enter_within(&lock, 0), QOLB_MISUSE);
         WANT(qolb_lock_try(&lock), QOLB_BUSY);
     }
@@ -191,15 +210,15 @@ static int in_order(uint32_t burst) {
         WANT(guarded.order[k], k);
         WANT_UNLESS_BUSY(threads[k].processor < 0.1);
     }
-    WANT(qolb_lock_close(&lock), QOLB_DONE);
+    WANT(qolb_lock_destroy(&lock), QOLB_DONE);
     return 0;
 }
 
 /* Many threads, one after another, the next when the last sleeps. Some give up in the middle, as they can only while
  * some sixty are before them. The lock was used before, or not. */
-static int many_in_order(int is_used, uint32_t burst) {
+static int many_in_order(int is_used, uint32_t barging) {
     enum { THREADS = 200, TURNS = 40 };
-    qolb_lock lock = of_bursts(burst);
+    qolb_lock lock = of_barging(barging);
     static struct helper threads[THREADS];
     struct helper late = {.lock = &lock, .nanoseconds = 1};
     guarded.served = 0;
@@ -217,21 +236,21 @@ static int many_in_order(int is_used, uint32_t burst) {
         if (k % 16) continue;
         start(&late, enters_once);
         pthread_join(late.id, NULL);
-        WANT(late.got, QOLB_LATE);
+        WANT(late.got, QOLB_TIMEDOUT);
         WANT(qolb_lock_try(&lock), QOLB_BUSY);
     }
     WANT(qolb_lock_leave(&lock), QOLB_DONE);
     for (int k = 0; k < THREADS; k++) pthread_join(threads[k].id, NULL);
     for (int k = 0; k < THREADS; k++) WANT(guarded.order[k], k);
-    WANT(qolb_lock_close(&lock), QOLB_DONE);
+    WANT(qolb_lock_destroy(&lock), QOLB_DONE);
     return 0;
 }
 
-/* While some threads wait, this one enters again and again. The k-th of them is overtaken at most k * (burst - 1)
+/* While some threads wait, this one enters again and again. The k-th of them is overtaken at most k * (barging - 1)
  * times; and by some turns, as it slept. */
-static int overtaken_within_the_bound(uint32_t burst) {
+static int overtaken_within_the_bound(uint32_t barging) {
     enum { THREADS = 3 };
-    qolb_lock lock = of_bursts(burst);
+    qolb_lock lock = of_barging(barging);
     struct helper threads[THREADS] = {{0}};
     guarded.served = 0;
     WANT(qolb_lock_enter(&lock), QOLB_GRANTED);
@@ -247,12 +266,12 @@ static int overtaken_within_the_bound(uint32_t burst) {
         WANT(qolb_lock_enter(&lock), QOLB_GRANTED);
         served = guarded.served;
         if (served == 0) before_first++;
-        if (served < THREADS) WANT(turns + 1 <= (uint32_t)(served + 1) * (burst - 1), 1);
+        if (served < THREADS) WANT(turns + 1 <= (uint32_t)(served + 1) * (barging - 1), 1);
     }
     for (int k = 0; k < THREADS; k++) WANT(guarded.order[k], k);
     WANT(qolb_lock_leave(&lock), QOLB_DONE);
     for (int k = 0; k < THREADS; k++) pthread_join(threads[k].id, NULL);
-    WANT(qolb_lock_close(&lock), QOLB_DONE);
+    WANT(qolb_lock_destroy(&lock), QOLB_DONE);
     shared_turns += before_first;
     return 0;
 }
@@ -263,7 +282,7 @@ static int has_one_processor(void) {
     return sched_getaffinity(0, sizeof set, &set) == 0 && CPU_COUNT(&set) == 1;
 }
 
-static int bursts(void) {
+static int barging(void) {
     static const uint32_t of[] = {2, 3, 16, 64, 1024, 65535};
     shared_turns = 0;
     for (int round = 0; round < 8; round++)
@@ -286,9 +305,9 @@ static void *has_a_long_turn(void *argument) {
     return NULL;
 }
 
-static int others_sleep_on(uint32_t burst) {
+static int others_sleep_on(uint32_t barging) {
     enum { THREADS = 12, MOST_SLEEPS = 8 };
-    qolb_lock lock = of_bursts(burst);
+    qolb_lock lock = of_barging(barging);
     struct helper threads[THREADS] = {{0}};
     WANT(qolb_lock_enter(&lock), QOLB_GRANTED);
     for (int k = 0; k < THREADS; k++) {
@@ -302,26 +321,26 @@ static int others_sleep_on(uint32_t burst) {
         WANT(threads[k].self >= 1, 1);
         WANT_UNLESS_BUSY(threads[k].self <= MOST_SLEEPS);
     }
-    WANT(qolb_lock_close(&lock), QOLB_DONE);
+    WANT(qolb_lock_destroy(&lock), QOLB_DONE);
     return 0;
 }
 
 /* Those that wait behind some that gave up are served. A lock for which threads wait is not closed. */
-static int behind_those_that_gave_up(uint32_t burst) {
+static int behind_those_that_gave_up(uint32_t barging) {
     enum { THREADS = 6 };
-    qolb_lock lock = of_bursts(burst);
+    qolb_lock lock = of_barging(barging);
     struct helper threads[THREADS] = {{0}};
     guarded.served = 0;
     WANT(qolb_lock_enter(&lock), QOLB_GRANTED);
     struct helper late = {.lock = &lock, .nanoseconds = MS};
     start(&late, enters_once);
     pthread_join(late.id, NULL);
-    WANT(late.got, QOLB_LATE);
+    WANT(late.got, QOLB_TIMEDOUT);
     double since = seconds(CLOCK_MONOTONIC);
     late.nanoseconds = 20 * MS;
     start(&late, enters_once);
     pthread_join(late.id, NULL);
-    WANT(late.got, QOLB_LATE);
+    WANT(late.got, QOLB_TIMEDOUT);
     WANT(seconds(CLOCK_MONOTONIC) - since >= 0.02, 1);
     for (int k = 0; k < THREADS; k++) {
         threads[k].lock = &lock;
@@ -329,11 +348,11 @@ static int behind_those_that_gave_up(uint32_t burst) {
         start(&threads[k], notes_its_turn);
         until_asleep(&threads[k].number);
     }
-    WANT(qolb_lock_close(&lock), QOLB_MISUSE);
+    WANT(qolb_lock_destroy(&lock), QOLB_BUSY);
     WANT(qolb_lock_leave(&lock), QOLB_DONE);
     for (int k = 0; k < THREADS; k++) pthread_join(threads[k].id, NULL);
     WANT(guarded.served, THREADS);
-    WANT(qolb_lock_close(&lock), QOLB_DONE);
+    WANT(qolb_lock_destroy(&lock), QOLB_DONE);
     return 0;
 }
 
@@ -374,7 +393,7 @@ static int cancelled(void *(*work)(void *)) {
     pthread_join(thread.id, &ended);
     WANT(ended == PTHREAD_CANCELED, 1);
     WANT(thread.self, 1);
-    WANT(qolb_lock_close(&lock), QOLB_DONE);
+    WANT(qolb_lock_destroy(&lock), QOLB_DONE);
     return 0;
 }
 
@@ -382,7 +401,7 @@ static int cancelled(void *(*work)(void *)) {
 static void *waits_a_second(void *argument) {
     struct helper *me = argument;
     double since = used().processor;
-    MUST(qolb_lock_enter_within(me->lock, 1000 * MS), QOLB_LATE);
+    MUST(qolb_lock_enter_within(me->lock, 1000 * MS), QOLB_TIMEDOUT);
     me->processor = used().processor - since;
     return NULL;
 }
@@ -391,7 +410,7 @@ static void *waits_a_second_at_condition(void *argument) {
     struct helper *me = argument;
     MUST(qolb_lock_enter(me->lock), QOLB_GRANTED);
     double since = used().processor;
-    MUST(qolb_cond_wait_within(me->cond, me->lock, 1000 * MS), QOLB_LATE);
+    MUST(qolb_cond_wait_within(me->cond, me->lock, 1000 * MS), QOLB_TIMEDOUT);
     me->processor = used().processor - since;
     MUST(qolb_lock_leave(me->lock), QOLB_DONE);
     return NULL;
@@ -403,7 +422,7 @@ static qolb_node waiting_node;
 static void *waits_a_second_with_a_node(void *argument) {
     struct helper *me = argument;
     double since = used().processor;
-    MUST(qolb_acquire_within(&waiting_node, 1000 * MS), QOLB_LATE);
+    MUST(qolb_acquire_within(&waiting_node, 1000 * MS), QOLB_TIMEDOUT);
     me->processor = used().processor - since;
     return NULL;
 }
@@ -420,8 +439,8 @@ static int open_nodes(qolb_node *held) {
 
 static int close_nodes(qolb_node *held) {
     WANT(qolb_deqolb(held), QOLB_DONE);
-    WANT(qolb_close(held), QOLB_DONE);
-    WANT(qolb_close(&waiting_node), QOLB_DONE);
+    WANT(qolb_node_free(held), QOLB_DONE);
+    WANT(qolb_node_free(&waiting_node), QOLB_DONE);
     return 0;
 }
 #else
@@ -431,7 +450,7 @@ static int close_nodes(qolb_node *held) { return held->own != NULL; }
 #endif
 
 static int waiters_take_no_processor(void) {
-    static qolb_lock held = QOLB_LOCK_INIT, free = QOLB_LOCK_INIT_BURSTS(64);
+    static qolb_lock held = QOLB_LOCK_INIT, free = QOLB_LOCK_INIT_BARGING(64);
     static qolb_cond cond = QOLB_COND_INIT;
     static void *(*const works[])(void *) = {waits_a_second, waits_a_second, waits_a_second,
                                              waits_a_second_at_condition, waits_a_second_with_a_node};
@@ -450,8 +469,8 @@ static int waiters_take_no_processor(void) {
     }
     WANT(qolb_lock_leave(&held), QOLB_DONE);
     if (close_nodes(&node)) return 1;
-    WANT(qolb_lock_close(&held), QOLB_DONE);
-    WANT(qolb_lock_close(&free), QOLB_DONE);
+    WANT(qolb_lock_destroy(&held), QOLB_DONE);
+    WANT(qolb_lock_destroy(&free), QOLB_DONE);
     return 0;
 }
 
@@ -468,9 +487,9 @@ static void *waits_at_condition(void *argument) {
     return NULL;
 }
 
-static int shut_tells_all(uint32_t burst) {
+static int shut_tells_all(uint32_t barging) {
     enum { THREADS = 9 };
-    qolb_lock lock = of_bursts(burst);
+    qolb_lock lock = of_barging(barging);
     qolb_cond cond = QOLB_COND_INIT;
     struct helper threads[THREADS] = {{0}};
     for (int k = 0; k < THREADS; k++) {
@@ -486,13 +505,13 @@ static int shut_tells_all(uint32_t burst) {
         WANT(threads[k].got, QOLB_CLOSED);
     }
     WANT(cond.own == NULL, 1);
-    WANT(qolb_lock_close(&lock), QOLB_DONE);
+    WANT(qolb_lock_destroy(&lock), QOLB_DONE);
     return 0;
 }
 
 /* Once a shut has returned every call is told CLOSED, though who waits may not have woken up yet. */
-static int shut_is_seen_at_once(uint32_t burst, uint32_t waiters, int way) {
-    qolb_lock lock = of_bursts(burst);
+static int shut_is_seen_at_once(uint32_t barging, uint32_t waiters, int way) {
+    qolb_lock lock = of_barging(barging);
     struct helper threads[4] = {{0}};
     WANT(qolb_lock_enter(&lock), QOLB_GRANTED);
     for (uint32_t k = 0; k < waiters; k++) {
@@ -508,14 +527,14 @@ static int shut_is_seen_at_once(uint32_t burst, uint32_t waiters, int way) {
         pthread_join(threads[k].id, NULL);
         WANT(threads[k].got, QOLB_CLOSED);
     }
-    WANT(qolb_lock_close(&lock), QOLB_DONE);
+    WANT(qolb_lock_destroy(&lock), QOLB_DONE);
     return 0;
 }
 
-static int shuts_seen_at_once(uint32_t burst) {
+static int shuts_seen_at_once(uint32_t barging) {
     for (uint32_t waiters = 1; waiters <= 4; waiters++)
         for (int round = 0; round < 40; round++)
-            if (shut_is_seen_at_once(burst, waiters, round % 2)) return 1;
+            if (shut_is_seen_at_once(barging, waiters, round % 2)) return 1;
     return 0;
 }
 
@@ -530,9 +549,9 @@ static int served_by(qolb_lock *lock, int less) {
 
 /* A signal wakes the thread that has waited longest and no other; a late thread is not in the list any more; a
  * broadcast wakes all. */
-static int told_in_order(uint32_t burst) {
+static int told_in_order(uint32_t barging) {
     enum { THREADS = 7 };
-    qolb_lock lock = of_bursts(burst);
+    qolb_lock lock = of_barging(barging);
     static qolb_cond cond = QOLB_COND_INIT;
     static const int told[] = {0, 2, 3, 4, 5, 6};
     struct helper threads[THREADS] = {{0}};
@@ -543,9 +562,9 @@ static int told_in_order(uint32_t burst) {
         until_asleep(&threads[k].number);
     }
     pthread_join(threads[1].id, NULL);
-    WANT(threads[1].got, QOLB_LATE);
+    WANT(threads[1].got, QOLB_TIMEDOUT);
     WANT(served_by(&lock, 1), 0);
-    WANT(qolb_lock_close(&lock), QOLB_MISUSE);
+    WANT(qolb_lock_destroy(&lock), QOLB_BUSY);
     for (int k = 0; k < 3; k++) {
         WANT(qolb_cond_signal(&cond), QOLB_DONE);
         pthread_join(threads[told[k]].id, NULL);
@@ -558,9 +577,9 @@ static int told_in_order(uint32_t burst) {
     WANT(qolb_lock_leave(&lock), QOLB_DONE);
     for (int k = 4; k < THREADS; k++) pthread_join(threads[k].id, NULL);
     for (int k = 0; k < 3; k++) WANT(guarded.order[k], told[k]);
-    for (int k = 0; k < THREADS; k++) WANT(threads[k].got, k == 1 ? QOLB_LATE : QOLB_GRANTED);
+    for (int k = 0; k < THREADS; k++) WANT(threads[k].got, k == 1 ? QOLB_TIMEDOUT : QOLB_GRANTED);
     WANT(cond.own == NULL, 1);
-    WANT(qolb_lock_close(&lock), QOLB_DONE);
+    WANT(qolb_lock_destroy(&lock), QOLB_DONE);
     return 0;
 }
 
@@ -585,7 +604,7 @@ static int interrupted(uint64_t nanoseconds) {
     pthread_join(thread.id, NULL);
     WANT(thread.got, QOLB_GRANTED);
     WANT(guarded.served, 1);
-    WANT(qolb_lock_close(&lock), QOLB_DONE);
+    WANT(qolb_lock_destroy(&lock), QOLB_DONE);
     return 0;
 }
 
@@ -606,7 +625,7 @@ static void *makes(void *argument) {
         while (box.has) {
             uint32_t got = me->self ? qolb_cond_wait(&box.empty, &box.lock)
                                     : qolb_cond_wait_within(&box.empty, &box.lock, 50000);
-            if (me->self || got != QOLB_LATE) MUST(got, QOLB_GRANTED);
+            if (me->self || got != QOLB_TIMEDOUT) MUST(got, QOLB_GRANTED);
         }
         box.has = 1;
         box.value = k;
@@ -624,7 +643,7 @@ static void *takes(void *argument) {
         while (!box.has) {
             uint32_t got = me->self ? qolb_cond_wait(&box.full, &box.lock)
                                     : qolb_cond_wait_within(&box.full, &box.lock, 50000);
-            if (me->self || got != QOLB_LATE) MUST(got, QOLB_GRANTED);
+            if (me->self || got != QOLB_TIMEDOUT) MUST(got, QOLB_GRANTED);
         }
         box.has = 0;
         box.sum += box.value;
@@ -645,7 +664,7 @@ static int makers_and_takers(void) {
     WANT(box.made, MAKERS * THINGS);
     WANT(box.taken, MAKERS * THINGS);
     WANT(box.sum, MAKERS * (THINGS * (THINGS - 1) / 2));
-    WANT(qolb_lock_close(&box.lock), QOLB_DONE);
+    WANT(qolb_lock_destroy(&box.lock), QOLB_DONE);
     return 0;
 }
 
@@ -682,7 +701,7 @@ static void *uses(void *argument) {
     for (int round = 0; round < shared.rounds; round++) {
         drawn = drawn * 1664525 + 1013904223;
         uint32_t got = enters_somehow(drawn >> 29);
-        if (got == QOLB_BUSY || got == QOLB_LATE) continue;
+        if (got == QOLB_BUSY || got == QOLB_TIMEDOUT) continue;
         if (got == QOLB_CLOSED && shared.ends_by_shut) break;
         MUST(got, QOLB_GRANTED);
         has_a_turn(me->self);
@@ -694,7 +713,7 @@ static void *uses(void *argument) {
         qolb_cond_signal(&shared.cond);
         got = qolb_cond_wait_within(&shared.cond, &shared.lock, 200000);
         if (got == QOLB_CLOSED && shared.ends_by_shut) break;
-        if (got != QOLB_LATE) MUST(got, QOLB_GRANTED);
+        if (got != QOLB_TIMEDOUT) MUST(got, QOLB_GRANTED);
         has_a_turn(me->self);
         had++;
         MUST(shared.ends_by_shut && me->self == 0 && round > shared.rounds / 2 ? qolb_lock_shut(&shared.lock)
@@ -705,13 +724,13 @@ static void *uses(void *argument) {
     return NULL;
 }
 
-/* Threads come and go: each wave is joined, and another starts, before the next combination of bursts and ends. */
-static int much_use(unsigned threads, uint32_t burst, int ends_by_shut) {
+/* Threads come and go: each wave is joined, and another starts, before the next combination of barging limits and ends. */
+static int much_use(unsigned threads, uint32_t barging, int ends_by_shut) {
     static struct helper helpers[MOST];
     long had = 0;
     memset(&shared, 0, sizeof shared);
     memset(helpers, 0, sizeof helpers);
-    shared.lock = of_bursts(burst);
+    shared.lock = of_barging(barging);
     shared.ends_by_shut = ends_by_shut;
     shared.rounds = threads > 32 ? 30 : 3000 / (int)threads;
     for (unsigned k = 0; k < threads; k++) {
@@ -725,7 +744,7 @@ static int much_use(unsigned threads, uint32_t burst, int ends_by_shut) {
     WANT(shared.turns == had && had > 0, 1);
     for (size_t k = 1; k < sizeof shared.last; k++) WANT(shared.last[k] == shared.last[0], 1);
     WANT(shared.cond.own == NULL, 1);
-    WANT(qolb_lock_close(&shared.lock), QOLB_DONE);
+    WANT(qolb_lock_destroy(&shared.lock), QOLB_DONE);
     return 0;
 }
 
@@ -741,18 +760,18 @@ static void *lets_go(void *argument) {
     int last = --it->users == 0;
     MUST(qolb_lock_leave(&it->lock), QOLB_DONE);
     if (last) {
-        MUST(qolb_lock_close(&it->lock), QOLB_DONE);
+        MUST(qolb_lock_destroy(&it->lock), QOLB_DONE);
         free(it);
     }
     return NULL;
 }
 
-static int freed_by_the_last(uint32_t burst) {
+static int freed_by_the_last(uint32_t barging) {
     for (int round = 0; round < 200; round++) {
         struct owned *it = malloc(sizeof *it);
         pthread_t ids[2];
         if (!it) return 1;
-        *it = (struct owned){QOLB_LOCK_INIT_BURSTS(burst), 2};
+        *it = (struct owned){QOLB_LOCK_INIT_BARGING(barging), 2};
         for (int k = 0; k < 2; k++) MUST(pthread_create(&ids[k], NULL, lets_go, it), 0);
         for (int k = 0; k < 2; k++) pthread_join(ids[k], NULL);
     }
@@ -777,12 +796,12 @@ static void *is_told_of_a_shut(void *argument) {
     return NULL;
 }
 
-static int freed_by_who_is_told(uint32_t burst) {
+static int freed_by_who_is_told(uint32_t barging) {
     for (int round = 0; round < 50; round++) {
         struct waited_at *it = malloc(sizeof *it);
         pthread_t id;
         if (!it) return 1;
-        *it = (struct waited_at){QOLB_LOCK_INIT_BURSTS(burst), QOLB_COND_INIT, 0};
+        *it = (struct waited_at){QOLB_LOCK_INIT_BARGING(barging), QOLB_COND_INIT, 0};
         MUST(pthread_create(&id, NULL, is_told_of_a_shut, it), 0);
         for (int waits = 0; !waits; sched_yield()) {
             WANT(qolb_lock_enter(&it->lock), QOLB_GRANTED);
@@ -794,29 +813,30 @@ static int freed_by_who_is_told(uint32_t burst) {
     return 0;
 }
 
-static int with_bursts(uint32_t burst) {
+static int with_barging(uint32_t barging) {
     static const unsigned threads[] = {2, 8, 32, 200};
     for (int is_used = 0; is_used < 2; is_used++)
-        if (many_in_order(is_used, burst)) return 1;
-    if (of_the_holder(burst) || in_order(burst) || others_sleep_on(burst) || behind_those_that_gave_up(burst)) return 1;
-    if (shut_tells_all(burst) || shuts_seen_at_once(burst) || told_in_order(burst) || freed_by_the_last(burst) ||
-        freed_by_who_is_told(burst))
+        if (many_in_order(is_used, barging)) return 1;
+    if (of_the_holder(barging) || in_order(barging) || others_sleep_on(barging) || behind_those_that_gave_up(barging))
+        return 1;
+    if (shut_tells_all(barging) || shuts_seen_at_once(barging) || told_in_order(barging) ||
+        freed_by_the_last(barging) || freed_by_who_is_told(barging))
         return 1;
     for (size_t k = 0; k < sizeof threads / sizeof threads[0]; k++)
         for (int shut = 0; shut < 2; shut++)
             for (int round = 0; round < 3; round++)
-                if (much_use(threads[k], burst, shut)) return 1;
+                if (much_use(threads[k], barging, shut)) return 1;
     return 0;
 }
 
 int main(int argc, char **argv) {
     alarm(argc > 1 ? (unsigned)atoi(argv[1]) : 1200);
-    if (of_an_unopened_one() || of_any_bursts() || cancelled(is_cancelled) || cancelled(is_cancelled_at_condition) ||
+    if (of_an_unopened_one() || of_any_barging() || cancelled(is_cancelled) || cancelled(is_cancelled_at_condition) ||
         interrupted(0) || interrupted(UINT64_MAX))
         return 1;
-    if (waiters_take_no_processor() || makers_and_takers() || bursts()) return 1;
+    if (waiters_take_no_processor() || makers_and_takers() || barging()) return 1;
     static const uint32_t of[] = {0, 2, 64, 65535};
     for (size_t k = 0; k < sizeof of / sizeof of[0]; k++)
-        if (with_bursts(of[k])) return 1;
+        if (with_barging(of[k])) return 1;
     return 0;
 }

@@ -55,7 +55,7 @@ qolb::lock strict;
 long turns;
 
 bool counts() {
-    qolb::lock other(qolb::burst{16});
+    qolb::lock other(qolb::barging{16});
     for (int wave = 0; wave < 3; wave++) {
         together(threads, [&](int self) {
             for (int k = 0; k < rounds; k++) {
@@ -85,9 +85,9 @@ void until_asleep(const std::atomic<int> &number) {
     }
 }
 
-// While one waits, this thread enters again and again: at most burst - 1 times.
-bool is_overtaken_within(std::uint16_t burst) {
-    qolb::lock lock(qolb::burst{burst});
+// While one waits, this thread enters again and again: at most barging - 1 times.
+bool is_overtaken_within(std::uint16_t barging) {
+    qolb::lock lock(qolb::barging{barging});
     std::atomic<int> number{0};
     bool served = false;
     std::uint32_t later = 0;
@@ -105,13 +105,13 @@ bool is_overtaken_within(std::uint16_t burst) {
     }
     lock.unlock();
     waits.join();
-    WANT(later < burst);
+    WANT(later < barging);
     return true;
 }
 
-// More turns than a burst has count as the most: the lock has bursts. While one waits, this thread enters again before
+// A barging limit above the greatest counts as the greatest: the lock is barging. While one waits, this thread enters again before
 // it, soon or late.
-bool is_overtaken_by_some(qolb::burst most) {
+bool is_overtaken_by_some(qolb::barging most) {
     for (int round = 0; round < 1000; round++) {
         qolb::lock lock(most);
         bool served = false, again = false;
@@ -137,20 +137,20 @@ bool is_overtaken_by_some(qolb::burst most) {
 // A static one is there until the end: threads may use it while the program ends.
 static_assert(std::is_trivially_destructible<qolb::lock>::value, "its destructor does nothing");
 
-qolb::lock in_bursts(qolb::burst{64});
+qolb::lock in_barging(qolb::barging{64});
 
-bool bursts() {
-    for (std::uint16_t burst : {1, 2, 16, 1024, 65535}) WANT(is_overtaken_within(burst));
+bool barging() {
+    for (std::uint16_t barging : {1, 2, 16, 1024, 65535}) WANT(is_overtaken_within(barging));
     long had = 0;
     together(threads, [&](int) {
         for (int k = 0; k < rounds; k++) {
-            std::lock_guard<qolb::lock> turn(in_bursts);
+            std::lock_guard<qolb::lock> turn(in_barging);
             had++;
         }
     });
     WANT(had == threads * rounds);
     WANT(is_overtaken_by_some({70000}) && is_overtaken_by_some({UINT64_MAX}));
-    qolb::guarded<int> value(3, qolb::burst{2});
+    qolb::guarded<int> value(3, qolb::barging{2});
     value.with([](int &it) { it++; });
     WANT(value.load() == 4);
     return true;
@@ -167,7 +167,7 @@ bool answers() {
     bool late = false;
     std::thread([&] {
         late = !lock.try_lock_for(20ms) && !lock.try_lock_until(std::chrono::steady_clock::now() + 20ms) &&
-               lock.enter_for(0ns) == QOLB_LATE;
+               lock.enter_for(0ns) == QOLB_TIMEDOUT;
     }).join();
     WANT(late && std::chrono::steady_clock::now() - since >= 40ms);
     WANT(lock.enter_for(0ns) == QOLB_MISUSE && lock.enter() == QOLB_MISUSE);
@@ -217,13 +217,12 @@ bool condition_ends() {
     bool waiting = false, closed = false;
     std::unique_lock<qolb::lock> held(lock);
     auto since = std::chrono::steady_clock::now();
-    WANT(!cond.wait_for(held, 10ms));
+    WANT(cond.wait_for(held, 10ms) == std::cv_status::timeout);
     WANT(!cond.wait_for(held, 10ms, [] { return false; }));
-    WANT(cond.wait_for_status(held, 10ms) == std::cv_status::timeout);
     WANT(cond.wait_until(held, std::chrono::steady_clock::now() + 10ms) == std::cv_status::timeout);
     WANT(cond.wait_until(held, std::chrono::system_clock::now() + 10ms) == std::cv_status::timeout);
     WANT(!cond.wait_until(held, std::chrono::steady_clock::now() + 10ms, [] { return false; }));
-    WANT(std::chrono::steady_clock::now() - since >= 59ms); // clocks that are set differ by some microseconds
+    WANT(std::chrono::steady_clock::now() - since >= 49ms); // clocks that are set differ by some microseconds
     WANT(held.owns_lock());
     std::thread waits([&] {
         std::unique_lock<qolb::lock> mine(lock);
@@ -266,9 +265,8 @@ bool each_wait_is_notified() {
     auto second_time = [&asked] { return std::exchange(asked, true); };
     WANT(is_notified([](auto &cond, held_lock &held) { return cond.wait(held), true; }));
     WANT(is_notified([&](auto &cond, held_lock &held) { return cond.wait(held, second_time), asked; }));
-    WANT(is_notified([](auto &cond, held_lock &held) { return cond.wait_for(held, 60s); }));
     WANT(is_notified(
-        [](auto &cond, held_lock &held) { return cond.wait_for_status(held, 60s) == std::cv_status::no_timeout; }));
+        [](auto &cond, held_lock &held) { return cond.wait_for(held, 60s) == std::cv_status::no_timeout; }));
     WANT(is_notified([](auto &cond, held_lock &held) {
         return cond.wait_until(held, steady_clock::now() + 60s) == std::cv_status::no_timeout;
     }));
@@ -329,10 +327,10 @@ struct Fixed {
 
 // They are made at compile time.
 #if defined(__cpp_constinit)
-constinit qolb::lock static_lock(qolb::burst{1024});
+constinit qolb::lock static_lock(qolb::barging{1024});
 constinit qolb::guarded<Count> static_count(Count{1, 2, 'd'});
 #else
-qolb::lock static_lock(qolb::burst{1024});
+qolb::lock static_lock(qolb::barging{1024});
 qolb::guarded<Count> static_count(Count{1, 2, 'd'});
 #endif
 
@@ -349,7 +347,7 @@ bool lies_apart() {
 
 // What a throw leaves: of `with` what was changed until then, of `update` nothing.
 bool throws_in_turns() {
-    qolb::guarded<std::string> text(std::string("a"), qolb::burst{16});
+    qolb::guarded<std::string> text(std::string("a"), qolb::barging{16});
     auto adds = [](std::string &it) -> std::size_t {
         it += "b";
         if (it.size() < 4) throw 7;
@@ -407,7 +405,7 @@ bool guards() {
     WANT(throws<qolb::Deadlock>([&] { own.with([&](int &value) { value += own.load(); }); }));
     WANT(throws<qolb::Deadlock>([&] { own.with([&](int &) { return own.shut(); }); }));
     WANT(own.load() == 1 && own.shut() && !own.shut());
-    qolb::guarded<Large> large(Large(9), qolb::burst{2});
+    qolb::guarded<Large> large(Large(9), qolb::barging{2});
     WANT(large.load().bytes[999] == 9);
     qolb::guarded<Fixed> fixed;
     WANT(fixed.with([](Fixed &it) { return it.number; }) == 3);
@@ -420,7 +418,7 @@ bool guards() {
 
 int main() {
     alarm(1200);
-    bool right = counts() && bursts() && answers() && hands_over<qolb::Condition>() &&
+    bool right = counts() && barging() && answers() && hands_over<qolb::Condition>() &&
                  hands_over<std::condition_variable_any>() && condition_ends() && each_wait_is_notified() &&
                  condition_tells() && guards();
     return right ? 0 : 1;

@@ -258,12 +258,14 @@ fn values_of_any_size() {
 fn raw_answers() {
     static RAW: RawQolb = RawQolb::new();
     let raw = &RAW;
-    assert!(!raw.is_mine());
+    assert!(!raw.is_mine() && !raw.is_held());
+    prints(raw, "RawQolb { is_held: false, is_mine: false }");
     assert_eq!(raw.enter(), Answer::Granted);
-    assert!(raw.is_mine());
+    assert!(raw.is_mine() && raw.is_held());
+    prints(raw, "RawQolb { is_held: true, is_mine: true }");
     assert_eq!(raw.try_enter(), Answer::Busy);
     assert_eq!(raw.enter_for(MS), Answer::Misuse);
-    thread::scope(|s| s.spawn(|| assert_eq!((raw.enter_for(MS), raw.is_mine()), (Answer::Late, false))).join().unwrap());
+    thread::scope(|s| s.spawn(|| assert_eq!((raw.enter_for(MS), raw.is_held(), raw.is_mine()), (Answer::TimedOut, true, false))).join().unwrap());
     assert_eq!(raw.leave(), Answer::Done);
     assert_eq!(raw.try_enter(), Answer::Granted);
     assert_eq!(raw.shut(), Answer::Done);
@@ -318,7 +320,7 @@ fn is_signalled(time: Duration, soon: bool) -> bool {
     })
 }
 
-static IN_BURSTS: Mutex<u64> = Mutex::with_burst(0, 64);
+static IN_BARGING: Mutex<u64> = Mutex::with_barging(0, 64);
 
 /// Waits until the thread with this folder in /proc sleeps.
 fn until_asleep(folder: &std::path::Path) {
@@ -328,9 +330,9 @@ fn until_asleep(folder: &std::path::Path) {
     }
 }
 
-/// While one waits, this thread locks again and again: at most `burst - 1` times.
-fn is_overtaken_within(burst: u16) {
-    let mutex = Mutex::with_burst(false, burst);
+/// While one waits, this thread locks again and again: at most `barging - 1` times.
+fn is_overtaken_within(barging: u16) {
+    let mutex = Mutex::with_barging(false, barging);
     let (tells, told) = mpsc::channel();
     let mut later = 0;
     thread::scope(|scope| {
@@ -346,21 +348,21 @@ fn is_overtaken_within(burst: u16) {
         }
         other.join().unwrap();
     });
-    assert!(later < burst, "{later} turns in a burst of {burst}");
+    assert!(later < barging, "{later} turns with a barging limit of {barging}");
 }
 
-fn bursts() {
-    for burst in [1, 2, 16, 1024, 65535] {
-        is_overtaken_within(burst);
+fn barging() {
+    for barging in [1, 2, 16, 1024, 65535] {
+        is_overtaken_within(barging);
     }
     thread::scope(|scope| {
         for _ in 0..THREADS {
-            scope.spawn(|| (0..ROUNDS).for_each(|_| *IN_BURSTS.lock().unwrap() += 1));
+            scope.spawn(|| (0..ROUNDS).for_each(|_| *IN_BARGING.lock().unwrap() += 1));
         }
     });
-    assert_eq!(*IN_BURSTS.lock().unwrap(), THREADS * ROUNDS);
-    for burst in [0, 1, 2, u16::MAX] {
-        let raw = RawQolb::with_burst(burst);
+    assert_eq!(*IN_BARGING.lock().unwrap(), THREADS * ROUNDS);
+    for barging in [0, 1, 2, u16::MAX] {
+        let raw = RawQolb::with_barging(barging);
         assert_eq!(raw.enter(), Answer::Granted);
         assert_eq!(raw.leave(), Answer::Done);
     }
@@ -368,8 +370,8 @@ fn bursts() {
 
 /// A mutex may be moved once it was used; and one whose guard is forgotten may be dropped, whose thread goes on.
 fn moved_and_forgotten() {
-    for burst in [0, 64] {
-        let mutex = Mutex::with_burst(1, burst);
+    for barging in [0, 64] {
+        let mutex = Mutex::with_barging(1, barging);
         *mutex.lock().unwrap() += 1;
         let mut moved = vec![mutex];
         moved.reserve(100);
@@ -382,7 +384,7 @@ fn moved_and_forgotten() {
         assert_eq!(*boxed.lock().unwrap(), 402);
         std::mem::forget(boxed.lock().unwrap());
         drop(boxed);
-        let another = Mutex::with_burst(7, burst);
+        let another = Mutex::with_barging(7, barging);
         assert_eq!(*another.lock().unwrap(), 7);
     }
     let never_used: Mutex<u8> = Mutex::new(3);
@@ -406,5 +408,5 @@ fn main() {
     values_of_any_size();
     raw_answers();
     durations_never_overflow();
-    bursts();
+    barging();
 }

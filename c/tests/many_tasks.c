@@ -1,7 +1,7 @@
 /* Ten thousand tasks over four threads: half with a node each, half at a lock that threads enter, too. They are woken
  * for no reason, and give up at random. Prints only errors.
  *
- *   build/many_tasks_c [TASKS [ROUNDS [SEED [BURST [SECONDS]]]]]
+ *   build/many_tasks_c [TASKS [ROUNDS [SEED [BARGING_LIMIT [SECONDS]]]]]
  *
  * Another seed follows while there is time. */
 #define _GNU_SOURCE
@@ -217,9 +217,9 @@ static void *enters(void *seed) {
 }
 static struct line *lines;
 
-static void opens(int of_nodes, int rounds, uint64_t seed, uint64_t burst) {
+static void opens(int of_nodes, int rounds, uint64_t seed, uint64_t barging) {
     static const qolb_bytes zeros;
-    lock = (qolb_lock)QOLB_LOCK_INIT_BURSTS(burst);
+    lock = (qolb_lock)QOLB_LOCK_INIT_BARGING(barging);
     guarded = 0;
     for (int k = 0; k < (of_nodes + 39) / 40; k++) {
         lines[k] = (struct line){0};
@@ -235,18 +235,18 @@ static void closes(int of_nodes, int rounds, long by_others) {
     long all = 0;
     for (int k = 0; k < (of_nodes + 39) / 40; k++) {
         all += lines[k].count;
-        for (int j = 0; j < 40; j++) MUST(qolb_close(&lines[k].nodes[j]) == QOLB_DONE);
+        for (int j = 0; j < 40; j++) MUST(qolb_node_free(&lines[k].nodes[j]) == QOLB_DONE);
     }
     MUST(all == (long)of_nodes * rounds && guarded == (long)(many - of_nodes) * rounds + by_others);
-    MUST(qolb_lock_close(&lock) == QOLB_DONE);
+    MUST(qolb_lock_destroy(&lock) == QOLB_DONE);
 }
 
-static void run(int rounds, uint64_t seed, uint64_t burst) {
+static void run(int rounds, uint64_t seed, uint64_t barging) {
     enum { WORKERS = 4, ALL = WORKERS + 3 };
     pthread_t thread[ALL];
     int of_nodes = many / 2;
     long before = atomic_load(&by_threads);
-    opens(of_nodes, rounds, seed, burst);
+    opens(of_nodes, rounds, seed, barging);
     atomic_store(&left, many);
     for (int k = 0; k < many; k++) wake(&tasks[k]);
     for (int k = 0; k < ALL; k++) {
@@ -260,13 +260,13 @@ static void run(int rounds, uint64_t seed, uint64_t burst) {
 int main(int argc, char **argv) {
     many = argc > 1 ? atoi(argv[1]) : 10000;
     int rounds = argc > 2 ? atoi(argv[2]) : 5, seconds = argc > 5 ? atoi(argv[5]) : 0;
-    uint64_t seed = argc > 3 ? strtoull(argv[3], NULL, 10) : 1, burst = argc > 4 ? strtoull(argv[4], NULL, 10) : 0;
+    uint64_t seed = argc > 3 ? strtoull(argv[3], NULL, 10) : 1, barging = argc > 4 ? strtoull(argv[4], NULL, 10) : 0;
     time_t since = time(NULL);
     alarm((unsigned)seconds + 600);
     lines = aligned_alloc(128, ((size_t)many / 2 + 39) / 40 * sizeof *lines);
     tasks = aligned_alloc(128, (size_t)many * sizeof *tasks);
     MUST(lines && tasks);
-    do run(rounds, seed++, burst);
+    do run(rounds, seed++, barging);
     while (time(NULL) - since < seconds);
     return 0;
 }

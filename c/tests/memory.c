@@ -1,9 +1,9 @@
 /* The heap bytes of a line: those that stay taken after qolb_open, by kind and number of nodes, as malloc_usable_size
  * counts them. qolb_memory must return what opening has allocated and keeps, and opening may ask for at most three
- * times that at a time. The data of two nodes must be in no two cache lines that are fetched together, and have the
- * size that gaps.h says; each block of a line must begin at a multiple of 128 bytes. 100,000 ticket lines of two nodes
- * must take less than 260 MB. */
-#include "../src/gaps.h"
+ * times that at a time. The data of two nodes must be in no two cache lines that are fetched together; each block of
+ * the proved part of 128 bytes or more must begin at a multiple of 128 bytes. 100,000 ticket lines of two nodes must
+ * take less than 260 MB. */
+#include <line.h>
 #include <malloc.h>
 #include <qolb.h>
 #include <stdio.h>
@@ -19,12 +19,17 @@ static struct {
     size_t asked;
 } blocks[1024];
 
-/* The blocks that a line was given, and whether each began where it must. */
+/* The blocks that the proved part was given, and whether each began where it must. */
 static size_t given;
 static int aligned = 1;
 
-void *__real_qolb_malloc_(size_t size);
-void *__real_qolb_realloc_(void *block, size_t size);
+struct tried {
+    uint64_t is_there;
+    void *at;
+};
+
+struct tried __real_rattle_alloc(size_t size, size_t align);
+struct tried __real_rattle_realloc(void *block, size_t kept, size_t size, size_t align);
 void *__real_malloc(size_t size);
 void *__real_realloc(void *block, size_t size);
 void __real_free(void *block);
@@ -57,14 +62,18 @@ static void gives_back(void *block) {
 
 void *__wrap_malloc(size_t size) { return takes(__real_malloc(size), size); }
 
-static void *gives(void *block) {
+static struct tried gives(struct tried block, size_t size) {
     given++;
-    aligned = aligned && (uintptr_t)block % QOLB_NODE_ALIGN == 0;
+    aligned = aligned && (size < QOLB_NODE_ALIGN || (uintptr_t)block.at % QOLB_NODE_ALIGN == 0);
     return block;
 }
 
-void *__wrap_qolb_malloc_(size_t size) { return gives(__real_qolb_malloc_(size)); }
-void *__wrap_qolb_realloc_(void *block, size_t size) { return gives(__real_qolb_realloc_(block, size)); }
+struct tried __wrap_rattle_alloc(size_t size, size_t align) {
+    return gives(__real_rattle_alloc(size, align), size);
+}
+struct tried __wrap_rattle_realloc(void *block, size_t kept, size_t size, size_t align) {
+    return gives(__real_rattle_realloc(block, kept, size, align), size);
+}
 
 /* If there is no memory the block stays. */
 void *__wrap_realloc(void *block, size_t size) {
@@ -79,22 +88,16 @@ void __wrap_free(void *block) {
     __real_free(block);
 }
 
-/* Returns whether the nodes are this far apart. The data of a node are above 128 bytes, and begin where its handle
- * points. */
+static uintptr_t data_of(const qolb_node *node) { return (uintptr_t)node_of(node)->proved.own; }
+
+/* Returns whether the nodes are this far apart. The data of a node are above 128 bytes. */
 static int apart(const qolb_node *node, uint64_t nodes) {
     for (uint64_t a = 0; a < nodes; a++) {
         for (uint64_t b = 0; b < a; b++) {
-            uintptr_t one = (uintptr_t)node[a].own, two = (uintptr_t)node[b].own;
+            uintptr_t one = data_of(&node[a]), two = data_of(&node[b]);
             if ((one < two ? two - one : one - two) < 2 * QOLB_NODE_ALIGN) return 0;
         }
     }
-    return 1;
-}
-
-/* Returns whether the data of each node have as many bytes as gaps.h says. */
-static int are_told(const qolb_node *node, uint64_t nodes) {
-    for (uint64_t k = 0; k < nodes; k++)
-        if (((const struct before *)node[k].own)[-1].size != NODE_BYTES) return 0;
     return 1;
 }
 
@@ -109,7 +112,7 @@ static int is_told(uint32_t kind, uint64_t nodes) {
     if (asked != before || qolb_open(kind, 1, nodes, QOLB_NO_LEASE, &zeros, node, 200) != QOLB_DONE) return 0;
     size_t keeps = asked - before, needs = most - before;
     for (uint64_t n = 0; n < nodes; n++)
-        if (qolb_close(&node[n]) != QOLB_DONE) return 0;
+        if (qolb_node_free(&node[n]) != QOLB_DONE) return 0;
     if (told == keeps && needs <= 3 * keeps && asked == before) return 1;
     return printf("kind %d nodes %d: asks for %zu, keeps %zu, and is told to keep %zu\n", (int)kind, (int)nodes, needs,
                   keeps, (size_t)told),
@@ -138,7 +141,7 @@ static int fit(size_t lines, size_t bytes) {
         if (qolb_open(QOLB_TICKET, 1, 2, QOLB_NO_LEASE, &zeros, &node[2 * k], 2) != QOLB_DONE) return 0;
     size_t all = mallinfo2().uordblks - before;
     for (size_t k = 0; k < 2 * lines; k++)
-        if (qolb_close(&node[k]) != QOLB_DONE) return 0;
+        if (qolb_node_free(&node[k]) != QOLB_DONE) return 0;
     free(node);
     counts = 1;
     printf("%zu ticket lines of two nodes: bytes %zu\n", lines, all);
@@ -160,9 +163,8 @@ static struct heap of_line(uint32_t kind, uint64_t nodes) {
     if (qolb_open(kind, 1, nodes, QOLB_NO_LEASE, &zeros, node, 200) != QOLB_DONE) abort();
     struct heap keeps = since(before);
     if (!apart(node, nodes)) puts("nodes lie too close to each other"), exit(1);
-    if (!are_told(node, nodes)) puts("a node has other bytes than gaps.h says"), exit(1);
     for (uint64_t n = 0; n < nodes; n++)
-        if (qolb_close(&node[n]) != QOLB_DONE) abort();
+        if (qolb_node_free(&node[n]) != QOLB_DONE) abort();
     if (since(before).usable != 0) puts("a line leaves something"), exit(1);
     return keeps;
 }

@@ -48,8 +48,8 @@ static uint64_t draw(uint64_t below) {
 
 static void differ(const char *call, unsigned node, uint64_t got, uint64_t wanted) {
     printf("call %llu, %s, node %u of %llu, kind %u: got %llu (%s), wanted %llu (%s)\n", (unsigned long long)done, call,
-           node, (unsigned long long)model.nodes, model.kind, (unsigned long long)got, qolb_answer_name((uint32_t)got),
-           (unsigned long long)wanted, qolb_answer_name((uint32_t)wanted));
+           node, (unsigned long long)model.nodes, model.kind, (unsigned long long)got, qolb_result_name((uint32_t)got),
+           (unsigned long long)wanted, qolb_result_name((uint32_t)wanted));
     exit(1);
 }
 
@@ -213,7 +213,7 @@ static void ask_somehow(unsigned n) {
     int at_once = may_ask(n) && !model.node[n].busy && !model.waiting;
     switch (draw(8)) {
     case 0: SAME(qolb_try(&handle[n]), n, tries(n, QOLB_BUSY)); break;
-    case 1: SAME(qolb_acquire_within(&handle[n], draw(2) * 300), n, tries(n, QOLB_LATE)); break;
+    case 1: SAME(qolb_acquire_within(&handle[n], draw(2) * 300), n, tries(n, QOLB_TIMEDOUT)); break;
     case 2: /* waits for ever where it must wait, so only where it need not, or may not */
         if (at_once || !may_ask(n)) SAME(qolb_acquire(&handle[n]), n, asks(n, 0));
         break;
@@ -230,7 +230,7 @@ static void call(unsigned n) {
     case 1:
     case 2: ask_somehow(n); break;
     case 3: SAME(qolb_poll(&handle[n]), n, polls(n)); break;
-    case 4: SAME(qolb_wait(&handle[n], some), n, some ? polls(n) : (uint32_t)QOLB_MISUSE); break;
+    case 4: SAME(qolb_spin(&handle[n], some), n, some ? polls(n) : (uint32_t)QOLB_MISUSE); break;
     case 5:
         if (draw(3)) break;
         SAME(qolb_withdraw(&handle[n]), n, withdraws(n));
@@ -241,9 +241,9 @@ static void call(unsigned n) {
     case 9: SAME(qolb_deqolb(&handle[n]), n, releases(n, 0)); break;
     case 10:
         if (draw(40) == 0) SAME(qolb_shut(&handle[n]), n, releases(n, 1));
-        if (draw(60) == 0) SAME(qolb_close(&handle[n]), n, closes(n));
+        if (draw(60) == 0) SAME(qolb_node_free(&handle[n]), n, closes(n));
         break;
-    case 11: SAME(qolb_clear(&handle[n]), n, clears(n)); break;
+    case 11: SAME(qolb_settle_node(&handle[n]), n, clears(n)); break;
     default: reads_and_writes(n);
     }
     int there = model.node[n].state != QOLB_STATE_EMPTY;
@@ -271,7 +271,7 @@ static void one_line(void) {
         SAME(qolb_link(&handle[n]), n, links(n));
         SAME(qolb_withdraw(&handle[n]), n, withdraws(n));
         SAME(qolb_deqolb(&handle[n]), n, releases(n, 0));
-        SAME(qolb_close(&handle[n]), n, closes(n));
+        SAME(qolb_node_free(&handle[n]), n, closes(n));
     }
 }
 
@@ -329,29 +329,29 @@ static void lock_call(void) {
         break;
     case 6:
         SAME(qolb_cond_wait_within(&locked.cond, &locked.lock, draw(2) * 300), 0,
-             locked.held ? QOLB_LATE : QOLB_MISUSE);
+             locked.held ? QOLB_TIMEDOUT : QOLB_MISUSE);
         break;
     case 7: SAME(draw(2) ? qolb_cond_signal(&locked.cond) : qolb_cond_broadcast(&locked.cond), 0, QOLB_DONE); break;
     case 8:
-        SAME(qolb_lock_close(&locked.lock), 0, locked.held ? QOLB_MISUSE : QOLB_DONE);
+        SAME(qolb_lock_destroy(&locked.lock), 0, locked.held ? QOLB_BUSY : QOLB_DONE);
         if (!locked.held) locked.open = locked.shut = 0;
         break;
     case 9: lock_is_opened(); break;
     default: SAME(qolb_lock_is_mine(&locked.lock), 0, (uint64_t)locked.held);
     }
     SAME(locked.lock.own != NULL, 0, (uint64_t)locked.open);
-    SAME(locked.lock.turns, 0, locked.turns);
+    SAME(locked.lock.limit, 0, locked.turns);
     done++;
 }
 
 static void one_lock(void) {
     memset(&locked, 0, sizeof locked);
     locked.turns = drawn_turns();
-    locked.lock = (qolb_lock)QOLB_LOCK_INIT_BURSTS(locked.turns);
+    locked.lock = (qolb_lock)QOLB_LOCK_INIT_BARGING(locked.turns);
     for (uint64_t end = done + 1 + draw(1000); done < end && done < calls;) lock_call();
     lock_leaves(0);
     qolb_lock_leave(&locked.lock);
-    SAME(qolb_lock_close(&locked.lock), 0, QOLB_DONE);
+    SAME(qolb_lock_destroy(&locked.lock), 0, QOLB_DONE);
 }
 
 int main(int argc, char **argv) {

@@ -49,7 +49,7 @@ static int refused_in_turn(uint32_t kind) {
             refuse_at = 0;
             if (got != QOLB_DONE || n < 4) return printf("allocation %lu: answer %u\n", n, got), 1;
             for (int k = 0; k < NODES; k++)
-                if (qolb_close(&nodes[k]) != QOLB_DONE) return puts("not closed"), 1;
+                if (qolb_node_free(&nodes[k]) != QOLB_DONE) return puts("not closed"), 1;
             if (taken != given_back) return printf("%lu taken, %lu given back\n", taken, given_back), 1;
             return 0;
         }
@@ -76,14 +76,14 @@ static int calls_take_none(uint32_t kind) {
     if (qolb_add_lane(one, 1, 2, &number) != QOLB_DONE || number != 7) return puts("not added"), 1;
     if (qolb_read(one, &bytes) != QOLB_DONE || qolb_read_lane(one, 1, &number) != QOLB_DONE || number != 9)
         return puts("not read"), 1;
-    if (qolb_enqolb(two) != QOLB_QUEUED || qolb_poll(two) != QOLB_WAITING || qolb_wait(two, 3) != QOLB_WAITING)
+    if (qolb_enqolb(two) != QOLB_QUEUED || qolb_poll(two) != QOLB_WAITING || qolb_spin(two, 3) != QOLB_WAITING)
         return puts("does not wait"), 1;
     if (qolb_number(two) != 2 || qolb_label(two) != 1 || qolb_state(two) != QOLB_STATE_QUEUED)
         return puts("not node 2"), 1;
     if (qolb_memory(kind, 2) == 0) return puts("no memory is told"), 1;
-    if (qolb_withdraw(two) != QOLB_WITHDRAWN || qolb_clear(two) != QOLB_BUSY || qolb_enqolb(two) != QOLB_BUSY)
+    if (qolb_withdraw(two) != QOLB_WITHDRAWN || qolb_settle_node(two) != QOLB_BUSY || qolb_enqolb(two) != QOLB_BUSY)
         return puts("not busy"), 1;
-    if (qolb_deqolb(one) != QOLB_DONE || qolb_clear(two) != QOLB_DONE || qolb_clear(one) != QOLB_DONE)
+    if (qolb_deqolb(one) != QOLB_DONE || qolb_settle_node(two) != QOLB_DONE || qolb_settle_node(one) != QOLB_DONE)
         return puts("not passed"), 1;
     if (kind == QOLB_LINK) {
         if (qolb_prepend(two) != QOLB_GRANTED || qolb_prepend(one) != QOLB_LINKING || qolb_link(one) != QOLB_QUEUED)
@@ -98,7 +98,8 @@ static int calls_take_none(uint32_t kind) {
         return puts("not closed"), 1;
     if (taken || given_back) return printf("calls took %lu and gave back %lu\n", taken, given_back), 1;
     if (mprotect(nodes, PAGE, PROT_READ | PROT_WRITE) != 0) return puts("not protected"), 1;
-    if (qolb_close(one) != QOLB_DONE || qolb_close(two) != QOLB_DONE || !given_back) return puts("not given back"), 1;
+    if (qolb_node_free(one) != QOLB_DONE || qolb_node_free(two) != QOLB_DONE || !given_back)
+        return puts("not given back"), 1;
     return munmap(nodes, PAGE);
 }
 
@@ -107,7 +108,7 @@ static int puts_the_same_back(uint32_t kind) {
     qolb_bytes bytes = {{0}};
     qolb_node one[2] = {{0}}, *two = one + 1;
     uint64_t lane;
-    if (qolb_open(kind, 1, 2, 9, &bytes, one, 2) != QOLB_DONE) return puts("not opened"), 1;
+    if (qolb_open_proved_(kind, 1, 2, 9, &bytes, one, 2) != QOLB_DONE) return puts("not opened"), 1;
     void *was[] = {one->own, two->own};
 #define SAME(call) ((call), one->own == was[0] && two->own == was[1])
     int same = SAME(qolb_enqolb_proved_(one)) && SAME(qolb_enqolb_proved_(one)) && SAME(qolb_turns_left_proved_(one)) &&
@@ -127,8 +128,8 @@ static int puts_the_same_back(uint32_t kind) {
            SAME(qolb_enqolb_proved_(one));
 #undef SAME
     if (!same) return puts("another node was put back"), 1;
-    if (kind != QOLB_LINK && qolb_shut(one) != QOLB_DONE) return puts("does not hold it"), 1;
-    if (qolb_close(one) != QOLB_DONE || qolb_close(two) != QOLB_DONE) return puts("not closed"), 1;
+    if (kind != QOLB_LINK && qolb_shut_proved_(one) != QOLB_DONE) return puts("does not hold it"), 1;
+    if (qolb_close_proved_(one) != QOLB_DONE || qolb_close_proved_(two) != QOLB_DONE) return puts("not closed"), 1;
     return 0;
 }
 
@@ -142,15 +143,16 @@ static uint32_t used_first(qolb_lock *lock, unsigned way) {
     }
 }
 
-static int lock_takes_none(unsigned way, uint64_t burst) {
-    qolb_lock lock = QOLB_LOCK_INIT_BURSTS(burst);
+static int lock_takes_none(unsigned way, uint64_t barging) {
+    qolb_lock lock = QOLB_LOCK_INIT_BARGING(barging);
     qolb_cond cond = QOLB_COND_INIT;
     taken = given_back = 0;
     if (used_first(&lock, way) != (way == 3 ? QOLB_DONE : QOLB_GRANTED)) return puts("lock: not used"), 1;
     if (way == 3 && qolb_lock_enter(&lock) != QOLB_GRANTED) return puts("lock: not entered"), 1;
-    if (qolb_lock_enter_within(&lock, 0) != QOLB_MISUSE || qolb_cond_wait_within(&cond, &lock, 0) != QOLB_LATE)
+    if (qolb_lock_enter_within(&lock, 0) != QOLB_MISUSE || qolb_cond_wait_within(&cond, &lock, 0) != QOLB_TIMEDOUT)
         return puts("lock: not late"), 1;
-    if (qolb_lock_leave(&lock) != QOLB_DONE || qolb_lock_close(&lock) != QOLB_DONE) return puts("lock: not closed"), 1;
+    if (qolb_lock_leave(&lock) != QOLB_DONE || qolb_lock_destroy(&lock) != QOLB_DONE)
+        return puts("lock: not closed"), 1;
     return taken || given_back ? printf("lock: %lu taken, %lu given back\n", taken, given_back), 1 : 0;
 }
 

@@ -49,8 +49,8 @@ fn main() {
         // The first allocation is for the handles, in Rust.
         assert!(refused(2, || qolb::open(kind, 1, 5, None, &Bytes([0; 64])).err()) >= 3);
     }
-    for burst in [0, 64] {
-        let raw = RawQolb::with_burst(burst);
+    for barging in [0, 64] {
+        let raw = RawQolb::with_barging(barging);
         assert_eq!(raw.leave(), Answer::Misuse); // it is in its box now
         REFUSED.store(1, Ordering::SeqCst);
         assert_eq!(raw.try_enter(), Answer::Granted);

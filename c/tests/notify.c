@@ -21,7 +21,7 @@ static int opens(uint32_t kind, uint64_t nodes, qolb_node *out) {
 }
 
 static int closes(uint64_t nodes, qolb_node *node) {
-    for (uint64_t k = 0; k < nodes; k++) WANT(qolb_close(&node[k]), QOLB_DONE);
+    for (uint64_t k = 0; k < nodes; k++) WANT(qolb_node_free(&node[k]), QOLB_DONE);
     return 0;
 }
 
@@ -131,19 +131,19 @@ static int passes_withdrawn(uint32_t kind) {
     WANT(qolb_notify_off(&n[1]), QOLB_WITHDRAWN);
     WANT(qolb_withdraw(&n[1]), QOLB_WITHDRAWN);
     WANT(qolb_withdraw(&n[2]), QOLB_WITHDRAWN);
-    WANT(qolb_close(&n[2]), QOLB_DONE);
+    WANT(qolb_node_free(&n[2]), QOLB_DONE);
     WANT(qolb_deqolb(&n[0]), QOLB_DONE);
     if (is_called(&n[3], 1)) return 1;
     /* It holds the line, so it is not closed, and another one keeps its wish. */
     if (waits(&n[0], count, &n[0])) return 1;
-    WANT(qolb_close(&n[0]), QOLB_MISUSE);
-    WANT(qolb_close(&n[3]), QOLB_MISUSE);
+    WANT(qolb_node_free(&n[0]), QOLB_MISUSE);
+    WANT(qolb_node_free(&n[3]), QOLB_MISUSE);
     WANT(qolb_deqolb(&n[3]), QOLB_DONE);
     if (is_called(&n[0], 2)) return 1;
     WANT(qolb_deqolb(&n[0]), QOLB_DONE);
-    WANT(qolb_close(&n[0]), QOLB_DONE);
-    WANT(qolb_close(&n[1]), QOLB_DONE);
-    WANT(qolb_close(&n[3]), QOLB_DONE);
+    WANT(qolb_node_free(&n[0]), QOLB_DONE);
+    WANT(qolb_node_free(&n[1]), QOLB_DONE);
+    WANT(qolb_node_free(&n[3]), QOLB_DONE);
     return 0;
 }
 
@@ -234,7 +234,7 @@ static int has_turns_of_many(uint32_t kind) {
     return 0;
 }
 
-/* More lines than bells: those that share one make no calls for each other. */
+/* Many lines make no calls for each other. */
 static int tells_lines_apart(uint32_t kind) {
     for (int k = 0; k < LINES; k++) {
         if (opens(kind, 2, of[k])) return 1;
@@ -285,17 +285,17 @@ static int waits_for_the_call(uint32_t kind, int by_close, int done) {
     WANT(qolb_poll(&n[1]), QOLB_GRANTED);
     if (by_close) {
         WANT(qolb_deqolb(&n[1]), QOLB_DONE);
-        WANT(qolb_close(&n[1]), QOLB_DONE);
+        WANT(qolb_node_free(&n[1]), QOLB_DONE);
     } else {
         WANT(qolb_notify_off(&n[1]), QOLB_DONE);
         WANT(qolb_deqolb(&n[1]), QOLB_DONE);
-        WANT(qolb_close(&n[1]), QOLB_DONE);
+        WANT(qolb_node_free(&n[1]), QOLB_DONE);
     }
     if (!done) WANT(atomic_load(&out), 1);
     WANT(pthread_join(thread, NULL), 0);
     WANT(atomic_load(&out) && atomic_load(&behind), 1);
-    WANT(qolb_close(&n[0]), QOLB_DONE);
-    WANT(qolb_close(&n[2]), QOLB_DONE);
+    WANT(qolb_node_free(&n[0]), QOLB_DONE);
+    WANT(qolb_node_free(&n[2]), QOLB_DONE);
     return 0;
 }
 

@@ -35,7 +35,7 @@ static void *holds_nothing(void *unused) {
     MUST(qolb_lock_shut(&lock), QOLB_MISUSE);
     MUST(qolb_cond_wait(&cond, &lock), QOLB_MISUSE);
     MUST(qolb_lock_try(&lock), QOLB_BUSY);
-    MUST(qolb_lock_enter_within(&lock, MS), QOLB_LATE);
+    MUST(qolb_lock_enter_within(&lock, MS), QOLB_TIMEDOUT);
     leaves_many(1);
     return unused;
 }
@@ -62,7 +62,7 @@ static void is_held(void) {
     in_another_thread(has_it);
     MUST(qolb_lock_enter(&lock), QOLB_GRANTED);
     MUST(qolb_lock_leave(&lock), QOLB_DONE);
-    MUST(qolb_lock_close(&lock), QOLB_DONE);
+    MUST(qolb_lock_destroy(&lock), QOLB_DONE);
 }
 
 /* The lock is held at the fork, at its first use or after turns that nobody else wanted; in the table, or beyond it. */
@@ -84,10 +84,10 @@ static void forks(qolb_lock as, int turns, int is_beyond) {
 }
 
 int main(void) {
-    for (uint32_t burst = 0; burst <= 64; burst += 64)
+    for (uint32_t barging = 0; barging <= 64; barging += 64)
         for (int is_beyond = 0; is_beyond < 2; is_beyond++) {
-            forks((qolb_lock)QOLB_LOCK_INIT_BURSTS(burst), 0, is_beyond);
-            forks((qolb_lock)QOLB_LOCK_INIT_BURSTS(burst), TURNS, is_beyond);
+            forks((qolb_lock)QOLB_LOCK_INIT_BARGING(barging), 0, is_beyond);
+            forks((qolb_lock)QOLB_LOCK_INIT_BARGING(barging), TURNS, is_beyond);
         }
     return 0;
 }

@@ -13,7 +13,7 @@
 enum { MANY_KEYS = 40, MANY_HANDLERS = 48 };
 
 static qolb_lock heap = QOLB_LOCK_INIT;
-static int is_used; /* from then on the lock is entered */
+static int is_used;        /* from then on the lock is entered */
 static __thread int taken; /* blocks, by this thread */
 
 void *__libc_malloc(size_t size);

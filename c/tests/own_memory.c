@@ -57,7 +57,7 @@ static void *enters_within(void *limit) {
     counts = 1;
     uint32_t got = qolb_lock_enter_within(&it.lock, nanoseconds);
     counts = 0;
-    MUST(got, nanoseconds > MS ? QOLB_GRANTED : QOLB_LATE);
+    MUST(got, nanoseconds > MS ? QOLB_GRANTED : QOLB_TIMEDOUT);
     MUST(qolb_lock_is_mine(&it.lock), got == QOLB_GRANTED);
     MUST(taken, takes);
     MUST(freed, takes && got == QOLB_GRANTED);
@@ -66,10 +66,10 @@ static void *enters_within(void *limit) {
 }
 
 /* Behind too many tasks to withdraw its ticket, or few. */
-static int waits_behind(int tasks_before, uint64_t burst, uint64_t nanoseconds) {
+static int waits_behind(int tasks_before, uint64_t barging, uint64_t nanoseconds) {
     pthread_t id;
     waiting = tasks_before;
-    it.of_memory = (qolb_lock)QOLB_LOCK_INIT_BURSTS(burst), it.lock = (qolb_lock)QOLB_LOCK_INIT_BURSTS(burst);
+    it.of_memory = (qolb_lock)QOLB_LOCK_INIT_BARGING(barging), it.lock = (qolb_lock)QOLB_LOCK_INIT_BARGING(barging);
     memset(tasks, 0, sizeof tasks);
     atomic_store(&number, 0);
     WANT(qolb_lock_enter(&it.lock), QOLB_GRANTED);
@@ -80,7 +80,7 @@ static int waits_behind(int tasks_before, uint64_t burst, uint64_t nanoseconds) 
     for (int k = 0; k < waiting; k++) WANT(qolb_task_cancel(&tasks[k]), QOLB_WITHDRAWN);
     WANT(qolb_lock_leave(&it.lock), QOLB_DONE);
     if (nanoseconds > MS) pthread_join(id, NULL);
-    WANT(qolb_lock_close(&it.lock), QOLB_DONE);
+    WANT(qolb_lock_destroy(&it.lock), QOLB_DONE);
     return 0;
 }
 
@@ -107,24 +107,24 @@ static void *ends_as_holder(void *unused) {
     return unused;
 }
 
-static int leaves_in_a_destructor(uint64_t burst) {
+static int leaves_in_a_destructor(uint64_t barging) {
     pthread_t id;
-    it.of_memory = (qolb_lock)QOLB_LOCK_INIT_BURSTS(burst), it.lock = (qolb_lock)QOLB_LOCK_INIT_BURSTS(burst);
+    it.of_memory = (qolb_lock)QOLB_LOCK_INIT_BARGING(barging), it.lock = (qolb_lock)QOLB_LOCK_INIT_BARGING(barging);
     WANT(pthread_create(&id, NULL, ends_as_holder, NULL), 0);
     pthread_join(id, NULL);
-    WANT(qolb_lock_close(&it.lock), QOLB_DONE);
+    WANT(qolb_lock_destroy(&it.lock), QOLB_DONE);
     return 0;
 }
 
 int main(void) {
     alarm(600);
     WANT(pthread_key_create(&key, leaves_in_second_round), 0);
-    for (uint64_t burst = 0; burst <= 64; burst += 32) {
+    for (uint64_t barging = 0; barging <= 64; barging += 32) {
         for (int before = TASKS; before; before = before > 8 ? 8 : 0) {
-            if (waits_behind(before, burst, (uint64_t)1000000 * MS) || waits_behind(before, burst, MS)) return 1;
-            if (waits_behind(before, burst, UINT64_MAX)) return 1;
+            if (waits_behind(before, barging, (uint64_t)1000000 * MS) || waits_behind(before, barging, MS)) return 1;
+            if (waits_behind(before, barging, UINT64_MAX)) return 1;
         }
-        if (leaves_in_a_destructor(burst)) return 1;
+        if (leaves_in_a_destructor(barging)) return 1;
     }
     return 0;
 }

@@ -11,7 +11,7 @@ static qolb_lock lock = QOLB_LOCK_INIT;
 static atomic_int waits;
 
 static void *is_late(void *unused) {
-    MUST(qolb_acquire_within(&nodes[1], 20 * MS), QOLB_LATE);
+    MUST(qolb_acquire_within(&nodes[1], 20 * MS), QOLB_TIMEDOUT);
     return unused;
 }
 
@@ -64,6 +64,6 @@ int main(void) {
     run(is_closed, shut);
     WANT(qolb_lock_enter(&lock), QOLB_GRANTED);
     run(enters, leave);
-    WANT(qolb_lock_close(&lock), QOLB_DONE);
+    WANT(qolb_lock_destroy(&lock), QOLB_DONE);
     return 0;
 }

@@ -131,7 +131,7 @@ static void *second(void *unused) {
         break;
     case AFTER_LATE:
         until_done();
-        MUST(qolb_lock_enter_within(&lock, 1000), QOLB_LATE);
+        MUST(qolb_lock_enter_within(&lock, 1000), QOLB_TIMEDOUT);
         data++;
         break;
     }
@@ -192,8 +192,8 @@ int main(int argc, char **argv) {
     else use_in_turn();
     end_together();
     WANT(data, 2);
-    WANT(qolb_lock_close(&lock), QOLB_DONE);
-    WANT(qolb_lock_close(&other), QOLB_DONE);
-    for (int k = 0; k < NODES; k++) WANT(qolb_close(&nodes[k]), QOLB_DONE);
+    WANT(qolb_lock_destroy(&lock), QOLB_DONE);
+    WANT(qolb_lock_destroy(&other), QOLB_DONE);
+    for (int k = 0; k < NODES; k++) WANT(qolb_node_free(&nodes[k]), QOLB_DONE);
     return 0;
 }

@@ -111,7 +111,7 @@ static int take_turns(uint32_t kind) {
               qolb_deqolb(&nodes[ORDINARY]) == QOLB_DONE,
           "no last turn");
     check(sum == (uint64_t)(THREADS * turns), "a turn was lost");
-    for (int k = 0; k < THREADS; k++) check(qolb_close(&nodes[k]) == QOLB_DONE, "a node is not closed");
+    for (int k = 0; k < THREADS; k++) check(qolb_node_free(&nodes[k]) == QOLB_DONE, "a node is not closed");
     printf("%s: %ld turns, the longest wait took %llu us of the processor\n", qolb_kind_name(kind), turns,
            (unsigned long long)longest / 1000);
     check(longest < MOST, "a real-time thread that waited kept the processor");

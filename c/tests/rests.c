@@ -26,8 +26,8 @@ enum { US = 1000, MS = 1000000 };
  * holder, the number of wakes, and the calls that a waiter must not make. */
 static uint64_t now, clocks, yields, sleeps, longest, asks, spins, spun, looks, names, wakes, wrong;
 
-/* How often a node polls before it sleeps, each 60 ns, as qolb.h says: for 50 us on a line of at most five nodes and
- * for 20 us on others; at least for 2 us, and once it has slept, for 10. It pauses while 90 ns are left. A poll is
+/* How often a node polls before it sleeps, each 60 ns, as qolb.h says: for 50 us on a line of no more nodes than
+ * processors, here four, and for 20 us on others; at least for 2 us, and once it has slept, for 10. It pauses while 90 ns are left. A poll is
  * before the pauses and behind each, and one more is before the sleep. */
 enum { PAUSE = 60 };
 #define POLLS(nanoseconds) (((nanoseconds)-90) / PAUSE + 1)
@@ -194,7 +194,7 @@ static int sleeps_at_once(void) {
     WANT(qolb_open(QOLB_DEFAULT, 1, 2, QOLB_NO_LEASE, &zeros, n, 2), QOLB_DONE);
     WANT(qolb_acquire(&n[0]), QOLB_GRANTED);
     begins(NULL);
-    WANT(qolb_acquire_within(&n[1], MS), QOLB_LATE);
+    WANT(qolb_acquire_within(&n[1], MS), QOLB_TIMEDOUT);
     WANT(looks, 2);
     WANT(sleeps, 1);
     return 0;
@@ -228,7 +228,7 @@ static int late(qolb_node *n) {
     for (unsigned busy = 0; busy < 2; busy++) {
         uint64_t since = now;
         begins(NULL);
-        WANT(qolb_acquire_within(&n[1], 20 * MS), QOLB_LATE);
+        WANT(qolb_acquire_within(&n[1], 20 * MS), QOLB_TIMEDOUT);
         WANT(now - since, 20 * MS);
         WANT(sleeps, busy ? 100 : 1);
         WANT(longest, busy ? 200 * US : 20 * MS);
@@ -239,11 +239,11 @@ static int late(qolb_node *n) {
     }
     /* For less than a nap; and for no time at all: it still makes a request, and polls if it waits. */
     uint64_t since = now;
-    WANT(qolb_acquire_within(&n[1], 50 * US), QOLB_LATE);
+    WANT(qolb_acquire_within(&n[1], 50 * US), QOLB_TIMEDOUT);
     WANT(now - since, 50 * US);
     for (unsigned k = 1; k < 3; k++) {
         begins(NULL);
-        WANT(qolb_acquire_within(&n[k], 0), QOLB_LATE);
+        WANT(qolb_acquire_within(&n[k], 0), QOLB_TIMEDOUT);
         WANT(asks, 1);
         WANT(looks, k == 1 ? 0 : 1);
         WANT(yields + sleeps + spins, 0);
@@ -252,14 +252,14 @@ static int late(qolb_node *n) {
     return 0;
 }
 
-/* It waits as long as it takes, and reads no clock: it sleeps, and if it is woken for no reason it yields and polls
- * anew. A release wakes it, by one call. */
+/* It waits as long as it takes, and reads no clock but around a yield: it sleeps, and if it is woken for no reason it
+ * yields and polls anew. A release wakes it, by one call. */
 static int sleeps_on(qolb_node *n, int limited) {
     holder = &n[0];
     begins(releases);
     event.at_sleep = 3;
     WANT(limited ? qolb_acquire_within(&n[1], UINT64_MAX) : qolb_acquire(&n[1]), QOLB_GRANTED);
-    WANT(clocks, 0);
+    WANT(clocks, 4);
     WANT(sleeps, 3);
     WANT(longest, NEVER);
     WANT(asks, 1);
@@ -340,23 +340,22 @@ static int rests(uint32_t kind) {
     WANT(qolb_deqolb(&n[0]), QOLB_DONE);
     WANT(qolb_acquire(&n[0]), QOLB_GRANTED);
     if (sleeps_on(n, 0) || sleeps_on(n, 1) || granted(n) || at_once(n) || at_the_end(n)) return 1;
-    for (int k = 0; k < 3; k++) WANT(qolb_close(&n[k]), QOLB_DONE);
+    for (int k = 0; k < 3; k++) WANT(qolb_node_free(&n[k]), QOLB_DONE);
     return 0;
 }
 
 /* The polls of the next spin that ends with a sleep, and its length: an eighth more than it was, at most 50 us; on a
- * line of more than five nodes it ends after 20 us. Half of it is left, but not less than the least; after a spin of
- * less than 2,540 ns all of it. */
+ * line of more nodes than processors it ends after 20 us. Half of it is left, but not less than the least. */
 static uint64_t next_spin(uint64_t *length, uint64_t nodes, uint64_t least) {
     uint64_t grown = *length + *length / 8;
     *length = *length && grown < 50000 ? grown : 50000;
-    uint64_t polls = POLLS(nodes > 5 && *length > 20000 ? 20000 : *length), half = polls * PAUSE / 2;
-    if (polls * PAUSE > 2540) *length = half > least ? half : least;
+    uint64_t polls = POLLS(nodes > 4 && *length > 20000 ? 20000 : *length), half = polls * PAUSE / 2;
+    *length = half > least ? half : least;
     return polls;
 }
 
 /* Each spin that ends with a sleep makes the next one shorter, down to the least. A spin after a sleep has a length of
- * its own. On a line of more than five nodes both are shorter. */
+ * its own. On a line of more nodes than processors both are shorter. */
 static int learns(uint32_t kind, uint64_t nodes) {
     qolb_bytes zeros = {{0}};
     qolb_node n[6] = {{0}};
@@ -383,10 +382,10 @@ static int learns(uint32_t kind, uint64_t nodes) {
         WANT(qolb_acquire(&n[1 - k % 2]), QOLB_GRANTED);
     }
     looks = 0;
-    WANT(qolb_acquire_within(&n[1], MS), QOLB_LATE);
-    WANT(looks, (nodes > 5 ? UNKNOWN : NEAR) + 2);
+    WANT(qolb_acquire_within(&n[1], MS), QOLB_TIMEDOUT);
+    WANT(looks, (nodes > 4 ? UNKNOWN : NEAR) + 2);
     WANT(qolb_deqolb(&n[0]), QOLB_DONE);
-    for (uint64_t k = 0; k < nodes; k++) WANT(qolb_close(&n[k]), QOLB_DONE);
+    for (uint64_t k = 0; k < nodes; k++) WANT(qolb_node_free(&n[k]), QOLB_DONE);
     return 0;
 }
 
@@ -402,7 +401,7 @@ static int withdraws_late(uint32_t kind, int is_shut) {
     WANT(qolb_try(&n[1]), is_shut ? QOLB_CLOSED : QOLB_GRANTED);
     WANT(qolb_state(&n[1]), is_shut ? QOLB_STATE_SHUT : QOLB_STATE_HOLDING);
     if (!is_shut) WANT(qolb_deqolb(&n[1]), QOLB_DONE);
-    for (int k = 0; k < 2; k++) WANT(qolb_close(&n[k]), QOLB_DONE);
+    for (int k = 0; k < 2; k++) WANT(qolb_node_free(&n[k]), QOLB_DONE);
     return 0;
 }
 
@@ -413,7 +412,7 @@ static uint32_t (*tells)(qolb_node *node);
 static uint32_t was_told;
 static uint64_t woke, named;
 
-static uint32_t waits(qolb_node *node) { return qolb_wait(node, 1); }
+static uint32_t waits(qolb_node *node) { return qolb_spin(node, 1); }
 static uint32_t acquires(qolb_node *node) { return qolb_acquire(node); }
 static uint32_t acquires_within(qolb_node *node) { return qolb_acquire_within(node, MS); }
 
@@ -441,30 +440,16 @@ static int passes_on(uint32_t kind, uint32_t (*call)(qolb_node *node), int links
     WANT(qolb_acquire(&n[2]), QOLB_CLOSED);
     WANT(was_told, QOLB_CLOSED);
     WANT(woke, 1);
-    for (int k = 0; k < 3; k++) WANT(qolb_close(&n[k]), QOLB_DONE);
+    for (int k = 0; k < 3; k++) WANT(qolb_node_free(&n[k]), QOLB_DONE);
     return 0;
 }
 
-/* There are 1,024 bells, and as many lines from this one on, the next has the same first bell: its calls take a sleeper
- * of the other for one of its own. */
-static int skips_bells(void) {
-    static qolb_bytes zeros;
-    for (int k = 0; k < 1023; k++) {
-        qolb_node node = {0};
-        WANT(qolb_open(QOLB_LINK, 1, 1, QOLB_NO_LEASE, &zeros, &node, 1), QOLB_DONE);
-        WANT(qolb_close(&node), QOLB_DONE);
-    }
-    return 0;
-}
-
-/* A request on a closed line is told at once, and may have forwarded the line to a sleeper behind it: so it asks for
- * the next holder. Here there is none. A sleeper of another line is not woken if it has a bell of its own, and then the
- * call does not even ask, as nobody of its line sleeps. */
-static int asks_a_closed_one(uint32_t kind, uint32_t (*call)(qolb_node *node), int shares) {
+/* A request on a closed line is told at once, and may have forwarded the line to a sleeper behind it. Here no node of
+ * its line waits, and a sleeper of another line is not woken: the call does not even ask for the next holder. */
+static int asks_a_closed_one(uint32_t kind, uint32_t (*call)(qolb_node *node)) {
     qolb_bytes zeros = {{0}};
     qolb_node n[2] = {{0}}, closed = {0};
     WANT(qolb_open(kind, 1, 2, QOLB_NO_LEASE, &zeros, n, 2), QOLB_DONE);
-    if (shares && skips_bells()) return 1;
     WANT(qolb_open(kind, 1, 1, QOLB_NO_LEASE, &zeros, &closed, 1), QOLB_DONE);
     WANT(qolb_acquire(&closed), QOLB_GRANTED);
     WANT(qolb_shut(&closed), QOLB_DONE);
@@ -474,13 +459,13 @@ static int asks_a_closed_one(uint32_t kind, uint32_t (*call)(qolb_node *node), i
     tells = call;
     begins(is_told);
     event.at_sleep = 1;
-    WANT(qolb_acquire_within(&n[1], MS), QOLB_LATE);
+    WANT(qolb_acquire_within(&n[1], MS), QOLB_TIMEDOUT);
     WANT(was_told, QOLB_CLOSED);
-    WANT(named, (uint64_t)shares);
-    if (!shares) WANT(woke, 0);
+    WANT(named, 0);
+    WANT(woke, 0);
     WANT(qolb_deqolb(&n[0]), QOLB_DONE);
-    for (int k = 0; k < 2; k++) WANT(qolb_close(&n[k]), QOLB_DONE);
-    WANT(qolb_close(&closed), QOLB_DONE);
+    for (int k = 0; k < 2; k++) WANT(qolb_node_free(&n[k]), QOLB_DONE);
+    WANT(qolb_node_free(&closed), QOLB_DONE);
     return 0;
 }
 
@@ -504,26 +489,26 @@ static uint32_t is_told_after_being_busy(qolb_node *node) {
     return qolb_acquire(node);
 }
 
-/* A node that is told of the shut line late asks for the next holder, as the node did that shut it. */
+static void is_not_called(void *unused) {
+    (void)unused;
+    wrong++;
+}
+
+/* A node that is told of the shut line late asks for the next holder, as the node did that shut it: a third has left a
+ * wish for a call behind, and so counts as one that waits. */
 static int is_told_late(uint32_t kind, uint32_t (*call)(qolb_node *node)) {
     qolb_bytes zeros = {{0}};
-    qolb_node n[2] = {{0}}, closed[2] = {{0}};
-    WANT(qolb_open(kind, 1, 2, QOLB_NO_LEASE, &zeros, n, 2), QOLB_DONE);
-    if (skips_bells()) return 1;
-    WANT(qolb_open(kind, 1, 2, QOLB_NO_LEASE, &zeros, closed, 2), QOLB_DONE);
-    WANT(qolb_acquire(&closed[0]), QOLB_GRANTED);
+    qolb_node n[3] = {{0}};
+    WANT(qolb_open(kind, 1, 3, QOLB_NO_LEASE, &zeros, n, 3), QOLB_DONE);
     WANT(qolb_acquire(&n[0]), QOLB_GRANTED);
-    holder = NULL;
-    other = &closed[0];
-    teller = &closed[1];
-    tells = call;
-    begins(is_told);
-    event.at_sleep = 1;
-    WANT(qolb_acquire_within(&n[1], MS), QOLB_LATE);
-    WANT(was_told, QOLB_CLOSED);
-    WANT(named, 2);
-    WANT(qolb_deqolb(&n[0]), QOLB_DONE);
-    for (int k = 0; k < 2; k++) WANT(qolb_close(&n[k]) + qolb_close(&closed[k]), QOLB_DONE);
+    WANT(qolb_enqolb(&n[2]), QOLB_QUEUED);
+    WANT(qolb_notify(&n[2], is_not_called, NULL), QOLB_WAITING);
+    WANT(qolb_withdraw(&n[2]), QOLB_WITHDRAWN);
+    other = &n[0];
+    begins(NULL);
+    WANT(call(&n[1]), QOLB_CLOSED);
+    WANT(names, 2);
+    for (int k = 0; k < 3; k++) WANT(qolb_node_free(&n[k]), QOLB_DONE);
     return 0;
 }
 
@@ -541,26 +526,25 @@ static int misuse_wakes_nobody(uint32_t kind, uint32_t (*call)(qolb_node *node))
         teller = k ? &n[2] : &empty;
         begins(is_told);
         event.at_sleep = 1;
-        WANT(qolb_acquire_within(&n[1], MS), QOLB_LATE);
+        WANT(qolb_acquire_within(&n[1], MS), QOLB_TIMEDOUT);
         WANT(was_told, QOLB_MISUSE);
         WANT(woke, 0);
         if (!k) WANT(qolb_deqolb(&n[0]), QOLB_DONE);
         if (!k) WANT(qolb_acquire(&n[0]), QOLB_GRANTED);
     }
     WANT(qolb_deqolb(&n[0]), QOLB_DONE);
-    for (int k = 0; k < 3; k++) WANT(qolb_close(&n[k]), QOLB_DONE);
+    for (int k = 0; k < 3; k++) WANT(qolb_node_free(&n[k]), QOLB_DONE);
     return 0;
 }
 
 static int each_passes_on(uint32_t kind) {
     if (passes_on(kind, qolb_poll, 0) || passes_on(kind, waits, 0) || passes_on(kind, qolb_withdraw, 0)) return 1;
     if (misuse_wakes_nobody(kind, qolb_deqolb) || misuse_wakes_nobody(kind, qolb_shut)) return 1;
-    for (int shares = 0; shares < 2; shares++)
-        if (asks_a_closed_one(kind, qolb_enqolb, shares) || asks_a_closed_one(kind, acquires, shares) ||
-            asks_a_closed_one(kind, acquires_within, shares))
-            return 1;
+    if (asks_a_closed_one(kind, qolb_enqolb) || asks_a_closed_one(kind, acquires) ||
+        asks_a_closed_one(kind, acquires_within))
+        return 1;
     if (is_told_late(kind, is_told_as_it_gives_up) || is_told_late(kind, is_told_after_being_busy)) return 1;
-    return kind == QOLB_LINK && (passes_on(kind, qolb_link, 1) || asks_a_closed_one(kind, qolb_prepend, 1));
+    return kind == QOLB_LINK && (passes_on(kind, qolb_link, 1) || asks_a_closed_one(kind, qolb_prepend));
 }
 
 /* ---- A release wakes the next holder, and the waiter behind it ---- */
@@ -584,7 +568,7 @@ static void next_sleeps(void) {
     }
     event.does = next_sleeps;
     event.at_sleep = k + 1;
-    if (waits_as(k) != QOLB_LATE) wrong++;
+    if (waits_as(k) != QOLB_TIMEDOUT) wrong++;
 }
 
 /* Three sleep, each at its own word, and this many of them are woken, in their order. */
@@ -611,7 +595,7 @@ static int wakes_two(uint32_t kind, int passes) {
     nodes = &n[2];
     if (wakes_so_many(acquires_as, releases, 2, QOLB_GRANTED)) return 1;
     WANT(qolb_deqolb(&n[2]), QOLB_DONE);
-    for (int k = 0; k < 2 + SLEEPERS; k++) WANT(qolb_close(&n[k]), QOLB_DONE);
+    for (int k = 0; k < 2 + SLEEPERS; k++) WANT(qolb_node_free(&n[k]), QOLB_DONE);
     return 0;
 }
 
@@ -632,61 +616,60 @@ static int closing_wakes_two(uint32_t kind, int passes_on) {
     other = &n[1];
     nodes = &n[2];
     if (wakes_so_many(acquires_as, passes_on ? shuts_and_is_told : shuts, 2, QOLB_CLOSED)) return 1;
-    for (int k = 0; k < 2 + SLEEPERS; k++) WANT(qolb_close(&n[k]), QOLB_DONE);
+    for (int k = 0; k < 2 + SLEEPERS; k++) WANT(qolb_node_free(&n[k]), QOLB_DONE);
     return 0;
 }
 
-/* If the next holder is awake, though it has slept at that bell before, only the waiter behind it is woken. */
+/* If the next holder is awake, though it has slept at that place before, only the waiter behind it is woken. */
 static int wakes_behind_one_awake(uint32_t kind) {
     qolb_bytes zeros = {{0}};
     qolb_node n[3] = {{0}};
     WANT(qolb_open(kind, 1, 3, QOLB_NO_LEASE, &zeros, n, 3), QOLB_DONE);
     WANT(qolb_acquire(&n[0]), QOLB_GRANTED);
-    WANT(qolb_acquire_within(&n[1], MS), QOLB_LATE);
+    WANT(qolb_acquire_within(&n[1], MS), QOLB_TIMEDOUT);
     WANT(qolb_deqolb(&n[0]), QOLB_DONE);
     WANT(qolb_acquire(&n[0]), QOLB_GRANTED);
     WANT(qolb_enqolb(&n[1]), QOLB_QUEUED);
     holder = &n[0];
     begins(releases);
     event.at_sleep = 1;
-    WANT(qolb_acquire_within(&n[2], MS), QOLB_LATE);
+    WANT(qolb_acquire_within(&n[2], MS), QOLB_TIMEDOUT);
     WANT(wakes, 1);
     WANT(woken_at[0] == slept_at[0], 1);
     WANT(qolb_poll(&n[1]), QOLB_GRANTED);
     WANT(qolb_deqolb(&n[1]), QOLB_DONE);
-    for (int k = 0; k < 3; k++) WANT(qolb_close(&n[k]), QOLB_DONE);
+    for (int k = 0; k < 3; k++) WANT(qolb_node_free(&n[k]), QOLB_DONE);
     return 0;
 }
 
-/* No two places of a line share a bell, for any number of nodes; nor do the same places of two lines that are opened
- * one after the other. */
-static int each_has_its_bell(uint32_t kind) {
+/* No two waiting nodes of a line sleep at one word, for any number of nodes; nor do nodes of two lines. */
+static int each_has_its_place(uint32_t kind) {
     enum { MOST = 200 };
     qolb_bytes zeros = {{0}};
     static qolb_node n[MOST], next[2];
-    static const void *bells[MOST];
+    static const void *places[MOST];
     WANT(qolb_open(kind, 1, MOST, QOLB_NO_LEASE, &zeros, n, MOST), QOLB_DONE);
     WANT(qolb_open(kind, 1, 2, QOLB_NO_LEASE, &zeros, next, 2), QOLB_DONE);
     WANT(qolb_acquire(&n[0]), QOLB_GRANTED);
     WANT(qolb_acquire(&next[0]), QOLB_GRANTED);
     for (int k = 1; k < MOST; k++) {
         begins(NULL);
-        WANT(qolb_acquire_within(&n[k], MS), QOLB_LATE);
-        bells[k] = slept_at[0];
-        for (int j = 1; j < k; j++) WANT(bells[j] != bells[k], 1);
+        WANT(qolb_acquire_within(&n[k], MS), QOLB_TIMEDOUT);
+        places[k] = slept_at[0];
+        for (int j = 1; j < k; j++) WANT(places[j] != places[k], 1);
     }
     begins(NULL);
-    WANT(qolb_acquire_within(&next[1], MS), QOLB_LATE);
-    WANT(slept_at[0] != bells[1], 1);
+    WANT(qolb_acquire_within(&next[1], MS), QOLB_TIMEDOUT);
+    WANT(slept_at[0] != places[1], 1);
     WANT(qolb_deqolb(&n[0]) + qolb_deqolb(&next[0]), QOLB_DONE);
-    for (int k = 0; k < MOST; k++) WANT(qolb_close(&n[k]), QOLB_DONE);
-    for (int k = 0; k < 2; k++) WANT(qolb_close(&next[k]), QOLB_DONE);
+    for (int k = 0; k < MOST; k++) WANT(qolb_node_free(&n[k]), QOLB_DONE);
+    for (int k = 0; k < 2; k++) WANT(qolb_node_free(&next[k]), QOLB_DONE);
     return 0;
 }
 
 static int wakes_whom_it_should(uint32_t kind) {
     if (wakes_two(kind, 0) || wakes_two(kind, 1) || closing_wakes_two(kind, 0) || closing_wakes_two(kind, 1)) return 1;
-    return wakes_behind_one_awake(kind) || each_has_its_bell(kind);
+    return wakes_behind_one_awake(kind) || each_has_its_place(kind);
 }
 
 /* ---- Woken without a grant: the rest of the time is used ---- */
@@ -708,10 +691,10 @@ static int woken_for_nothing(uint32_t kind) {
     uint64_t since = now;
     begins(time_passes);
     event.at_sleep = 1;
-    WANT(qolb_acquire_within(&n[1], 20 * MS), QOLB_LATE);
+    WANT(qolb_acquire_within(&n[1], 20 * MS), QOLB_TIMEDOUT);
     if (has_what_is_left(since)) return 1;
     WANT(qolb_deqolb(&n[0]), QOLB_DONE);
-    for (int k = 0; k < 2; k++) WANT(qolb_close(&n[k]), QOLB_DONE);
+    for (int k = 0; k < 2; k++) WANT(qolb_node_free(&n[k]), QOLB_DONE);
     return 0;
 }
 
@@ -720,6 +703,7 @@ int main(void) {
     now = 5000000000;
     if (counts_pauses() || has_one_processor()) return 1;
     atomic_store(&qolb_pauses_, 80); /* also where there is one processor */
+    atomic_store(&qolb_processors_, 4);
     for (uint32_t kind = 0; kind < QOLB_KINDS; kind++)
         if (rests(kind) || learns(kind, 2) || learns(kind, 6) || withdraws_late(kind, 0) || withdraws_late(kind, 1) ||
             each_passes_on(kind) || wakes_whom_it_should(kind) || woken_for_nothing(kind))

@@ -62,14 +62,14 @@ static void uses(void) {
     MUST(qolb_lock_leave(&lock), QOLB_DONE);
 }
 
-static void is_free_meanwhile(uint64_t burst) {
+static void is_free_meanwhile(uint64_t barging) {
     pthread_t one, other;
-    lock = (qolb_lock)QOLB_LOCK_INIT_BURSTS(burst);
+    lock = (qolb_lock)QOLB_LOCK_INIT_BARGING(barging);
     holds = asks = is_stopped = may_go_on = 0;
     MUST(pthread_create(&one, NULL, leaves_to_another, NULL), 0);
     while (!atomic_load(&holds)) sched_yield();
     uses();
-    MUST(qolb_lock_close(&lock), QOLB_DONE);
+    MUST(qolb_lock_destroy(&lock), QOLB_DONE);
     memset(&lock, 0x5a, sizeof lock);
     MUST(pthread_create(&other, NULL, goes_on, NULL), 0);
     pthread_join(one, NULL);
@@ -84,9 +84,9 @@ static void *shuts(void *unused) {
     return unused;
 }
 
-static void is_shut_for_who_is_told(uint64_t burst) {
+static void is_shut_for_who_is_told(uint64_t barging) {
     pthread_t one, other;
-    lock = (qolb_lock)QOLB_LOCK_INIT_BURSTS(burst);
+    lock = (qolb_lock)QOLB_LOCK_INIT_BARGING(barging);
     cond = (qolb_cond)QOLB_COND_INIT;
     asks = is_stopped = may_go_on = 0;
     MUST(qolb_lock_enter(&lock), QOLB_GRANTED);
@@ -96,7 +96,7 @@ static void is_shut_for_who_is_told(uint64_t burst) {
     MUST(qolb_cond_wait(&cond, &lock), QOLB_CLOSED);
     MUST(qolb_lock_try(&lock), QOLB_CLOSED);
     MUST(qolb_lock_enter_within(&lock, 0), QOLB_CLOSED);
-    MUST(qolb_lock_close(&lock), QOLB_DONE);
+    MUST(qolb_lock_destroy(&lock), QOLB_DONE);
     memset(&lock, 0x5a, sizeof lock);
     pthread_join(one, NULL);
     pthread_join(other, NULL);
@@ -104,7 +104,7 @@ static void is_shut_for_who_is_told(uint64_t burst) {
 
 int main(void) {
     alarm(600);
-    for (uint64_t burst = 0; burst <= 64; burst++) is_free_meanwhile(burst);
-    for (uint64_t burst = 0; burst <= 64; burst += 16) is_shut_for_who_is_told(burst);
+    for (uint64_t barging = 0; barging <= 64; barging++) is_free_meanwhile(barging);
+    for (uint64_t barging = 0; barging <= 64; barging += 16) is_shut_for_who_is_told(barging);
     return 0;
 }

@@ -2,7 +2,7 @@
  * waits at a condition, in a random order. No addition may be lost, no two threads be in at once, and each thread has
  * to go on.
  *
- *   build/stress SECONDS BURST [SEED]     a thread that has no turn in ten times as long ends the program
+ *   build/stress SECONDS BARGING_LIMIT [SEED]     a thread that has no turn in ten times as long ends the program
  *
  * Prints the turns of all, and the least and the most of one thread. */
 #define _GNU_SOURCE
@@ -40,7 +40,7 @@ static int enters(struct worker *me, unsigned way) {
                    : way < 14 ? qolb_lock_enter_within(&lock, drawn(&me->seed) % (20 * MS))
                               : qolb_lock_try(&lock);
     if (got == QOLB_GRANTED) return 1;
-    MUST(got, way < 14 ? QOLB_LATE : QOLB_BUSY);
+    MUST(got, way < 14 ? QOLB_TIMEDOUT : QOLB_BUSY);
     me->late++;
     return 0;
 }
@@ -48,7 +48,7 @@ static int enters(struct worker *me, unsigned way) {
 /* A turn more after a signal, or after some time without one. */
 static void waits(struct worker *me) {
     uint32_t got = qolb_cond_wait_within(&cond, &lock, drawn(&me->seed) % MS);
-    MUST(got == QOLB_GRANTED || got == QOLB_LATE, 1);
+    MUST(got == QOLB_GRANTED || got == QOLB_TIMEDOUT, 1);
     turn(me);
 }
 
@@ -89,9 +89,9 @@ static void *works(void *argument) {
 }
 
 int main(int argc, char **argv) {
-    if (argc < 3) return fputs("stress SECONDS BURST [SEED]\n", stderr), 2;
+    if (argc < 3) return fputs("stress SECONDS BARGING_LIMIT [SEED]\n", stderr), 2;
     double last = atof(argv[1]);
-    lock = (qolb_lock)QOLB_LOCK_INIT_BURSTS(strtoul(argv[2], NULL, 10));
+    lock = (qolb_lock)QOLB_LOCK_INIT_BARGING(strtoul(argv[2], NULL, 10));
     alarm((unsigned)(10 * last) + 60);
     for (int k = 0; k < THREADS; k++) {
         workers[k].seed = (uint32_t)(k + 1) * 77773u + (argc > 3 ? (uint32_t)atoi(argv[3]) : 0);
@@ -106,8 +106,8 @@ int main(int argc, char **argv) {
         if (least < 0 || workers[k].turns < least) least = workers[k].turns;
         if (workers[k].turns > most) most = workers[k].turns;
     }
-    printf("burst %s: %ld turns, of one thread %ld to %ld\n", argv[2], turns, least, most);
+    printf("barging %s: %ld turns, of one thread %ld to %ld\n", argv[2], turns, least, most);
     MUST(turns, additions);
-    MUST(qolb_lock_close(&lock), QOLB_DONE);
+    MUST(qolb_lock_destroy(&lock), QOLB_DONE);
     return least < 1;
 }

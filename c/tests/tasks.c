@@ -17,9 +17,9 @@ static void *last;
 
 static void count(void *arg) { calls++, last = arg; }
 
-/* A lock with these bursts, which nobody has. */
-static void begin(uint64_t burst) {
-    lock = (qolb_lock)QOLB_LOCK_INIT_BURSTS(burst);
+/* A lock with these barging, which nobody has. */
+static void begin(uint64_t barging) {
+    lock = (qolb_lock)QOLB_LOCK_INIT_BARGING(barging);
     memset(task, 0, sizeof task);
     calls = 0;
 }
@@ -35,8 +35,8 @@ static int is_called(int k, int times) {
 
 /* ---- One thread ---- */
 
-static int refuses(uint64_t burst) {
-    begin(burst);
+static int refuses(uint64_t barging) {
+    begin(barging);
     WANT(qolb_task_poll(&task[0]), QOLB_MISUSE);
     WANT(qolb_task_leave(&task[0]), QOLB_MISUSE);
     WANT(qolb_task_shut(&task[0]), QOLB_MISUSE);
@@ -53,7 +53,7 @@ static int refuses(uint64_t burst) {
     WANT(qolb_lock_shut(&lock), QOLB_MISUSE);
     WANT(qolb_lock_try(&lock), QOLB_BUSY);
     WANT(qolb_lock_is_mine(&lock), 0);
-    WANT(qolb_lock_close(&lock), QOLB_MISUSE);
+    WANT(qolb_lock_destroy(&lock), QOLB_BUSY);
     WANT(enters(1), QOLB_WAITING);
     WANT(enters(1), QOLB_MISUSE);
     WANT(qolb_task_leave(&task[1]), QOLB_MISUSE);
@@ -63,14 +63,14 @@ static int refuses(uint64_t burst) {
     WANT(qolb_task_holds(&task[0]), 0);
     WANT(qolb_task_leave(&task[0]), QOLB_MISUSE);
     WANT(calls, 0);
-    WANT(qolb_lock_close(&lock), QOLB_DONE);
+    WANT(qolb_lock_destroy(&lock), QOLB_DONE);
     return 0;
 }
 
 /* Tasks in the order in which they came; one gives up in the middle, one at the front, and one at its
  * turn. */
-static int in_order(uint64_t burst) {
-    begin(burst);
+static int in_order(uint64_t barging) {
+    begin(barging);
     WANT(enters(0), QOLB_GRANTED);
     for (int k = 1; k < MANY; k++) WANT(enters(k), QOLB_WAITING);
     WANT(qolb_task_cancel(&task[3]), QOLB_WITHDRAWN);
@@ -90,13 +90,13 @@ static int in_order(uint64_t burst) {
     /* Nobody waits: a thread enters as before. */
     WANT(qolb_lock_enter(&lock), QOLB_GRANTED);
     WANT(qolb_lock_leave(&lock), QOLB_DONE);
-    WANT(qolb_lock_close(&lock), QOLB_DONE);
+    WANT(qolb_lock_destroy(&lock), QOLB_DONE);
     return 0;
 }
 
 /* A task and a thread in turn, of one thread. */
-static int in_turn(uint64_t burst) {
-    begin(burst);
+static int in_turn(uint64_t barging) {
+    begin(barging);
     for (int k = 0; k < 100; k++) {
         WANT(enters(0), QOLB_GRANTED);
         WANT(qolb_lock_is_mine(&lock), 0);
@@ -106,12 +106,12 @@ static int in_turn(uint64_t burst) {
         WANT(qolb_task_holds(&task[0]), 0);
         WANT(qolb_lock_leave(&lock), QOLB_DONE);
     }
-    WANT(qolb_lock_close(&lock), QOLB_DONE);
+    WANT(qolb_lock_destroy(&lock), QOLB_DONE);
     return 0;
 }
 
-static int shuts(uint64_t burst, int by_task) {
-    begin(burst);
+static int shuts(uint64_t barging, int by_task) {
+    begin(barging);
     if (by_task) WANT(enters(0), QOLB_GRANTED);
     else WANT(qolb_lock_enter(&lock), QOLB_GRANTED);
     for (int k = 1; k < MANY; k++) WANT(enters(k), QOLB_WAITING);
@@ -124,14 +124,14 @@ static int shuts(uint64_t burst, int by_task) {
     }
     WANT(enters(0), QOLB_CLOSED);
     WANT(qolb_lock_enter(&lock), QOLB_CLOSED);
-    WANT(qolb_lock_close(&lock), QOLB_DONE);
+    WANT(qolb_lock_destroy(&lock), QOLB_DONE);
     return 0;
 }
 
 /* Once a shut has returned no task waits for those before it, to be told: one that asks, one that gives up, and a
  * thread. */
-static int shut_is_seen_at_once(uint64_t burst, int by_task) {
-    begin(burst);
+static int shut_is_seen_at_once(uint64_t barging, int by_task) {
+    begin(barging);
     if (by_task) WANT(enters(0), QOLB_GRANTED);
     else WANT(qolb_lock_enter(&lock), QOLB_GRANTED);
     for (int k = 1; k < MANY - 1; k++) WANT(enters(k), QOLB_WAITING);
@@ -141,7 +141,7 @@ static int shut_is_seen_at_once(uint64_t burst, int by_task) {
     WANT(qolb_lock_enter_within(&lock, 0), QOLB_CLOSED);
     for (int k = MANY - 2; k > 0; k--) WANT(qolb_task_cancel(&task[k]), QOLB_CLOSED);
     WANT(qolb_task_poll(&task[MANY - 1]), QOLB_MISUSE);
-    WANT(qolb_lock_close(&lock), QOLB_DONE);
+    WANT(qolb_lock_destroy(&lock), QOLB_DONE);
     return 0;
 }
 
@@ -159,9 +159,9 @@ static void *writes_and_shuts(void *unused) {
     return unused;
 }
 
-static int told_as_it_gives_up(uint64_t burst) {
+static int told_as_it_gives_up(uint64_t barging) {
     pthread_t id;
-    begin(burst);
+    begin(barging);
     written = held_by_other = others_wait = 0;
     WANT(pthread_create(&id, NULL, writes_and_shuts, NULL), 0);
     while (!__atomic_load_n(&held_by_other, __ATOMIC_RELAXED)) usleep(200);
@@ -172,13 +172,13 @@ static int told_as_it_gives_up(uint64_t burst) {
     WANT(written, 1);
     WANT(qolb_task_cancel(&task[0]), QOLB_CLOSED);
     WANT(pthread_join(id, NULL), 0);
-    WANT(qolb_lock_close(&lock), QOLB_DONE);
+    WANT(qolb_lock_destroy(&lock), QOLB_DONE);
     return 0;
 }
 
-static int tells_this_descriptor(uint64_t burst, int fd) {
+static int tells_this_descriptor(uint64_t barging, int fd) {
     uint64_t got = 0;
-    begin(burst);
+    begin(barging);
     WANT(qolb_lock_enter(&lock), QOLB_GRANTED);
     WANT(qolb_task_enter_fd(&task[0], &lock, fd), QOLB_WAITING);
     WANT(qolb_lock_leave(&lock), QOLB_DONE);
@@ -186,15 +186,15 @@ static int tells_this_descriptor(uint64_t burst, int fd) {
     WANT(got, 1);
     WANT(qolb_task_poll(&task[0]), QOLB_GRANTED);
     WANT(qolb_task_leave(&task[0]), QOLB_DONE);
-    WANT(qolb_lock_close(&lock), QOLB_DONE);
+    WANT(qolb_lock_destroy(&lock), QOLB_DONE);
     return 0;
 }
 
 /* Any that is not negative: 0, too. */
-static int tells_a_descriptor(uint64_t burst) {
+static int tells_a_descriptor(uint64_t barging) {
     int input = dup(0), fd = eventfd(0, EFD_NONBLOCK), at_zero = fd ? dup2(fd, 0) : 0;
     WANT(at_zero, 0);
-    WANT((fd && tells_this_descriptor(burst, fd)) || tells_this_descriptor(burst, 0), 0);
+    WANT((fd && tells_this_descriptor(barging, fd)) || tells_this_descriptor(barging, 0), 0);
     close(0);
     if (fd) close(fd);
     if (input >= 0) dup2(input, 0), close(input);
@@ -209,9 +209,9 @@ static void is_not_cancelled(void *unused) {
     MUST(was, PTHREAD_CANCEL_DISABLE);
 }
 
-static int may_be_cancelled(uint64_t burst, int state) {
+static int may_be_cancelled(uint64_t barging, int state) {
     int was;
-    begin(burst);
+    begin(barging);
     WANT(pthread_setcancelstate(state, &was), 0);
     WANT(qolb_lock_enter(&lock), QOLB_GRANTED);
     WANT(qolb_task_enter(&task[0], &lock, is_not_cancelled, &task[0]), QOLB_WAITING);
@@ -220,7 +220,7 @@ static int may_be_cancelled(uint64_t burst, int state) {
     WANT(was, state);
     if (is_called(0, 1)) return 1;
     WANT(qolb_task_leave(&task[0]), QOLB_DONE);
-    WANT(qolb_lock_close(&lock), QOLB_DONE);
+    WANT(qolb_lock_destroy(&lock), QOLB_DONE);
     return 0;
 }
 
@@ -246,9 +246,9 @@ static void go_on(void *arg) {
 }
 
 /* One leave begins all turns of five tasks. */
-static int nests_no_call(uint64_t burst) {
+static int nests_no_call(uint64_t barging) {
     static struct chain it[MANY];
-    begin(burst);
+    begin(barging);
     deepest = 0;
     WANT(enters(0), QOLB_GRANTED);
     for (int k = 1; k < MANY; k++) {
@@ -258,19 +258,19 @@ static int nests_no_call(uint64_t burst) {
     WANT(qolb_task_leave(&task[0]), QOLB_DONE);
     WANT(deepest, 1);
     for (int k = 1; k < MANY; k++) WANT(it[k].turns, 2001);
-    WANT(qolb_lock_close(&lock), QOLB_DONE);
+    WANT(qolb_lock_destroy(&lock), QOLB_DONE);
     return 0;
 }
 
 static void close_it(void *arg) {
     MUST(qolb_task_poll(arg), QOLB_GRANTED);
     MUST(qolb_task_leave(arg), QOLB_DONE);
-    MUST(qolb_lock_close(&lock), QOLB_DONE);
+    MUST(qolb_lock_destroy(&lock), QOLB_DONE);
 }
 
 /* The call of the last task closes the lock, inside the leave of the holder before it. */
-static int closes_in_a_call(uint64_t burst) {
-    begin(burst);
+static int closes_in_a_call(uint64_t barging) {
+    begin(barging);
     WANT(qolb_lock_enter(&lock), QOLB_GRANTED);
     WANT(qolb_task_enter(&task[0], &lock, close_it, &task[0]), QOLB_WAITING);
     WANT(qolb_lock_leave(&lock), QOLB_DONE);
@@ -312,16 +312,16 @@ static void *serves_tasks(void *first) {
     return NULL;
 }
 
-static int beside_threads(uint64_t burst) {
+static int beside_threads(uint64_t barging) {
     pthread_t thread[4];
-    begin(burst);
+    begin(barging);
     guarded = 0;
     memset(ready, 0, sizeof ready);
     for (int k = 0; k < 4; k++)
         WANT(pthread_create(&thread[k], NULL, k % 2 ? serves_tasks : thread_enters, (void *)(intptr_t)(k / 2 * 3)), 0);
     for (int k = 0; k < 4; k++) WANT(pthread_join(thread[k], NULL), 0);
     WANT(guarded, 8 * EACH);
-    WANT(qolb_lock_close(&lock), QOLB_DONE);
+    WANT(qolb_lock_destroy(&lock), QOLB_DONE);
     return 0;
 }
 
@@ -336,10 +336,10 @@ static void *enters_once(void *turn) {
     return NULL;
 }
 
-static int keeps_the_order(uint64_t burst) {
+static int keeps_the_order(uint64_t barging) {
     pthread_t thread;
     int seen = -1;
-    begin(burst);
+    begin(barging);
     atomic_store(&number, 0);
     WANT(enters(0), QOLB_GRANTED);
     WANT(enters(1), QOLB_WAITING);
@@ -353,7 +353,7 @@ static int keeps_the_order(uint64_t burst) {
     WANT(seen, 1);
     if (is_called(2, 2)) return 1;
     WANT(qolb_task_leave(&task[2]), QOLB_DONE);
-    WANT(qolb_lock_close(&lock), QOLB_DONE);
+    WANT(qolb_lock_destroy(&lock), QOLB_DONE);
     return 0;
 }
 
@@ -388,8 +388,8 @@ static void *gives_up(void *argument) {
     return NULL;
 }
 
-static int is_in_call(struct pair *it, qolb_task *waits, uint64_t burst) {
-    *it = (struct pair){.lock = QOLB_LOCK_INIT_BURSTS(burst), .waits = waits};
+static int is_in_call(struct pair *it, qolb_task *waits, uint64_t barging) {
+    *it = (struct pair){.lock = QOLB_LOCK_INIT_BARGING(barging), .waits = waits};
     *waits = (qolb_task)QOLB_TASK_INIT;
     WANT(qolb_task_enter(&it->holder, &it->lock, count, NULL), QOLB_GRANTED);
     WANT(qolb_task_enter(waits, &it->lock, lasts, it), QOLB_WAITING);
@@ -408,17 +408,17 @@ static int ends(struct pair *it) {
     atomic_store(&it->may_end, 1);
     pthread_join(it->gives_up, NULL);
     pthread_join(it->leaves, NULL);
-    WANT(qolb_lock_close(&it->lock), QOLB_DONE);
+    WANT(qolb_lock_destroy(&it->lock), QOLB_DONE);
     return 0;
 }
 
 /* A signal of the system ends the sleep, and not the wait. */
 static void does_nothing(int signal) { (void)signal; }
 
-static int waits_on_when_interrupted(uint64_t burst) {
+static int waits_on_when_interrupted(uint64_t barging) {
     struct sigaction interrupts = {.sa_handler = does_nothing}; /* without SA_RESTART */
     WANT(sigaction(SIGUSR1, &interrupts, NULL), 0);
-    if (is_in_call(&pairs[0], &task[0], burst) || waits_for_the_call(&pairs[0])) return 1;
+    if (is_in_call(&pairs[0], &task[0], barging) || waits_for_the_call(&pairs[0])) return 1;
     for (int k = 0; k < 2; k++) {
         WANT(pthread_kill(pairs[0].gives_up, SIGUSR1), 0);
         usleep(20000);
@@ -426,16 +426,14 @@ static int waits_on_when_interrupted(uint64_t burst) {
     return ends(&pairs[0]);
 }
 
-/* Two at one bell: the second of those that wait there goes on when its own call has ended, though the first waits
- * on. */
-static int each_waits_for_its_call(uint64_t burst) {
-    static _Alignas(qolb_task) char room[BELLS * sizeof(struct task) + sizeof(qolb_task)];
-    qolb_task *at_one_bell[] = {(qolb_task *)room, (qolb_task *)(room + BELLS * sizeof(struct task))};
+/* Two whose callbacks are in one list: the second of those that wait there goes on when its own call has ended, though
+ * the first waits on. */
+static int each_waits_for_its_call(uint64_t barging) {
+    static qolb_task room[100 * TASK_ROWS];
+    qolb_task *in_one_list[] = {&room[0], &room[1]};
+    while (row_of_task((uintptr_t)in_one_list[1]) != row_of_task((uintptr_t)room)) in_one_list[1]++;
     for (int k = 0; k < 2; k++)
-        if (is_in_call(&pairs[k], at_one_bell[k], burst)) return 1;
-    WANT(bell_of_key(((struct task *)at_one_bell[0])->notice.key) ==
-             bell_of_key(((struct task *)at_one_bell[1])->notice.key),
-         1);
+        if (is_in_call(&pairs[k], in_one_list[k], barging)) return 1;
     for (int k = 0; k < 2; k++)
         if (waits_for_the_call(&pairs[k])) return 1;
     return ends(&pairs[1]) || ends(&pairs[0]);
@@ -443,16 +441,19 @@ static int each_waits_for_its_call(uint64_t burst) {
 
 int main(void) {
     alarm(300);
-    static const uint64_t bursts[] = {0, 2, 4, 1024};
-    for (size_t k = 0; k < sizeof bursts / sizeof bursts[0]; k++) {
-        uint64_t burst = bursts[k];
-        if (refuses(burst) || in_order(burst) || in_turn(burst) || shuts(burst, 0) || shuts(burst, 1)) return 1;
-        if (shut_is_seen_at_once(burst, 0) || shut_is_seen_at_once(burst, 1)) return 1;
-        if (told_as_it_gives_up(burst) || tells_a_descriptor(burst) || nests_no_call(burst) || closes_in_a_call(burst))
+    static const uint64_t limits[] = {0, 2, 4, 1024};
+    for (size_t k = 0; k < sizeof limits / sizeof limits[0]; k++) {
+        uint64_t barging = limits[k];
+        if (refuses(barging) || in_order(barging) || in_turn(barging) || shuts(barging, 0) || shuts(barging, 1))
             return 1;
-        if (beside_threads(burst) || keeps_the_order(burst)) return 1;
-        if (may_be_cancelled(burst, PTHREAD_CANCEL_ENABLE) || may_be_cancelled(burst, PTHREAD_CANCEL_DISABLE)) return 1;
-        if (waits_on_when_interrupted(burst) || each_waits_for_its_call(burst)) return 1;
+        if (shut_is_seen_at_once(barging, 0) || shut_is_seen_at_once(barging, 1)) return 1;
+        if (told_as_it_gives_up(barging) || tells_a_descriptor(barging) || nests_no_call(barging) ||
+            closes_in_a_call(barging))
+            return 1;
+        if (beside_threads(barging) || keeps_the_order(barging)) return 1;
+        if (may_be_cancelled(barging, PTHREAD_CANCEL_ENABLE) || may_be_cancelled(barging, PTHREAD_CANCEL_DISABLE))
+            return 1;
+        if (waits_on_when_interrupted(barging) || each_waits_for_its_call(barging)) return 1;
     }
     return 0;
 }

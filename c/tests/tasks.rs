@@ -76,7 +76,7 @@ fn is_send<T: Send>(_: &T) {}
 /// A task waits beside a thread that holds, and is told of a grant and of a closing.
 fn one_waits() {
     let mutex = Arc::new(Mutex::new(0u64));
-    let lock = Arc::new(Mutex::with_burst(0u64, 64));
+    let lock = Arc::new(Mutex::with_barging(0u64, 64));
     let (held, value) = (mutex.lock().unwrap(), lock.lock().unwrap());
     let other = thread::spawn({
         let (mutex, lock) = (mutex.clone(), lock.clone());
@@ -118,8 +118,8 @@ fn a_node_waits(kind: Kind) {
 }
 
 /// A guard that is dropped by another thread, and a future that is dropped while it waits, in the middle of the queue.
-fn guards_go(burst: u16) {
-    let mutex = Mutex::with_burst(0u64, burst);
+fn guards_go(barging: u16) {
+    let mutex = Mutex::with_barging(0u64, barging);
     let mut guard = block_on(mutex.lock_async()).unwrap();
     is_send(&guard);
     *guard += 1;
@@ -264,9 +264,9 @@ fn aborts(tasks: &[Arc<Task>], mut random: Random) {
     }
 }
 
-fn many_tasks(count: u64, rounds: u32, seed: u64, bursts: [u16; 2]) {
+fn many_tasks(count: u64, rounds: u32, seed: u64, barging: [u16; 2]) {
     let (pool, counts) = (Arc::new(Pool::default()), Arc::new(Counts::default()));
-    let [mutex, lock] = bursts.map(|burst| Arc::new(Mutex::with_burst(0u64, burst)));
+    let [mutex, lock] = barging.map(|barging| Arc::new(Mutex::with_barging(0u64, barging)));
     let tasks: Vec<_> = (0..count)
         .map(|k| pool.spawn(by_mutex(mutex.clone(), lock.clone(), counts.clone(), rounds, Random(seed * 7919 + k * 104_729 + 1))))
         .collect();
@@ -285,7 +285,7 @@ fn many_tasks(count: u64, rounds: u32, seed: u64, bursts: [u16; 2]) {
         pool.run(4);
     });
     let (added, seen) = (counts.added.load(SeqCst) + by_thread.load(SeqCst), *mutex.lock().unwrap() + *lock.lock().unwrap());
-    assert_eq!(seen, added, "{bursts:?}");
+    assert_eq!(seen, added, "{barging:?}");
 }
 
 fn many_nodes(count: u64, rounds: u32, seed: u64) {
@@ -317,8 +317,8 @@ fn main() {
         a_node_waits(kind);
     }
     for seed in seed.. {
-        for bursts in [[0, 0], [0, 2], [1024, 16]] {
-            many_tasks(count, rounds, seed, bursts);
+        for barging in [[0, 0], [0, 2], [1024, 16]] {
+            many_tasks(count, rounds, seed, barging);
         }
         many_nodes(count, rounds, seed);
         if since.elapsed() >= time {

@@ -65,7 +65,7 @@ static int count(uint32_t kind) {
     WANT(qolb_read_lane(&adders[0].node, 3, &sum), QOLB_DONE);
     WANT(sum, THREADS * ROUNDS);
     WANT(qolb_deqolb(&adders[0].node), QOLB_DONE);
-    for (int k = 0; k < THREADS; k++) WANT(qolb_close(&adders[k].node), QOLB_DONE);
+    for (int k = 0; k < THREADS; k++) WANT(qolb_node_free(&adders[k].node), QOLB_DONE);
     return 0;
 }
 
@@ -87,7 +87,7 @@ static int refusals(void) {
     WANT(qolb_number(&nodes[0]), 1);
     WANT(qolb_number(&nodes[1]), 2);
     WANT(nodes[2].own == own, 1);
-    for (int k = 0; k < 3; k++) WANT(qolb_close(&nodes[k]), QOLB_DONE);
+    for (int k = 0; k < 3; k++) WANT(qolb_node_free(&nodes[k]), QOLB_DONE);
     for (int k = 0; k < 3; k++) WANT(nodes[k].own == NULL, 1);
     return 0;
 }
@@ -109,7 +109,7 @@ static int opens(uint32_t kind) {
             WANT(qolb_turns_left(&nodes[many - 1]), leases[k]);
             WANT(qolb_label(&nodes[many - 1]), label);
             WANT(qolb_deqolb(&nodes[many - 1]), QOLB_DONE);
-            for (uint64_t n = 0; n < many; n++) WANT(qolb_close(&nodes[n]), QOLB_DONE);
+            for (uint64_t n = 0; n < many; n++) WANT(qolb_node_free(&nodes[n]), QOLB_DONE);
         }
     return 0;
 }
@@ -120,7 +120,7 @@ static int empty_handle(void) {
     uint64_t lane = 5;
     WANT(qolb_enqolb(&node), QOLB_MISUSE);
     WANT(qolb_poll(&node), QOLB_MISUSE);
-    WANT(qolb_wait(&node, 1), QOLB_MISUSE);
+    WANT(qolb_spin(&node, 1), QOLB_MISUSE);
     WANT(qolb_withdraw(&node), QOLB_MISUSE);
     WANT(qolb_prepend(&node), QOLB_MISUSE);
     WANT(qolb_link(&node), QOLB_MISUSE);
@@ -133,7 +133,7 @@ static int empty_handle(void) {
     WANT(lane, 5);
     WANT(qolb_deqolb(&node), QOLB_MISUSE);
     WANT(qolb_shut(&node), QOLB_MISUSE);
-    WANT(qolb_close(&node), QOLB_MISUSE);
+    WANT(qolb_node_free(&node), QOLB_MISUSE);
     WANT(qolb_number(&node), 0);
     WANT(qolb_state(&node), QOLB_STATE_EMPTY);
     return 0;
@@ -159,7 +159,7 @@ static int misuse(uint32_t kind) {
     WANT(qolb_enqolb(&n[0]), QOLB_MISUSE);
     WANT(qolb_prepend(&n[0]), QOLB_MISUSE);
     WANT(qolb_poll(&n[0]), QOLB_MISUSE);
-    WANT(qolb_close(&n[0]), QOLB_MISUSE);
+    WANT(qolb_node_free(&n[0]), QOLB_MISUSE);
     WANT(qolb_read_lane(&n[0], 8, &lane), QOLB_MISUSE);
     WANT(lane, 5);
     WANT(qolb_write_lane(&n[0], 8, 1), QOLB_MISUSE);
@@ -169,10 +169,10 @@ static int misuse(uint32_t kind) {
     WANT(lane, 9);
     WANT(qolb_enqolb(&n[1]), QOLB_QUEUED);
     WANT(qolb_state(&n[1]), QOLB_STATE_QUEUED);
-    WANT(qolb_wait(&n[1], 0), QOLB_MISUSE);
-    WANT(qolb_wait(&n[1], 3), QOLB_WAITING);
+    WANT(qolb_spin(&n[1], 0), QOLB_MISUSE);
+    WANT(qolb_spin(&n[1], 3), QOLB_WAITING);
     WANT(qolb_enqolb(&n[2]), QOLB_QUEUED);
-    WANT(qolb_close(&n[1]), QOLB_MISUSE);
+    WANT(qolb_node_free(&n[1]), QOLB_MISUSE);
     WANT(qolb_read(&n[1], &line), QOLB_MISUSE);
     WANT(qolb_withdraw(&n[1]), QOLB_WITHDRAWN);
     WANT(qolb_state(&n[1]), QOLB_STATE_ROLLED);
@@ -190,7 +190,7 @@ static int misuse(uint32_t kind) {
     WANT(qolb_shut(&n[2]), QOLB_DONE);
     WANT(qolb_state(&n[2]), QOLB_STATE_SHUT);
     WANT(qolb_enqolb(&n[1]), QOLB_CLOSED);
-    for (int k = 0; k < 3; k++) WANT(qolb_close(&n[k]), QOLB_DONE);
+    for (int k = 0; k < 3; k++) WANT(qolb_node_free(&n[k]), QOLB_DONE);
     return 0;
 }
 
@@ -203,20 +203,20 @@ static int halves(void) {
         WANT(qolb_open(kind, 7, 1, QOLB_NO_LEASE, &zeros, &other, 1), QOLB_DONE);
         WANT(qolb_prepend(&other), QOLB_MISUSE);
         WANT(qolb_link(&other), QOLB_MISUSE);
-        WANT(qolb_close(&other), QOLB_DONE);
+        WANT(qolb_node_free(&other), QOLB_DONE);
     }
     WANT(qolb_open(QOLB_LINK, 7, 2, 2, &zeros, n, 2), QOLB_DONE);
     WANT(qolb_prepend(&n[0]), QOLB_GRANTED);
     WANT(qolb_prepend(&n[1]), QOLB_LINKING);
     WANT(qolb_state(&n[1]), QOLB_STATE_LINKING);
     WANT(qolb_poll(&n[1]), QOLB_MISUSE);
-    WANT(qolb_close(&n[1]), QOLB_MISUSE);
+    WANT(qolb_node_free(&n[1]), QOLB_MISUSE);
     WANT(qolb_deqolb(&n[0]), QOLB_DONE);
     WANT(qolb_state(&n[0]), QOLB_STATE_LEFT);
     WANT(qolb_link(&n[1]), QOLB_GRANTED);
     WANT(qolb_deqolb(&n[1]), QOLB_DONE); /* the last turn of the lease */
     WANT(qolb_enqolb(&n[0]), QOLB_CLOSED);
-    for (int k = 0; k < 2; k++) WANT(qolb_close(&n[k]), QOLB_DONE);
+    for (int k = 0; k < 2; k++) WANT(qolb_node_free(&n[k]), QOLB_DONE);
     return 0;
 }
 
@@ -229,10 +229,10 @@ static int frees_after_shut(uint32_t kind) {
     WANT(qolb_enqolb(&nodes[0]), QOLB_GRANTED);
     WANT(qolb_enqolb(&nodes[1]), QOLB_QUEUED);
     WANT(qolb_shut(&nodes[0]), QOLB_DONE);
-    WANT(qolb_close(&nodes[0]), QOLB_DONE);
+    WANT(qolb_node_free(&nodes[0]), QOLB_DONE);
     WANT(qolb_poll(&nodes[1]), QOLB_CLOSED);
     WANT(qolb_enqolb(&nodes[2]), QOLB_CLOSED);
-    for (int k = 1; k < NODES; k++) WANT(qolb_close(&nodes[k]), QOLB_DONE);
+    for (int k = 1; k < NODES; k++) WANT(qolb_node_free(&nodes[k]), QOLB_DONE);
     return 0;
 }
 

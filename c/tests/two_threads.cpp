@@ -87,7 +87,7 @@ bool is_lock(qolb_kind kind) {
         if (now || soon || std::chrono::steady_clock::now() - since < 5ms || b.state() != QOLB_STATE_ROLLED)
             return false;
         if (std::unique_lock<qolb::Node>(b, std::chrono::steady_clock::now() + 1ms)) return false;
-        if (b.try_acquire() != qolb::Got::busy || b.acquire_for(0s) != qolb::Got::late) return false;
+        if (b.try_acquire() != qolb::Got::busy || b.acquire_for(0s) != qolb::Got::timed_out) return false;
         if (a.acquire() != qolb::Got::misuse || a.with([](qolb_bytes &) {}) != qolb::Got::misuse) return false;
         if (!throws<qolb::Misuse>([&] { a.lock(); }) ||
             !throws<qolb::Misuse>([&] { qolb::Guard turn(b, std::adopt_lock); }))
@@ -163,7 +163,7 @@ bool times_are_taken(qolb_kind kind) {
     auto opened = qolb::Node::open(kind, 1, 2, qolb_bytes{});
     auto &a = opened.second[0], &b = opened.second[1];
     if (a.acquire() != qolb::Got::granted) return false;
-    if (b.acquire_for(-1ns) != qolb::Got::late || b.acquire_for(std::chrono::hours::min()) != qolb::Got::late)
+    if (b.acquire_for(-1ns) != qolb::Got::timed_out || b.acquire_for(std::chrono::hours::min()) != qolb::Got::timed_out)
         return false;
     if (b.try_lock_until(std::chrono::steady_clock::now() - 1h)) return false;
     for (bool by_hours : {false, true}) {

@@ -50,7 +50,7 @@ fn take(node: &mut Node, round: u64) {
         };
         match got {
             Answer::Granted => return,
-            Answer::Busy | Answer::Late => assert_ne!(node.state(), State::Holding, "{got:?}"),
+            Answer::Busy | Answer::TimedOut => assert_ne!(node.state(), State::Holding, "{got:?}"),
             other => panic!("{other:?}"),
         }
     }
@@ -110,9 +110,9 @@ fn guards(kind: Kind) {
     assert_eq!(b.acquire(), Answer::Granted);
     assert_eq!(b.lock().err(), Some(Stopped::Misuse));
     // A node that holds is not closed.
-    let Err(mut b) = b.close() else { panic!("a holder was closed") };
+    let Err(mut b) = b.free() else { panic!("a holder was closed") };
     assert_eq!(b.deqolb(), Answer::Done);
-    assert!(b.close().is_ok());
+    assert!(b.free().is_ok());
     a.lock().unwrap().shut();
     assert_eq!(a.state(), State::Shut);
     assert_eq!(a.try_acquire(), Answer::Closed);
@@ -165,5 +165,5 @@ fn main() {
         guards(kind);
         waiter_is_dropped(kind);
     }
-    assert_eq!(qolb::version(), 20000);
+    assert_eq!(qolb::version(), 30000);
 }

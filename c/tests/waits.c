@@ -80,15 +80,15 @@ static int takes_no_processor(uint32_t kind) {
     for (int k = 0; k < WAITERS; k++) {
         int is_late = hows[k] == A_SECOND;
         if (!is_late) pthread_join(waiters[k].id, NULL);
-        WANT(waiters[k].got, is_late ? QOLB_LATE : QOLB_GRANTED);
+        WANT(waiters[k].got, is_late ? QOLB_TIMEDOUT : QOLB_GRANTED);
         WANT(waiters[k].lasted >= 1, 1);
         /* Others may have the processors meanwhile. */
         WANT((is_late ? waiters[k].lasted - 1 : waiters[k].ended - released) < 5, 1);
         WANT(waiters[k].used.processor < (k < BUSY ? 0.1 : 0.5), 1);
         if (k < BUSY) WANT(waiters[k].used.sleeps < 100, 1);
-        WANT(qolb_close(&waiters[k].node), QOLB_DONE);
+        WANT(qolb_node_free(&waiters[k].node), QOLB_DONE);
     }
-    WANT(qolb_close(&n[WAITERS]), QOLB_DONE);
+    WANT(qolb_node_free(&n[WAITERS]), QOLB_DONE);
     return 0;
 }
 
@@ -123,15 +123,15 @@ static int others_sleep_on(uint32_t kind) {
         pthread_join(waiters[k].id, NULL);
         WANT(waiters[k].got, QOLB_GRANTED);
         WANT(waiters[k].used.sleeps >= 1 && waiters[k].used.sleeps <= MOST_SLEEPS, 1);
-        WANT(qolb_close(&waiters[k].node), QOLB_DONE);
+        WANT(qolb_node_free(&waiters[k].node), QOLB_DONE);
     }
-    WANT(qolb_close(&n[WAITERS]), QOLB_DONE);
+    WANT(qolb_node_free(&n[WAITERS]), QOLB_DONE);
     return 0;
 }
 
 /* ---- Every call that releases the line wakes the next holder ---- */
 
-static uint32_t waits_once(qolb_node *node) { return qolb_wait(node, 1); }
+static uint32_t waits_once(qolb_node *node) { return qolb_spin(node, 1); }
 static uint32_t tries(qolb_node *node) { return qolb_try(node); }
 static uint32_t acquires_on(qolb_node *node) { return qolb_acquire(node); }
 
@@ -148,10 +148,10 @@ static int released_by(uint32_t kind, uint32_t (*call)(qolb_node *node), uint64_
     WANT(call(&n[3]), QOLB_DONE);
     for (int k = 0; k < 3; k++) {
         pthread_join(waiters[k].id, NULL);
-        if (waiters[k].got != QOLB_LATE || k != A_SECOND) WANT(waiters[k].got, told);
-        WANT(qolb_close(&waiters[k].node), QOLB_DONE);
+        if (waiters[k].got != QOLB_TIMEDOUT || k != A_SECOND) WANT(waiters[k].got, told);
+        WANT(qolb_node_free(&waiters[k].node), QOLB_DONE);
     }
-    WANT(qolb_close(&n[3]), QOLB_DONE);
+    WANT(qolb_node_free(&n[3]), QOLB_DONE);
     return 0;
 }
 
@@ -170,7 +170,7 @@ static int passed_on_by(uint32_t kind, uint32_t (*call)(qolb_node *node), int li
     WANT(call(&n[1]), QOLB_CLOSED);
     pthread_join(waiter.id, NULL);
     WANT(waiter.got, QOLB_CLOSED);
-    WANT(qolb_close(&n[0]) + qolb_close(&n[1]) + qolb_close(&waiter.node), QOLB_DONE);
+    WANT(qolb_node_free(&n[0]) + qolb_node_free(&n[1]) + qolb_node_free(&waiter.node), QOLB_DONE);
     return 0;
 }
 
@@ -206,7 +206,7 @@ static void *races(void *argument) {
     /* Where others have the processors one of the two may not run at first. */
     for (; race.tries < RACES || !race.granted || !race.late; race.tries++) {
         uint32_t got = qolb_acquire_within(node, 5 * US + drawn(&seed) % (200 * US));
-        if (got == QOLB_LATE) {
+        if (got == QOLB_TIMEDOUT) {
             uint32_t state = qolb_state(node);
             MUST(state == QOLB_STATE_ROLLED || state == QOLB_STATE_LEFT || state == QOLB_STATE_IDLE, 1);
             race.late++;
@@ -242,7 +242,7 @@ static int time_out_races_with_grant(uint32_t kind) {
     WANT(race.granted + race.late, race.tries);
     WANT(race.granted > 0 && race.late > 0, 1);
     WANT(race.turns, turns + race.granted);
-    for (int k = 0; k < 2; k++) WANT(qolb_close(&n[k]), QOLB_DONE);
+    for (int k = 0; k < 2; k++) WANT(qolb_node_free(&n[k]), QOLB_DONE);
     return 0;
 }
 
@@ -289,7 +289,7 @@ static uint32_t asks_and_looks(struct worker *me) {
 
 static uint32_t asks_and_withdraws(struct worker *me, uint32_t draw) {
     uint32_t got = qolb_enqolb(&me->node);
-    if (got == QOLB_QUEUED) got = qolb_wait(&me->node, 1 + draw % 100);
+    if (got == QOLB_QUEUED) got = qolb_spin(&me->node, 1 + draw % 100);
     if (got == QOLB_WAITING) got = qolb_withdraw(&me->node);
     return got;
 }
@@ -311,7 +311,7 @@ static void *uses(void *argument) {
     uint32_t seed = (uint32_t)me->self * 2654435761u + 1;
     for (int round = 0; round < shared.rounds; round++) {
         uint32_t got = gets_in_some_way(me, drawn(&seed));
-        if (got == QOLB_BUSY || got == QOLB_LATE || got == QOLB_WITHDRAWN) continue;
+        if (got == QOLB_BUSY || got == QOLB_TIMEDOUT || got == QOLB_WITHDRAWN) continue;
         if (got == QOLB_CLOSED && shared.ends != BY_ROUNDS) break;
         MUST(got, QOLB_GRANTED);
         has_a_turn(me, drawn(&seed));
@@ -337,7 +337,7 @@ static int much_use(uint32_t kind, int threads, enum ends ends) {
     for (int k = 0; k < threads; k++) pthread_join(workers[k].id, NULL);
     for (int k = 0; k < threads; k++) {
         had += workers[k].had;
-        WANT(qolb_close(&workers[k].node), QOLB_DONE);
+        WANT(qolb_node_free(&workers[k].node), QOLB_DONE);
     }
     WANT(shared.turns == had && had > 0, 1);
     if (ends == BY_LEASE) WANT(had <= (long)lease, 1);

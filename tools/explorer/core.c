@@ -2,55 +2,46 @@
  * same atomic steps on the same words. Nothing of it is in the library: ../explore_lock.py explores the lock's C over
  * it, and c/tests/core_calls.c compares the two.
  *
- * Words of 8 bytes: 0 the outer word, 16 the tail, 17 to 20 the cells; the others are never written. A cell: sixteen
- * bits of withdrawn tickets, from bit 16 the count of sleepers, from bit 34 the granted rounds modulo 2^30. The outer
+ * Words of 8 bytes: 0 the lock word, 16 the tail, 17 to 20 the cells; the others are never written. A cell: sixteen
+ * bits of withdrawn tickets, from bit 16 the count of sleepers, from bit 34 the granted rounds modulo 2^30. The lock
  * word: as at the end of core.h. */
 #include "core.h"
 #include <stdatomic.h>
 #include <stdbool.h>
 #include <stddef.h>
 
-/* ../explore_lock.py: told of each drawn ticket, of each withdrawn one, and of who takes the outer word or sleeps
+/* ../explore_lock.py: told of each drawn ticket, of each withdrawn one, and of who takes the lock word or sleeps
  * there, by the same step; and what is otherwise the width of a cell's fields, by scenes. */
 #ifdef EXPLORED
-extern unsigned model_near, model_sleepers;
-void hook_draws(void);
-void hook_withdraws(void);
-void hook_goes_in(uint64_t label);
-void hook_takes_outer(uint64_t label);
-void hook_head_sleeps(const struct qolb_ticket *ticket);
 #define MOST_NEAR model_near
 #define MOST_SLEEPERS model_sleepers
-enum { MOST_PASSED = 1 };
+enum { MOST_PASSED = 1, IN_ROUND = TICKETS_IN_ROUND };
 #else
-#define hook_draws() ((void)0)
-#define hook_withdraws() ((void)0)
-#define hook_goes_in(label) ((void)0)
-#define hook_takes_outer(label) ((void)0)
-#define hook_head_sleeps(ticket) ((void)0)
+#define GHOST(event) ((void)0)
 enum { MOST_NEAR = LAYOUT_MAX_ROUNDS_NEAR, MOST_SLEEPERS = LAYOUT_MAX_SLEEPERS, MOST_PASSED = LAYOUT_MAX_PASSED };
+enum { IN_ROUND = LAYOUT_CELLS };
 #endif
 
 void *qolb_malloc_(size_t size);
 void qolb_free_(void *block);
 
-enum { OUTER = LAYOUT_OUTER_WORD, TAIL = LAYOUT_TAIL_WORD, CELLS = LAYOUT_FIRST_CELL, IN_ROUND = LAYOUT_CELLS };
+enum { OUTER = LAYOUT_OUTER_WORD, TAIL = LAYOUT_TAIL_WORD, CELLS = LAYOUT_FIRST_CELL };
 enum { WORDS = LAYOUT_CORE_WORDS, HANDOFF = LAYOUT_HANDOFF, HEAD_SLEEPS = LAYOUT_HEAD_ASLEEP, HELD = LAYOUT_HELD };
 enum { RESERVED = LAYOUT_RESERVED, STATE = HELD | RESERVED, SHUT = LAYOUT_SHUT, NEWCOMER = LAYOUT_NEWCOMER };
 #define ROUND ((uint64_t)1 << LAYOUT_ROUNDS_BIT)
 #define SLEEPER ((uint64_t)1 << LAYOUT_SLEEPERS_BIT)
-#define MOST_BURST ((uint64_t)LAYOUT_MAX_BURST)
+#define MOST_BARGING ((uint64_t)LAYOUT_MAX_BURST)
 
 struct lock {
     _Atomic uint64_t *words;
-    void *slots;      /* none: as of the proved table */
-    uint64_t more[6]; /* of that, too: the block has the same size */
-    uint64_t burst, label;
+    void *slots;                                               /* none: as of the proved table */
+    char more[LAYOUT_CORE_BLOCK_BYTES - 4 * sizeof(uint64_t)]; /* of that, too: the block has the same size */
+    uint64_t barging, label;
 };
 
 /* Each call reads this of the lock, whatever it answers: so none may be made when that may no longer exist. */
 static const struct lock *of(const struct qolb_core *core) { return *(const void *const volatile *)&core->at; }
-static _Atomic uint64_t *outer_of(const struct lock *lock) { return &lock->words[OUTER]; }
+static _Atomic uint64_t *lock_word_at(const struct lock *lock) { return &lock->words[OUTER]; }
 static _Atomic uint64_t *cell_of(const struct lock *lock, uint64_t number) {
     return &lock->words[CELLS + number % IN_ROUND];
 }
@@ -72,15 +63,15 @@ static uint32_t in_state(struct qolb_ticket *ticket, uint32_t state, uint32_t an
 
 /* ---- Opening ---- */
 
-uint32_t qolb_core_open_proved_(uint64_t burst, uint64_t label, struct qolb_core *out) {
-    if (burst > MOST_BURST) return QOLB_BAD_NODES;
+uint32_t qolb_core_open_proved_(uint64_t barging, uint64_t label, struct qolb_core *out) {
+    if (barging > MOST_BARGING) return QOLB_BAD_NODES;
     if (label == 0) return QOLB_MISUSE;
     _Atomic uint64_t *words = qolb_malloc_(WORDS * sizeof *words);
     void *slots = words ? qolb_malloc_(sizeof(uint64_t)) : NULL;
     struct lock *lock = slots ? qolb_malloc_(sizeof *lock) : NULL;
     if (!lock) return qolb_free_(words), qolb_free_(slots), QOLB_NO_MEMORY;
     for (int k = 0; k < WORDS; k++) atomic_init(&words[k], k == CELLS ? ROUND : 0);
-    *lock = (struct lock){.words = words, .slots = slots, .burst = burst, .label = label};
+    *lock = (struct lock){.words = words, .slots = slots, .barging = barging, .label = label};
     out->at = lock;
     return QOLB_DONE;
 }
@@ -95,7 +86,7 @@ static uint32_t looks(struct qolb_ticket *ticket, uint64_t cell) {
 }
 
 static void draws(const struct lock *lock, struct qolb_ticket *ticket, uint64_t number) {
-    hook_draws();
+    GHOST(hook_draws());
     ticket->number = number;
     ticket->label = lock->label;
 }
@@ -158,7 +149,7 @@ uint32_t qolb_core_withdraw_proved_(const struct qolb_core *core, struct qolb_ti
     if (ticket->rounds > MOST_NEAR) return QOLB_FAR_;
     _Atomic uint64_t *cell = cell_of(lock, ticket->number);
     if (to_go(atomic_fetch_add(cell, bit_of(ticket->number)), ticket->number)) {
-        hook_withdraws();
+        GHOST(hook_withdraws());
         return in_state(ticket, QOLB_TICKET_FREE_, QOLB_WITHDRAWN);
     }
     atomic_fetch_sub(cell, bit_of(ticket->number));
@@ -177,7 +168,7 @@ uint32_t qolb_core_release_proved_(const struct qolb_core *core, struct qolb_tic
     if (!is(lock, ticket,
             BIT(AT_TURN) | BIT(SERVED) | BIT(SERVED_SHUT) | BIT(ENDING) | BIT(HEAD_INSIDE) | BIT(HEAD_INSIDE_SHUT)))
         return QOLB_MISUSE;
-    if (is(lock, ticket, BIT(AT_TURN))) hook_withdraws(); /* it is passed on without being served */
+    if (is(lock, ticket, BIT(AT_TURN))) GHOST(hook_withdraws()); /* it is passed on without being served */
     for (int k = 0; k < MOST_PASSED; k++) {
         uint64_t next = ticket->number + 1, found = atomic_fetch_add(cell_of(lock, next), ROUND);
         if (!(found & bit_of(next))) {
@@ -191,47 +182,47 @@ uint32_t qolb_core_release_proved_(const struct qolb_core *core, struct qolb_tic
     return in_state(ticket, is_in ? ticket->state : QOLB_TICKET_ENDING_, QOLB_UNFINISHED_);
 }
 
-/* ---- The outer word ---- */
+/* ---- The lock word ---- */
 
 uint32_t qolb_core_check_open_proved_(const struct qolb_core *core, struct qolb_ticket *ticket) {
     const struct lock *lock = of(core);
-    if (lock->burst > 1 || !is(lock, ticket, BIT(AT_TURN) | BIT(SERVED) | BIT(SERVED_SHUT))) return QOLB_MISUSE;
-    return atomic_load(outer_of(lock)) & SHUT ? in_state(ticket, QOLB_TICKET_SERVED_SHUT_, QOLB_CLOSED)
-                                              : in_state(ticket, QOLB_TICKET_SERVED_, QOLB_GRANTED);
+    if (lock->barging > 1 || !is(lock, ticket, BIT(AT_TURN) | BIT(SERVED) | BIT(SERVED_SHUT))) return QOLB_MISUSE;
+    return atomic_load(lock_word_at(lock)) & SHUT ? in_state(ticket, QOLB_TICKET_SERVED_SHUT_, QOLB_CLOSED)
+                                                  : in_state(ticket, QOLB_TICKET_SERVED_, QOLB_GRANTED);
 }
 
 uint32_t qolb_core_ask_open_proved_(const struct qolb_core *core, struct qolb_ticket *ticket) {
-    if (of(core)->burst > 1) return QOLB_MISUSE;
+    if (of(core)->barging > 1) return QOLB_MISUSE;
     uint32_t got = qolb_core_ask_proved_(core, ticket);
     return got == QOLB_GRANTED ? qolb_core_check_open_proved_(core, ticket) : got;
 }
 
-/* Where the outer word is not as the ticket guessed: what the step found. */
-static uint32_t found(struct qolb_ticket *ticket, uint64_t outer, uint32_t answer) {
-    ticket->outer = outer;
+/* Where the lock word is not as the ticket guessed: what the step found. */
+static uint32_t found(struct qolb_ticket *ticket, uint64_t lock_word, uint32_t answer) {
+    ticket->lock_word = lock_word;
     return answer;
 }
 
 uint32_t qolb_core_go_in_proved_(const struct qolb_core *core, struct qolb_ticket *ticket) {
     const struct lock *lock = of(core);
-    if (lock->burst <= 1 || !is(lock, ticket, BIT(FREE))) return QOLB_MISUSE;
-    uint64_t guess = ticket->outer, in = guess + NEWCOMER + HELD;
-    if (guess & (STATE | SHUT)) return found(ticket, atomic_load(outer_of(lock)), QOLB_BUSY);
-    if (!atomic_compare_exchange_strong(outer_of(lock), &guess, in)) return found(ticket, guess, QOLB_BUSY);
-    hook_goes_in(lock->label);
-    ticket->outer = in;
+    if (lock->barging <= 1 || !is(lock, ticket, BIT(FREE))) return QOLB_MISUSE;
+    uint64_t guess = ticket->lock_word, in = guess + NEWCOMER + HELD;
+    if (guess & (STATE | SHUT)) return found(ticket, atomic_load(lock_word_at(lock)), QOLB_BUSY);
+    if (!atomic_compare_exchange_strong(lock_word_at(lock), &guess, in)) return found(ticket, guess, QOLB_BUSY);
+    GHOST(hook_goes_in(lock->label));
+    ticket->lock_word = in;
     ticket->label = lock->label;
     return in_state(ticket, QOLB_TICKET_INSIDE_, QOLB_GRANTED);
 }
 
 uint32_t qolb_core_take_outer_proved_(const struct qolb_core *core, struct qolb_ticket *ticket) {
     const struct lock *lock = of(core);
-    if (lock->burst <= 1 || !is(lock, ticket, BIT(AT_TURN))) return QOLB_MISUSE;
-    uint64_t was = atomic_load(outer_of(lock)), in = (was & SHUT) + HELD;
-    if ((was & STATE) == HELD || !atomic_compare_exchange_strong(outer_of(lock), &was, in))
+    if (lock->barging <= 1 || !is(lock, ticket, BIT(AT_TURN))) return QOLB_MISUSE;
+    uint64_t was = atomic_load(lock_word_at(lock)), in = (was & SHUT) + HELD;
+    if ((was & STATE) == HELD || !atomic_compare_exchange_strong(lock_word_at(lock), &was, in))
         return found(ticket, was, QOLB_WAITING);
-    hook_takes_outer(lock->label);
-    ticket->outer = in;
+    GHOST(hook_takes_outer(lock->label));
+    ticket->lock_word = in;
     return in & SHUT ? in_state(ticket, QOLB_TICKET_HEAD_INSIDE_SHUT_, QOLB_CLOSED)
                      : in_state(ticket, QOLB_TICKET_HEAD_INSIDE_, QOLB_GRANTED);
 }
@@ -239,37 +230,38 @@ uint32_t qolb_core_take_outer_proved_(const struct qolb_core *core, struct qolb_
 uint32_t qolb_core_leave_proved_(const struct qolb_core *core, struct qolb_ticket *ticket) {
     const struct lock *lock = of(core);
     if (!is(lock, ticket, BIT(INSIDE) | BIT(INSIDE_SHUT))) return QOLB_MISUSE;
-    uint64_t guess = ticket->outer, was = guess, to = guess / SHUT * SHUT;
-    int reserves = guess & HANDOFF || guess / NEWCOMER + 1 >= lock->burst;
-    if (!atomic_compare_exchange_strong(outer_of(lock), &was, reserves ? to + RESERVED : to))
+    uint64_t guess = ticket->lock_word, was = guess, to = guess / SHUT * SHUT;
+    int reserves = guess & HANDOFF || guess / NEWCOMER + 1 >= lock->barging;
+    if (!atomic_compare_exchange_strong(lock_word_at(lock), &was, reserves ? to + RESERVED : to))
         return found(ticket, was, QOLB_BUSY);
     ticket->head_sleeps = (guess & HEAD_SLEEPS) != 0;
-    ticket->outer = to;
+    ticket->lock_word = to;
     return in_state(ticket, QOLB_TICKET_FREE_, QOLB_DONE);
 }
 
 uint32_t qolb_core_request_handoff_proved_(const struct qolb_core *core, struct qolb_ticket *ticket) {
     const struct lock *lock = of(core);
-    if (lock->burst <= 1 || !is(lock, ticket, BIT(AT_TURN))) return QOLB_MISUSE;
-    uint64_t was = atomic_load(outer_of(lock));
-    return was & HANDOFF || atomic_compare_exchange_strong(outer_of(lock), &was, was + HANDOFF) ? QOLB_DONE : QOLB_BUSY;
+    if (lock->barging <= 1 || !is(lock, ticket, BIT(AT_TURN))) return QOLB_MISUSE;
+    uint64_t was = atomic_load(lock_word_at(lock));
+    return was & HANDOFF || atomic_compare_exchange_strong(lock_word_at(lock), &was, was + HANDOFF) ? QOLB_DONE
+                                                                                                    : QOLB_BUSY;
 }
 
 uint32_t qolb_core_announce_head_sleep_proved_(const struct qolb_core *core, struct qolb_ticket *ticket) {
     const struct lock *lock = of(core);
-    if (lock->burst <= 1 || !is(lock, ticket, BIT(AT_TURN))) return QOLB_MISUSE;
-    uint64_t was = atomic_load(outer_of(lock)), asleep = was | HEAD_SLEEPS;
-    if ((was & STATE) != HELD || !atomic_compare_exchange_strong(outer_of(lock), &was, asleep)) return QOLB_WAITING;
-    hook_head_sleeps(ticket);
-    ticket->outer = asleep;
+    if (lock->barging <= 1 || !is(lock, ticket, BIT(AT_TURN))) return QOLB_MISUSE;
+    uint64_t was = atomic_load(lock_word_at(lock)), asleep = was | HEAD_SLEEPS;
+    if ((was & STATE) != HELD || !atomic_compare_exchange_strong(lock_word_at(lock), &was, asleep)) return QOLB_WAITING;
+    GHOST(hook_head_sleeps(ticket));
+    ticket->lock_word = asleep;
     return QOLB_ASLEEP_;
 }
 
 uint32_t qolb_core_shut_proved_(const struct qolb_core *core, struct qolb_ticket *ticket) {
     const struct lock *lock = of(core);
     if (!is(lock, ticket, BIT(SERVED) | BIT(HEAD_INSIDE) | BIT(INSIDE))) return QOLB_MISUSE;
-    atomic_fetch_add(outer_of(lock), SHUT);
-    ticket->outer += SHUT;
+    atomic_fetch_add(lock_word_at(lock), SHUT);
+    ticket->lock_word += SHUT;
     return in_state(ticket, ticket->state + 1, QOLB_DONE);
 }
 
@@ -277,7 +269,7 @@ uint32_t qolb_core_reopen_proved_(const struct qolb_core *core, struct qolb_tick
     const struct lock *lock = of(core);
     if (!is(lock, ticket, BIT(SERVED_SHUT) | BIT(HEAD_INSIDE_SHUT))) return QOLB_MISUSE;
     if (atomic_load(&lock->words[TAIL]) != ticket->number + 1) return QOLB_BUSY;
-    atomic_fetch_sub(outer_of(lock), SHUT);
-    ticket->outer -= SHUT;
+    atomic_fetch_sub(lock_word_at(lock), SHUT);
+    ticket->lock_word -= SHUT;
     return in_state(ticket, ticket->state - 1, QOLB_GRANTED);
 }

@@ -11,7 +11,7 @@ struct clock {
 };
 
 #ifdef OF_LOCKS
-/* What these threads do at the same time, each by its number, over a lock with these bursts, which is opened before or
+/* What these threads do at the same time, each by its number, over a lock with these barging, which is opened before or
  * at its first use. A request can be withdrawn with at most `near` rounds to go, `sleepers` threads may announce a
  * sleep at one cell, and with fewer rounds to go than `open` a call with a limit draws a ticket. There may be no memory
  * for the registry, nor a key of threads. */
@@ -19,7 +19,7 @@ struct scene {
     const char *name;
     void (*does)(int self);
     int threads;
-    unsigned burst;
+    unsigned barging;
     int at_first_use;
     unsigned near, sleepers, open;
     int no_memory;
@@ -31,14 +31,13 @@ struct own_data {
 };
 
 #else
-/* What these threads do at the same time, each by its number, with a node each of a line of this kind. The places of a
- * line share one bell or none; of two lines the places share their bells. */
-enum { EACH_ITS_BELL, AT_ONE_BELL, TWO_LINES };
+/* What these threads do at the same time, each by its number, with a node each of a line of this kind. There may be a
+ * second line, of two nodes. */
 struct scene {
     const char *name;
     void (*does)(int self);
     uint32_t kind;
-    int threads, bells;
+    int threads, two_lines;
 };
 
 /* The data of a thread in the library's files, which is in one place here: none. */
@@ -67,7 +66,7 @@ void time_goes_on(uint64_t by);
 /* The time is over of all that sleep for a time: how many. */
 int times_out(void);
 
-/* For line.c: another thread may be next; an access, which must follow all that it races with; all stores of this
+/* For proved_line.c: another thread may be next; an access, which must follow all that it races with; all stores of this
  * thread are seen; what happened before, as a call takes it over or hands it on. */
 void step(int yields);
 void touch(const volatile void *where, unsigned size, int how);

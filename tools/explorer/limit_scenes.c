@@ -21,8 +21,8 @@ void is_late_while_one_stays_in(int self) {
     }
     while (!atomic_fetch_add(&it.over, 0)) sched_yield();
     if (model_open == 0) time_goes_on(MS / 2);
-    MUST(qolb_lock_enter_within(it.lock, MS) == QOLB_LATE);
-    MUST(model_open || has_bursts(lock_of(it.lock)) || !has_drawn(self));
+    MUST(qolb_lock_enter_within(it.lock, MS) == QOLB_TIMEDOUT);
+    MUST(model_open || is_barging(lock_of(it.lock)) || !has_drawn(self));
     atomic_store(&it.over, 2);
 }
 
@@ -30,7 +30,7 @@ void is_late_while_one_stays_in(int self) {
 void is_late_at_a_condition(int self) {
     if (self == 0) return stays_until(1);
     MUST(qolb_lock_enter(it.lock) == QOLB_GRANTED);
-    MUST(qolb_cond_wait_within(&it.cond, it.lock, MS) == QOLB_LATE);
+    MUST(qolb_cond_wait_within(&it.cond, it.lock, MS) == QOLB_TIMEDOUT);
     turn();
     leave();
     atomic_store(&it.over, 1);
@@ -50,7 +50,7 @@ void is_late_once_it_is_near(int self) {
     }
     while (!has_drawn(1)) sched_yield();
     time_goes_on(MS / 2);
-    MUST(qolb_lock_enter_within(it.lock, MS) == QOLB_LATE);
+    MUST(qolb_lock_enter_within(it.lock, MS) == QOLB_TIMEDOUT);
     atomic_store(&it.over, 2);
 }
 
@@ -90,7 +90,7 @@ void signals_whose_time_is_over(int self) {
         return leave();
     }
     got = self ? qolb_cond_wait(&it.cond, it.lock) : qolb_cond_wait_within(&it.cond, it.lock, MS);
-    MUST(got == QOLB_GRANTED || (got == QOLB_LATE && self == 0));
+    MUST(got == QOLB_GRANTED || (got == QOLB_TIMEDOUT && self == 0));
     if (self == 0 && got == QOLB_GRANTED) MUST(qolb_cond_signal(&it.cond) == QOLB_DONE);
     leave();
 }

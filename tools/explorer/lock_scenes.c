@@ -6,27 +6,24 @@
 
 struct it it;
 
-BY_THREAD struct core_room qolb_core_room_;
+BY_THREAD struct core_arena *qolb_core_arena_;
 BY_THREAD unsigned qolb_learned_[SPINS];
-unsigned model_near, model_sleepers, model_open;
+unsigned model_near, model_sleepers, model_open, model_patience, model_barges, model_processors;
 int model_tries;
 static int model_memory;
 
 /* The tables of the model's threads, which are in one thread of the system. */
 static struct own owns[THREADS + 1];
-struct own *model_own(void);
 UNSEEN struct own *model_own(void) { return &owns[self_number()]; }
 
-/* As gaps.c, which is not explored. */
+/* As heap.c, which is not explored. */
 void *qolb_malloc_(size_t size);
 void qolb_free_(void *block);
 UNSEEN void *qolb_malloc_(size_t size) {
-    struct core_room *room = &qolb_core_room_;
-    void **place = size == CORE_WORDS_BYTES ? &room->words : size == CORE_SLOTS_BYTES ? &room->slots : &room->block;
-    void *block = *place;
-    *place = NULL;
-    MUST(block && (place != &room->block || size == CORE_BLOCK_BYTES));
-    return block;
+    static const size_t sizes[CORE_BLOCKS] = {LAYOUT_CORE_WORDS_BYTES, LAYOUT_CORE_SLOTS_BYTES,
+                                              LAYOUT_CORE_BLOCK_BYTES};
+    MUST(qolb_core_arena_ && qolb_core_arena_->taken < CORE_BLOCKS && size == sizes[qolb_core_arena_->taken]);
+    return qolb_core_arena_->block[qolb_core_arena_->taken++];
 }
 void qolb_free_(void *block) { (void)block; }
 
@@ -47,9 +44,10 @@ UNSEEN void *model_entry(size_t size) {
 }
 
 /* A program's free may take locks, too: so who frees has no guard, and waits here until no other has it. */
-void hook_frees(const atomic_uint *guard);
-UNSEEN void hook_frees(const atomic_uint *guard) {
-    while (*(const volatile unsigned *)guard) sched_yield();
+void model_entry_freed(void *entry);
+UNSEEN void model_entry_freed(void *entry) {
+    while (*(const volatile unsigned *)&qolb_guards_[0].word) sched_yield();
+    model_free(entry);
 }
 
 /* ---- Who may be served before whom ----
@@ -58,19 +56,17 @@ UNSEEN void hook_frees(const atomic_uint *guard) {
  * it has seen, and how many calls have ended that other threads were in then. A task counts as the thread that makes
  * its calls. */
 static struct {
-    int in_call, waits, passed, gone, drawn;
+    int in_call, waits, passed, gone, drawn, hurries, yields;
     long began, since;
 } order[THREADS + 1];
 static int for_second;
 static long time_of_order;
-void hook_draws(void);
-void hook_withdraws(void);
 
 UNSEEN static int who(void) { return for_second && self_number() == 0 ? THREADS : self_number(); }
 UNSEEN void is_second(int self, int so) { for_second = self == 0 && so; }
 UNSEEN void begins_call(void) {
     int me = who();
-    order[me].in_call = 1, order[me].waits = 0, order[me].began = ++time_of_order;
+    order[me].in_call = 1, order[me].waits = order[me].yields = 0, order[me].began = ++time_of_order;
 }
 UNSEEN void hook_draws(void) {
     int me = who();
@@ -78,18 +74,25 @@ UNSEEN void hook_draws(void) {
     if (self_number() < THREADS && order[me].in_call)
         order[me].waits = 1, order[me].since = ++time_of_order, order[me].passed = order[me].gone = 0;
 }
+/* A call that may not wait does not yield; and one that yields waits. */
+UNSEEN static void hurries(int so) { order[who()].hurries = so; }
+UNSEEN void qolb_yield_(void) {
+    must(!order[who()].hurries, "a call that may not wait yields");
+    order[who()].yields = order[who()].in_call;
+    sched_yield();
+}
 UNSEEN int has_drawn(int self) { return order[self].drawn > 0; }
 UNSEEN void hook_withdraws(void) { order[who()].waits = 0; }
 UNSEEN void ends_call(void) {
     int me = who();
     for (int k = 0; k <= THREADS; k++) order[k].gone += order[me].in_call && order[me].began < order[k].since;
-    order[me].in_call = order[me].waits = 0;
+    order[me].in_call = order[me].waits = order[me].yields = order[me].hurries = 0;
 }
 
-/* A burst of B turns has at most B - 1 turns of later calls, which drew no ticket. One ends when a thread goes that was
- * there before. */
+/* With a barging limit of B at most B - 1 later calls go first, which drew no ticket, until a thread goes that was there
+ * before. */
 UNSEEN static void enters_turn(void) {
-    int me = who(), burst = (int)burst_of(lock_of(it.lock)), later = burst ? burst - 1 : 0;
+    int me = who(), barging = (int)lock_of(it.lock)->limit, later = barging ? barging - 1 : 0;
     for (int k = 0; k <= THREADS; k++) {
         if (!order[k].waits || !order[me].in_call || order[me].began < order[k].since) continue;
         must(++order[k].passed <= (order[k].gone + 1) * later, "a thread that waits is overtaken too often");
@@ -100,14 +103,10 @@ UNSEEN static void enters_turn(void) {
 
 /* ---- The handoff to a task ----
  *
- * A task that is the first of those that wait ends a burst with the turn of who is in: once it sleeps as the queue head
- * of a lock no newcomer goes in before the queue head does. */
+ * A task that is the first of those that wait lets no barging thread follow who is in: once it sleeps as the queue head
+ * of a lock no barging thread goes in before the queue head does. */
 static const struct qolb_ticket *head_of[THREADS + 1]; /* of a task that is to be one, by the thread that sees to it */
 static uint64_t handed_over[2 * LOCKS];                /* the labels of locks with such a head */
-void hook_is_head(const struct qolb_ticket *ticket);
-void hook_head_sleeps(const struct qolb_ticket *ticket);
-void hook_takes_outer(uint64_t label);
-void hook_goes_in(uint64_t label);
 
 UNSEEN static uint64_t *hand_over(uint64_t label) {
     uint64_t *place = handed_over;
@@ -124,7 +123,7 @@ UNSEEN void hook_takes_outer(uint64_t label) {
     if (*hand_over(label) == label) *hand_over(label) = 0;
 }
 UNSEEN void hook_goes_in(uint64_t label) {
-    must(*hand_over(label) != label, "a newcomer goes in before a task that is the first of those that wait");
+    must(*hand_over(label) != label, "a barging thread goes in before a task that is the first of those that wait");
 }
 
 static void turn_with(int yields) {
@@ -174,7 +173,7 @@ static void enters_again(int self) {
         MUST(qolb_lock_enter(it.lock) == QOLB_GRANTED);
         MUST(qolb_lock_enter(it.lock) == QOLB_MISUSE && qolb_lock_enter_within(it.lock, MS) == QOLB_MISUSE &&
              qolb_lock_try(it.lock) == QOLB_BUSY && qolb_lock_is_mine(it.lock));
-        MUST(qolb_lock_close(it.lock) == QOLB_MISUSE);
+        MUST(qolb_lock_destroy(it.lock) == QOLB_BUSY);
         turn();
         leave();
     }
@@ -186,9 +185,10 @@ static void enters_again(int self) {
 
 static void within(int self, uint64_t nanoseconds) {
     begins_call();
+    hurries(self && !nanoseconds);
     uint32_t got = self ? qolb_lock_enter_within(it.lock, nanoseconds) : qolb_lock_enter(it.lock);
     if (got != QOLB_GRANTED) ends_call();
-    if (got == QOLB_LATE) return;
+    if (got == QOLB_TIMEDOUT) return;
     MUST(got == QOLB_GRANTED);
     turn();
     leave();
@@ -212,6 +212,7 @@ static void looks_in(int self) { within(self, 0); }
 
 void tries(int self) {
     begins_call();
+    hurries(self == 1);
     uint32_t got = self == 1 ? qolb_lock_try(it.lock) : qolb_lock_enter(it.lock);
     if (got == QOLB_BUSY) ends_call();
     if (got == QOLB_BUSY) return;
@@ -237,8 +238,8 @@ static void last_tries(int self) {
 
 int enters_to_shut(int self) {
     uint32_t got = self == 2 ? qolb_lock_enter_within(it.lock, MS) : qolb_lock_enter(it.lock);
-    if (got == QOLB_LATE) MUST(self == 2);
-    if (got == QOLB_CLOSED || got == QOLB_LATE) return 0;
+    if (got == QOLB_TIMEDOUT) MUST(self == 2);
+    if (got == QOLB_CLOSED || got == QOLB_TIMEDOUT) return 0;
     MUST(got == QOLB_GRANTED);
     turn();
     it.shut = self == 0;
@@ -277,11 +278,11 @@ static void enters_until_shut(int self) {
     MUST(qolb_lock_enter(it.lock) == QOLB_CLOSED && qolb_lock_try(it.lock) == QOLB_CLOSED);
 }
 
-/* The lock is closed only once no thread is about to call: so the other waits, without a ticket or with one, or is in a
- * call no more. */
+/* The lock is closed only once no thread is about to call: so the other waits, without a ticket or with one, spins, or
+ * is in a call no more. */
 UNSEEN int is_known(int other) {
     struct lock *lock = lock_of(it.lock);
-    return order[other].waits || *(unsigned *)&lock->guests;
+    return order[other].waits || order[other].yields || *(unsigned *)&lock->without_ticket;
 }
 void await_other(int other) {
     while (!is_known(other) && !atomic_fetch_add(&it.over, 0)) sched_yield();
@@ -301,9 +302,9 @@ static void shuts_and_closes(int self) {
     await_other(1);
     it.shut = 1;
     MUST(qolb_lock_shut(it.lock) == QOLB_DONE);
-    uint32_t got = qolb_lock_close(it.lock);
-    MUST(got == QOLB_DONE || got == QOLB_MISUSE);
-    if (atomic_fetch_add(&it.over, 0)) MUST(qolb_lock_close(it.lock) == QOLB_DONE);
+    uint32_t got = qolb_lock_destroy(it.lock);
+    MUST(got == QOLB_DONE || got == QOLB_BUSY);
+    if (atomic_fetch_add(&it.over, 0)) MUST(qolb_lock_destroy(it.lock) == QOLB_DONE);
 }
 
 void free_lock(void) {
@@ -318,7 +319,7 @@ static void frees_if_last(int yields) {
     int last = --it.users == 0;
     leave();
     if (!last) return;
-    MUST(qolb_lock_close(it.lock) == QOLB_DONE && it.lock->own == NULL);
+    MUST(qolb_lock_destroy(it.lock) == QOLB_DONE && it.lock->own == NULL);
     free_lock();
 }
 
@@ -342,13 +343,13 @@ static void last_frees_beside_one_that_is_late(int self) {
         last = --it.users == 0;
         leave();
     } else {
-        MUST(got == QOLB_LATE);
+        MUST(got == QOLB_TIMEDOUT);
         MUST(qolb_lock_enter(it.lock) == QOLB_GRANTED);
         last = --it.users == 0;
         leave();
     }
     if (!last) return;
-    MUST(qolb_lock_close(it.lock) == QOLB_DONE);
+    MUST(qolb_lock_destroy(it.lock) == QOLB_DONE);
     free_lock();
 }
 
@@ -362,9 +363,9 @@ static void one_closes(int self) {
     MUST(qolb_lock_enter(it.lock) == QOLB_GRANTED);
     await_other(1);
     leave();
-    uint32_t got = qolb_lock_close(it.lock);
-    MUST(got == QOLB_DONE || got == QOLB_MISUSE);
-    if (atomic_fetch_add(&it.over, 0)) MUST(qolb_lock_close(it.lock) == QOLB_DONE);
+    uint32_t got = qolb_lock_destroy(it.lock);
+    MUST(got == QOLB_DONE || got == QOLB_BUSY);
+    if (atomic_fetch_add(&it.over, 0)) MUST(qolb_lock_destroy(it.lock) == QOLB_DONE);
 }
 
 /* One frees the lock as soon as it may, while another waits, is late, or leaves, and then makes no call any more. */
@@ -377,7 +378,7 @@ static void one_frees(int self) {
     MUST(qolb_lock_enter(it.lock) == QOLB_GRANTED);
     await_other(1);
     leave();
-    while (qolb_lock_close(it.lock) != QOLB_DONE) sched_yield();
+    while (qolb_lock_destroy(it.lock) != QOLB_DONE) sched_yield();
     free_lock();
 }
 
@@ -391,7 +392,7 @@ static void one_closes_beside_a_holder(int self) {
         return;
     }
     while (!atomic_fetch_add(&it.over, 0)) sched_yield();
-    MUST(qolb_lock_close(it.lock) == QOLB_MISUSE);
+    MUST(qolb_lock_destroy(it.lock) == QOLB_BUSY);
     atomic_store(&it.over, 2);
 }
 
@@ -403,14 +404,14 @@ static void is_late_at_the_younger(void) {
     begins_call();
     uint32_t got = qolb_lock_enter_within(it.lock, MS);
     ends_call();
-    if (got == QOLB_LATE) got = (atomic_store(&it.over, 2), qolb_lock_enter(it.lock));
+    if (got == QOLB_TIMEDOUT) got = (atomic_store(&it.over, 2), qolb_lock_enter(it.lock));
     MUST(got == QOLB_GRANTED);
     atomic_store(&it.over, 2);
     leave();
 }
 
 static void closes_and_comes_again(void) {
-    while (!had_turns(2) || qolb_lock_close(it.lock) != QOLB_DONE) sched_yield();
+    while (!had_turns(2) || qolb_lock_destroy(it.lock) != QOLB_DONE) sched_yield();
     MUST(qolb_lock_enter(it.lock) == QOLB_GRANTED);
     atomic_store(&it.over, 1);
 }
@@ -458,7 +459,7 @@ static void frees_a_younger_lock(int self) {
     }
     while (!atomic_fetch_add(&it.over, 0)) sched_yield(), times_out();
     time_goes_on(MS / 2);
-    MUST(qolb_lock_enter_within(it.lock, MS) == QOLB_LATE);
+    MUST(qolb_lock_enter_within(it.lock, MS) == QOLB_TIMEDOUT);
     atomic_store(&it.over, 2);
 }
 
@@ -478,8 +479,8 @@ static void waits_or_signals(int what) {
     while (what != SIGNALS_TWICE && !it.has) {
         uint32_t got = what == WAITS_ON ? qolb_cond_wait(&it.cond, it.lock)
                                         : qolb_cond_wait_within(&it.cond, it.lock, MS);
-        MUST(got == QOLB_GRANTED || (got == QOLB_LATE && what == WAITS_FOR_A_TIME));
-        if (got == QOLB_LATE) break;
+        MUST(got == QOLB_GRANTED || (got == QOLB_TIMEDOUT && what == WAITS_FOR_A_TIME));
+        if (got == QOLB_TIMEDOUT) break;
     }
     use_stack();
     turn();
@@ -521,12 +522,12 @@ static void waits_until_shut(int self) {
         MUST(qolb_lock_shut(it.lock) == QOLB_DONE);
     } else if (got == QOLB_GRANTED) {
         do got = self == 1 ? qolb_cond_wait(&it.cond, it.lock) : qolb_cond_wait_within(&it.cond, it.lock, MS);
-        while (got == QOLB_GRANTED || got == QOLB_LATE);
+        while (got == QOLB_GRANTED || got == QOLB_TIMEDOUT);
         MUST(got == QOLB_CLOSED && it.shut);
         use_stack();
     }
     if (atomic_fetch_add(&it.over, 1) + 1 < it.users) return;
-    MUST(qolb_lock_close(it.lock) == QOLB_DONE);
+    MUST(qolb_lock_destroy(it.lock) == QOLB_DONE);
     free_lock();
 }
 
@@ -547,7 +548,7 @@ static void shuts_and_frees(int self) {
         MUST((waits ? qolb_lock_shut : qolb_lock_leave)(it.lock) == QOLB_DONE);
         if (!waits) sched_yield();
     }
-    while (qolb_lock_close(it.lock) != QOLB_DONE) sched_yield();
+    while (qolb_lock_destroy(it.lock) != QOLB_DONE) sched_yield();
     free_lock();
 }
 
@@ -571,7 +572,7 @@ static void shuts_beside_one_that_waits(void) {
 static void told_of_a_shut_frees(int self) {
     if (self == 0) return shuts_beside_one_that_waits();
     is_told_of_a_shut();
-    while (qolb_lock_close(it.lock) != QOLB_DONE) sched_yield();
+    while (qolb_lock_destroy(it.lock) != QOLB_DONE) sched_yield();
     free_lock();
 }
 
@@ -587,7 +588,7 @@ static void told_of_a_shut_asks(int self) {
     if (self == 0) return shuts_beside_one_that_waits();
     is_told_of_a_shut();
     MUST(qolb_lock_try(it.lock) == QOLB_CLOSED);
-    MUST(qolb_lock_close(it.lock) == QOLB_DONE);
+    MUST(qolb_lock_destroy(it.lock) == QOLB_DONE);
     free_lock();
 }
 
@@ -608,7 +609,7 @@ static void signals_and_frees(int self) {
         leave();
         if (!waits) sched_yield();
     }
-    while (qolb_lock_close(it.lock) != QOLB_DONE) sched_yield();
+    while (qolb_lock_destroy(it.lock) != QOLB_DONE) sched_yield();
     free_lock();
 }
 
@@ -627,7 +628,7 @@ static void one_closes_beside_a_waiter(int self) {
         waits = it.has;
         if (waits) it.has = 2;
         leave();
-        if (waits) MUST(qolb_lock_close(it.lock) == QOLB_MISUSE);
+        if (waits) MUST(qolb_lock_destroy(it.lock) == QOLB_BUSY);
         if (!waits) sched_yield();
     }
     qolb_cond_signal(&it.cond);
@@ -723,42 +724,42 @@ const struct scene scenes[] = {
     {"enters again", enters_again, 2, 0, 0, ROOMY},
     {"holds three", holds_three, 2, 0, 1, ROOMY},
     {"waits beyond the table", waits_beyond, 2, 0, 0, ROOMY},
-    {"bursts: each enters, at the first use", enters, 2, 2, 1, ROOMY},
-    {"bursts: three enter", enters, 3, 2, 0, ROOMY},
-    {"bursts: three enter twice", enters_twice, 3, 2, 0, ROOMY},
-    {"bursts: two enter thrice", enters_thrice, 2, 4, 0, ROOMY},
-    {"bursts: one yields", one_yields, 3, 4, 0, ROOMY},
-    {"bursts: two of three yield", two_yield, 3, 2, 0, ROOMY},
-    {"bursts: one stays", one_stays, 3, 2, 0, ROOMY},
-    {"bursts: one stays, of three turns", one_stays, 3, 3, 0, ROOMY},
-    {"bursts: two are late", is_late, 3, 2, 0, ROOMY},
-    {"bursts: one is late and comes again", is_late_and_comes_again, 2, 2, 0, ROOMY},
-    {"bursts: two are late beside one that yields", two_late_beside_one_that_yields, 3, 3, 0, ROOMY},
-    {"bursts: far: two are late", is_late, 3, 2, 0, FAR},
-    {"bursts: one tries", tries, 3, 2, 0, ROOMY},
-    {"bursts: the last tries", last_tries, 3, 2, 0, ROOMY},
-    {"bursts: one shuts", shuts, 3, 2, 0, ROOMY},
-    {"bursts: one shuts and asks", shuts_and_asks, 3, 2, 0, ROOMY},
-    {"bursts: one shuts and closes", shuts_and_closes, 2, 2, 0, ROOMY},
-    {"bursts: the last frees", last_frees, 3, 2, 0, ROOMY},
-    {"bursts: the last frees, and each yields", last_frees_and_yields, 3, 2, 0, ROOMY},
-    {"bursts: the last frees beside one that is late", last_frees_beside_one_that_is_late, 3, 2, 0, ROOMY},
-    {"bursts: one closes", one_closes, 2, 2, 0, ROOMY},
-    {"bursts: one frees", one_frees, 2, 2, 0, ROOMY},
-    {"bursts: far: two are late beside one that yields", two_late_beside_one_that_yields, 3, 3, 0, FAR},
-    {"bursts: far: two are late and come again", is_late_and_comes_again, 3, 2, 0, FAR},
-    {"bursts: crowded: one frees", one_frees, 2, 2, 0, CROWDED},
-    {"bursts: crowded: two are late beside one that yields", two_late_beside_one_that_yields, 3, 3, 0, CROWDED},
-    {"bursts: far: one frees", one_frees, 2, 2, 0, FAR},
-    {"bursts: one closes beside a holder", one_closes_beside_a_holder, 2, 2, 0, ROOMY},
-    {"bursts: two wait at a condition, one not for ever", waits, 3, 2, 0, ROOMY},
-    {"bursts: the later of two at a condition is late", waits_in_order, 3, 2, 0, ROOMY},
-    {"bursts: two wait at a condition until one shuts", waits_until_shut, 3, 2, 0, ROOMY},
-    {"bursts: one shuts and frees beside a waiter", shuts_and_frees, 2, 2, 0, ROOMY},
-    {"bursts: one signals and frees", signals_and_frees, 2, 2, 0, ROOMY},
-    {"bursts: one closes beside a waiter", one_closes_beside_a_waiter, 2, 2, 0, ROOMY},
-    {"bursts: enters again", enters_again, 2, 2, 0, ROOMY},
-    {"bursts: holds three", holds_three, 2, 2, 0, ROOMY},
+    {"barging: each enters, at the first use", enters, 2, 2, 1, ROOMY},
+    {"barging: three enter", enters, 3, 2, 0, ROOMY},
+    {"barging: three enter twice", enters_twice, 3, 2, 0, ROOMY},
+    {"barging: two enter thrice", enters_thrice, 2, 4, 0, ROOMY},
+    {"barging: one yields", one_yields, 3, 4, 0, ROOMY},
+    {"barging: two of three yield", two_yield, 3, 2, 0, ROOMY},
+    {"barging: one stays", one_stays, 3, 2, 0, ROOMY},
+    {"barging: one stays, of three turns", one_stays, 3, 3, 0, ROOMY},
+    {"barging: two are late", is_late, 3, 2, 0, ROOMY},
+    {"barging: one is late and comes again", is_late_and_comes_again, 2, 2, 0, ROOMY},
+    {"barging: two are late beside one that yields", two_late_beside_one_that_yields, 3, 3, 0, ROOMY},
+    {"barging: far: two are late", is_late, 3, 2, 0, FAR},
+    {"barging: one tries", tries, 3, 2, 0, ROOMY},
+    {"barging: the last tries", last_tries, 3, 2, 0, ROOMY},
+    {"barging: one shuts", shuts, 3, 2, 0, ROOMY},
+    {"barging: one shuts and asks", shuts_and_asks, 3, 2, 0, ROOMY},
+    {"barging: one shuts and closes", shuts_and_closes, 2, 2, 0, ROOMY},
+    {"barging: the last frees", last_frees, 3, 2, 0, ROOMY},
+    {"barging: the last frees, and each yields", last_frees_and_yields, 3, 2, 0, ROOMY},
+    {"barging: the last frees beside one that is late", last_frees_beside_one_that_is_late, 3, 2, 0, ROOMY},
+    {"barging: one closes", one_closes, 2, 2, 0, ROOMY},
+    {"barging: one frees", one_frees, 2, 2, 0, ROOMY},
+    {"barging: far: two are late beside one that yields", two_late_beside_one_that_yields, 3, 3, 0, FAR},
+    {"barging: far: two are late and come again", is_late_and_comes_again, 3, 2, 0, FAR},
+    {"barging: crowded: one frees", one_frees, 2, 2, 0, CROWDED},
+    {"barging: crowded: two are late beside one that yields", two_late_beside_one_that_yields, 3, 3, 0, CROWDED},
+    {"barging: far: one frees", one_frees, 2, 2, 0, FAR},
+    {"barging: one closes beside a holder", one_closes_beside_a_holder, 2, 2, 0, ROOMY},
+    {"barging: two wait at a condition, one not for ever", waits, 3, 2, 0, ROOMY},
+    {"barging: the later of two at a condition is late", waits_in_order, 3, 2, 0, ROOMY},
+    {"barging: two wait at a condition until one shuts", waits_until_shut, 3, 2, 0, ROOMY},
+    {"barging: one shuts and frees beside a waiter", shuts_and_frees, 2, 2, 0, ROOMY},
+    {"barging: one signals and frees", signals_and_frees, 2, 2, 0, ROOMY},
+    {"barging: one closes beside a waiter", one_closes_beside_a_waiter, 2, 2, 0, ROOMY},
+    {"barging: enters again", enters_again, 2, 2, 0, ROOMY},
+    {"barging: holds three", holds_three, 2, 2, 0, ROOMY},
     {"tasks: a task each", by_task, 3, 0, 0, ROOMY},
     {"tasks: a task each, twice", by_task_twice, 2, 0, 0, ROOMY},
     {"tasks: three tasks, twice", by_task_twice, 3, 0, 0, ROOMY},
@@ -812,120 +813,173 @@ const struct scene scenes[] = {
     {"tasks: a call enters another lock", enters_another_in_call, 3, 0, 0, ROOMY},
     {"tasks: one waits while a call enters", waits_while_a_call_enters, 2, 0, 0, ROOMY},
     {"tasks: a task comes to a younger lock", a_task_comes_to_a_younger_lock, 3, 0, 0, ROOMY},
-    {"bursts: tasks: a task each", by_task, 3, 2, 0, ROOMY},
-    {"bursts: tasks: a task each, twice", by_task_twice, 2, 2, 0, ROOMY},
-    {"bursts: tasks: three tasks, twice", by_task_twice, 3, 2, 0, ROOMY},
-    {"bursts: tasks: one task gives up", one_task_gives_up, 3, 2, 0, ROOMY},
-    {"bursts: far: tasks: one task gives up", one_task_gives_up, 3, 2, 0, FAR},
-    {"bursts: tasks: a task beside threads", a_task_beside_threads, 3, 2, 0, ROOMY},
-    {"bursts: tasks: tasks beside a thread", tasks_beside_a_thread, 3, 2, 0, ROOMY},
-    {"bursts: tasks: a task beside threads, twice", a_task_beside_threads_twice, 2, 2, 0, ROOMY},
-    {"bursts: tasks: tasks beside a thread, twice", tasks_beside_a_thread_twice, 3, 2, 0, ROOMY},
-    {"bursts: tasks: a task beside one that yields", a_task_beside_one_that_yields, 3, 2, 0, ROOMY},
-    {"bursts: tasks: tasks beside one that yields", tasks_beside_one_that_yields, 3, 2, 0, ROOMY},
-    {"bursts: tasks: a task beside one that stays", a_task_beside_one_that_stays, 3, 2, 0, ROOMY},
-    {"bursts: tasks: a task gives up between threads", a_task_gives_up_between_threads, 3, 2, 0, ROOMY},
-    {"bursts: far: tasks: a task gives up between threads", a_task_gives_up_between_threads, 3, 2, 0, FAR},
-    {"bursts: tasks: a task gives up beside one that yields", a_task_gives_up_beside_one_that_yields, 3, 2, 0, ROOMY},
-    {"bursts: far: tasks: a task gives up beside one that yields", a_task_gives_up_beside_one_that_yields, 3, 2, 0,
+    {"barging: tasks: a task each", by_task, 3, 2, 0, ROOMY},
+    {"barging: tasks: a task each, twice", by_task_twice, 2, 2, 0, ROOMY},
+    {"barging: tasks: three tasks, twice", by_task_twice, 3, 2, 0, ROOMY},
+    {"barging: tasks: one task gives up", one_task_gives_up, 3, 2, 0, ROOMY},
+    {"barging: far: tasks: one task gives up", one_task_gives_up, 3, 2, 0, FAR},
+    {"barging: tasks: a task beside threads", a_task_beside_threads, 3, 2, 0, ROOMY},
+    {"barging: tasks: tasks beside a thread", tasks_beside_a_thread, 3, 2, 0, ROOMY},
+    {"barging: tasks: a task beside threads, twice", a_task_beside_threads_twice, 2, 2, 0, ROOMY},
+    {"barging: tasks: tasks beside a thread, twice", tasks_beside_a_thread_twice, 3, 2, 0, ROOMY},
+    {"barging: tasks: a task beside one that yields", a_task_beside_one_that_yields, 3, 2, 0, ROOMY},
+    {"barging: tasks: tasks beside one that yields", tasks_beside_one_that_yields, 3, 2, 0, ROOMY},
+    {"barging: tasks: a task beside one that stays", a_task_beside_one_that_stays, 3, 2, 0, ROOMY},
+    {"barging: tasks: a task gives up between threads", a_task_gives_up_between_threads, 3, 2, 0, ROOMY},
+    {"barging: far: tasks: a task gives up between threads", a_task_gives_up_between_threads, 3, 2, 0, FAR},
+    {"barging: tasks: a task gives up beside one that yields", a_task_gives_up_beside_one_that_yields, 3, 2, 0, ROOMY},
+    {"barging: far: tasks: a task gives up beside one that yields", a_task_gives_up_beside_one_that_yields, 3, 2, 0,
      FAR},
-    {"bursts: tasks: a task gives up before one", a_task_gives_up_before_one_beside_one_that_yields, 3, 2, 0, ROOMY},
-    {"bursts: far: tasks: a task gives up before one", a_task_gives_up_before_one_beside_one_that_yields, 3, 2, 0, FAR},
-    {"bursts: tasks: a task gives up and asks again", a_task_gives_up_and_asks_again, 2, 2, 0, ROOMY},
-    {"bursts: far: tasks: a task gives up and asks again", a_task_gives_up_and_asks_again, 2, 2, 0, FAR},
-    {"bursts: tasks: a thread is late between tasks", a_thread_is_late_between_tasks, 3, 2, 0, ROOMY},
-    {"bursts: far: tasks: a thread is late between tasks", a_thread_is_late_between_tasks, 3, 2, 0, FAR},
-    {"bursts: tasks: a thread is late before a task", a_thread_is_late_before_a_task, 3, 2, 0, ROOMY},
-    {"bursts: far: tasks: a thread is late before a task", a_thread_is_late_before_a_task, 3, 2, 0, FAR},
-    {"bursts: tasks: a thread is late or a task waits", a_thread_is_late_or_a_task_waits, 3, 2, 0, ROOMY},
-    {"bursts: tasks: a task and a thread give up", both_give_up, 3, 2, 0, ROOMY},
-    {"bursts: far: tasks: a task and a thread give up", both_give_up, 3, 2, 0, FAR},
-    {"bursts: tasks: one tries beside a task", one_tries_beside_a_task, 3, 2, 0, ROOMY},
-    {"bursts: tasks: two tasks of one", two_tasks_of_one, 2, 2, 0, ROOMY},
-    {"bursts: tasks: the first of two tasks gives up", first_of_two_gives_up, 2, 2, 0, ROOMY},
-    {"bursts: far: tasks: the first of two tasks gives up", first_of_two_gives_up, 2, 2, 0, FAR},
-    {"bursts: tasks: the second of two tasks gives up", second_of_two_gives_up, 2, 2, 0, ROOMY},
-    {"bursts: far: tasks: the second of two tasks gives up", second_of_two_gives_up, 2, 2, 0, FAR},
-    {"bursts: tasks: both of two tasks give up", both_of_two_give_up, 2, 2, 0, ROOMY},
-    {"bursts: far: tasks: both of two tasks give up", both_of_two_give_up, 2, 2, 0, FAR},
-    {"bursts: tasks: tasks until one shuts", tasks_until_shut, 3, 2, 0, ROOMY},
-    {"bursts: far: tasks: tasks until one shuts", tasks_until_shut, 3, 2, 0, FAR},
-    {"bursts: tasks: a task until one shuts", a_task_until_shut, 3, 2, 0, ROOMY},
-    {"bursts: tasks: a task shuts", a_task_shuts, 3, 2, 0, ROOMY},
-    {"bursts: tasks: the last task frees", last_task_frees, 2, 2, 0, ROOMY},
-    {"bursts: tasks: the last of three tasks frees", last_task_frees, 3, 2, 0, ROOMY},
-    {"bursts: tasks: the last of both frees", last_of_both_frees, 3, 2, 0, ROOMY},
-    {"bursts: far: tasks: the last of both frees", last_of_both_frees, 3, 2, 0, FAR},
-    {"bursts: tasks: the last that polls frees", last_that_polls_frees, 2, 2, 0, ROOMY},
-    {"bursts: tasks: a task polls early", a_task_polls_early, 3, 2, 0, ROOMY},
-    {"bursts: tasks: one closes beside a task", one_closes_beside_a_task, 3, 2, 0, ROOMY},
-    {"bursts: tasks: one closes while both wait", closes_while_both_wait, 3, 2, 0, ROOMY},
-    {"bursts: tasks: a task signals", a_task_signals, 3, 2, 0, ROOMY},
-    {"bursts: tasks: turns in calls", has_task_turn_in_call, 3, 2, 0, ROOMY},
-    {"bursts: tasks: turns in calls, and again", task_asks_again_in_call, 3, 2, 0, ROOMY},
-    {"bursts: tasks: a call enters another lock", enters_another_in_call, 3, 2, 0, ROOMY},
-    {"bursts: tasks: one waits while a call enters", waits_while_a_call_enters, 2, 2, 0, ROOMY},
-    {"bursts: tasks: a task comes to a younger lock", a_task_comes_to_a_younger_lock, 3, 2, 0, ROOMY},
+    {"barging: tasks: a task gives up before one", a_task_gives_up_before_one_beside_one_that_yields, 3, 2, 0, ROOMY},
+    {"barging: far: tasks: a task gives up before one", a_task_gives_up_before_one_beside_one_that_yields, 3, 2, 0,
+     FAR},
+    {"barging: tasks: a task gives up and asks again", a_task_gives_up_and_asks_again, 2, 2, 0, ROOMY},
+    {"barging: far: tasks: a task gives up and asks again", a_task_gives_up_and_asks_again, 2, 2, 0, FAR},
+    {"barging: tasks: a thread is late between tasks", a_thread_is_late_between_tasks, 3, 2, 0, ROOMY},
+    {"barging: far: tasks: a thread is late between tasks", a_thread_is_late_between_tasks, 3, 2, 0, FAR},
+    {"barging: tasks: a thread is late before a task", a_thread_is_late_before_a_task, 3, 2, 0, ROOMY},
+    {"barging: far: tasks: a thread is late before a task", a_thread_is_late_before_a_task, 3, 2, 0, FAR},
+    {"barging: tasks: a thread is late or a task waits", a_thread_is_late_or_a_task_waits, 3, 2, 0, ROOMY},
+    {"barging: tasks: a task and a thread give up", both_give_up, 3, 2, 0, ROOMY},
+    {"barging: far: tasks: a task and a thread give up", both_give_up, 3, 2, 0, FAR},
+    {"barging: tasks: one tries beside a task", one_tries_beside_a_task, 3, 2, 0, ROOMY},
+    {"barging: tasks: two tasks of one", two_tasks_of_one, 2, 2, 0, ROOMY},
+    {"barging: tasks: the first of two tasks gives up", first_of_two_gives_up, 2, 2, 0, ROOMY},
+    {"barging: far: tasks: the first of two tasks gives up", first_of_two_gives_up, 2, 2, 0, FAR},
+    {"barging: tasks: the second of two tasks gives up", second_of_two_gives_up, 2, 2, 0, ROOMY},
+    {"barging: far: tasks: the second of two tasks gives up", second_of_two_gives_up, 2, 2, 0, FAR},
+    {"barging: tasks: both of two tasks give up", both_of_two_give_up, 2, 2, 0, ROOMY},
+    {"barging: far: tasks: both of two tasks give up", both_of_two_give_up, 2, 2, 0, FAR},
+    {"barging: tasks: tasks until one shuts", tasks_until_shut, 3, 2, 0, ROOMY},
+    {"barging: far: tasks: tasks until one shuts", tasks_until_shut, 3, 2, 0, FAR},
+    {"barging: tasks: a task until one shuts", a_task_until_shut, 3, 2, 0, ROOMY},
+    {"barging: tasks: a task shuts", a_task_shuts, 3, 2, 0, ROOMY},
+    {"barging: tasks: the last task frees", last_task_frees, 2, 2, 0, ROOMY},
+    {"barging: tasks: the last of three tasks frees", last_task_frees, 3, 2, 0, ROOMY},
+    {"barging: tasks: the last of both frees", last_of_both_frees, 3, 2, 0, ROOMY},
+    {"barging: far: tasks: the last of both frees", last_of_both_frees, 3, 2, 0, FAR},
+    {"barging: tasks: the last that polls frees", last_that_polls_frees, 2, 2, 0, ROOMY},
+    {"barging: tasks: a task polls early", a_task_polls_early, 3, 2, 0, ROOMY},
+    {"barging: tasks: one closes beside a task", one_closes_beside_a_task, 3, 2, 0, ROOMY},
+    {"barging: tasks: one closes while both wait", closes_while_both_wait, 3, 2, 0, ROOMY},
+    {"barging: tasks: a task signals", a_task_signals, 3, 2, 0, ROOMY},
+    {"barging: tasks: turns in calls", has_task_turn_in_call, 3, 2, 0, ROOMY},
+    {"barging: tasks: turns in calls, and again", task_asks_again_in_call, 3, 2, 0, ROOMY},
+    {"barging: tasks: a call enters another lock", enters_another_in_call, 3, 2, 0, ROOMY},
+    {"barging: tasks: one waits while a call enters", waits_while_a_call_enters, 2, 2, 0, ROOMY},
+    {"barging: tasks: a task comes to a younger lock", a_task_comes_to_a_younger_lock, 3, 2, 0, ROOMY},
     {"tasks: a task shuts beside a waiter", a_task_shuts_beside_a_waiter, 2, 0, 0, ROOMY},
-    {"bursts: tasks: a task shuts beside a waiter", a_task_shuts_beside_a_waiter, 2, 2, 0, ROOMY},
+    {"barging: tasks: a task shuts beside a waiter", a_task_shuts_beside_a_waiter, 2, 2, 0, ROOMY},
     {"tasks: the last frees beside others' entries", last_frees_beside_entries, 3, 0, 0, ROOMY},
-    {"bursts: tasks: the last frees beside others' entries", last_frees_beside_entries, 3, 2, 0, ROOMY},
-    {"bursts of four: tasks: a task beside threads", a_task_beside_threads, 3, 4, 0, ROOMY},
-    {"bursts of four: tasks: a task beside one that yields once", a_task_beside_one_that_yields_once, 3, 4, 0, ROOMY},
-    {"bursts of four: tasks: tasks beside a thread", tasks_beside_a_thread, 3, 4, 0, ROOMY},
-    {"bursts of four: tasks: a task beside threads, twice", a_task_beside_threads_twice, 2, 4, 0, ROOMY},
-    {"bursts of three: tasks: a task beside one that stays", a_task_beside_one_that_stays, 3, 3, 0, ROOMY},
-    {"bursts of four: tasks: a task gives up and asks again", a_task_gives_up_and_asks_again, 2, 4, 0, ROOMY},
+    {"barging: tasks: the last frees beside others' entries", last_frees_beside_entries, 3, 2, 0, ROOMY},
+    {"barging limit 4: tasks: a task beside threads", a_task_beside_threads, 3, 4, 0, ROOMY},
+    {"barging limit 4: tasks: a task beside one that yields once", a_task_beside_one_that_yields_once, 3, 4, 0, ROOMY},
+    {"barging limit 4: tasks: tasks beside a thread", tasks_beside_a_thread, 3, 4, 0, ROOMY},
+    {"barging limit 4: tasks: a task beside threads, twice", a_task_beside_threads_twice, 2, 4, 0, ROOMY},
+    {"barging limit 3: tasks: a task beside one that stays", a_task_beside_one_that_stays, 3, 3, 0, ROOMY},
+    {"barging limit 4: tasks: a task gives up and asks again", a_task_gives_up_and_asks_again, 2, 4, 0, ROOMY},
     {"tasks: no memory", a_task_finds_no_memory, 2, 0, 0, 15, MANY, MANY, NO_MEMORY},
     {"tasks: crowded", a_task_finds_no_memory, 2, 0, 0, 15, MANY, 0, 0},
     {"tasks: room for one sleeper", a_task_beside_one_that_yields, 3, 0, 0, 15, 1, MANY, 0},
     {"one enters until one shuts", enters_until_shut, 2, 0, 0, ROOMY},
-    {"bursts: one enters until one shuts", enters_until_shut, 2, 2, 0, ROOMY},
+    {"barging: one enters until one shuts", enters_until_shut, 2, 2, 0, ROOMY},
     {"who is told of a shut frees", told_of_a_shut_frees, 2, 0, 0, ROOMY},
-    {"bursts: who is told of a shut frees", told_of_a_shut_frees, 2, 2, 0, ROOMY},
+    {"barging: who is told of a shut frees", told_of_a_shut_frees, 2, 2, 0, ROOMY},
     {"who is told of a shut frees at once", told_of_a_shut_frees_at_once, 2, 0, 0, ROOMY},
-    {"bursts: who is told of a shut frees at once", told_of_a_shut_frees_at_once, 2, 2, 0, ROOMY},
+    {"barging: who is told of a shut frees at once", told_of_a_shut_frees_at_once, 2, 2, 0, ROOMY},
     {"who is told of a shut asks", told_of_a_shut_asks, 2, 0, 0, ROOMY},
-    {"bursts: who is told of a shut asks", told_of_a_shut_asks, 2, 2, 0, ROOMY},
+    {"barging: who is told of a shut asks", told_of_a_shut_asks, 2, 2, 0, ROOMY},
     {"late while one stays in", is_late_while_one_stays_in, 2, 0, 0, ROOMY},
     {"far: late while one stays in", is_late_while_one_stays_in, 2, 0, 0, FAR},
     {"far: crowded: late while one stays in", is_late_while_one_stays_in, 2, 0, 0, 0, MANY, 0, 0},
-    {"bursts: late while one stays in", is_late_while_one_stays_in, 2, 2, 0, ROOMY},
-    {"bursts: far: crowded: late while one stays in", is_late_while_one_stays_in, 2, 2, 0, 0, MANY, 0, 0},
+    {"barging: late while one stays in", is_late_while_one_stays_in, 2, 2, 0, ROOMY},
+    {"barging: far: crowded: late while one stays in", is_late_while_one_stays_in, 2, 2, 0, 0, MANY, 0, 0},
     {"late at a condition", is_late_at_a_condition, 2, 0, 0, ROOMY},
-    {"bursts: late at a condition", is_late_at_a_condition, 2, 2, 0, ROOMY},
+    {"barging: late at a condition", is_late_at_a_condition, 2, 2, 0, ROOMY},
     {"who waits longest at a condition is signalled", signals_in_order, 3, 0, 0, ROOMY},
     {"one signal, to one whose time is over", signals_whose_time_is_over, 3, 0, 0, ROOMY},
     {"one signal at two locks, one of which is shut", signals_at_two_locks, 3, 0, 0, ROOMY},
-    {"bursts: one signal at two locks, one of which is shut", signals_at_two_locks, 3, 2, 0, ROOMY},
+    {"barging: one signal at two locks, one of which is shut", signals_at_two_locks, 3, 2, 0, ROOMY},
     {"a broadcast at two locks, one of which is shut", broadcasts_at_two_locks, 3, 0, 0, ROOMY},
-    {"bursts: a broadcast at two locks, one of which is shut", broadcasts_at_two_locks, 3, 2, 0, ROOMY},
+    {"barging: a broadcast at two locks, one of which is shut", broadcasts_at_two_locks, 3, 2, 0, ROOMY},
     {"far: tasks: one gives up far, before one near", gives_up_far_before_one_near, 2, 0, 0, 2, MANY, MANY, 0},
     {"tasks: one frees beside a task", one_frees_beside_a_task, 2, 0, 0, ROOMY},
     {"far: tasks: one frees beside a task", one_frees_beside_a_task, 2, 0, 0, FAR},
-    {"bursts: tasks: one frees beside a task", one_frees_beside_a_task, 2, 2, 0, ROOMY},
-    {"bursts: far: tasks: one frees beside a task", one_frees_beside_a_task, 2, 2, 0, FAR},
+    {"barging: tasks: one frees beside a task", one_frees_beside_a_task, 2, 2, 0, ROOMY},
+    {"barging: far: tasks: one frees beside a task", one_frees_beside_a_task, 2, 2, 0, FAR},
     {"who waits behind one that was signalled is told of a shut", shuts_behind_a_signal, 3, 0, 0, ROOMY},
-    {"bursts: who waits behind one that was signalled is told of a shut", shuts_behind_a_signal, 3, 2, 0, ROOMY},
+    {"barging: who waits behind one that was signalled is told of a shut", shuts_behind_a_signal, 3, 2, 0, ROOMY},
     {"who signals waits", signals_and_waits, 2, 0, 0, ROOMY},
-    {"bursts: who signals waits", signals_and_waits, 2, 2, 0, ROOMY},
+    {"barging: who signals waits", signals_and_waits, 2, 2, 0, ROOMY},
     {"who is signalled waits again", waits_again, 2, 0, 0, ROOMY},
     {"tasks: the task that is told of a shut asks elsewhere", asks_elsewhere_by_the_task_that_was_told, 2, 0, 0, ROOMY},
-    {"bursts: tasks: the task that is told of a shut asks elsewhere", asks_elsewhere_by_the_task_that_was_told, 2, 2, 0,
-     ROOMY},
+    {"barging: tasks: the task that is told of a shut asks elsewhere", asks_elsewhere_by_the_task_that_was_told, 2, 2,
+     0, ROOMY},
     {"far: tasks: two behind one that is late", two_tasks_behind_one_that_is_late, 3, 0, 0, FAR},
     {"tasks: one goes on with two at two locks", waits_for_two, 3, 0, 0, ROOMY},
     {"tasks: one polls for two at two locks", polls_for_two, 3, 0, 0, ROOMY},
     {"after many turns: far: two are late", is_late, 3, 0, 0, FAR},
     {"after many turns: tasks: one task gives up", one_task_gives_up, 3, 0, 0, ROOMY},
-    {"after many turns: bursts: tasks: a task gives up beside one that yields", a_task_gives_up_beside_one_that_yields,
+    {"after many turns: barging: tasks: a task gives up beside one that yields", a_task_gives_up_beside_one_that_yields,
      3, 2, 0, ROOMY},
     {"no memory: late once it is near", is_late_once_it_is_near, 3, 0, 0, 1, MANY, MANY, NO_MEMORY},
     {"tasks: two tasks, room for one sleeper", tasks_beside_one_that_yields, 3, 0, 0, 15, 1, MANY, 0},
     {"tasks: the task that left enters in the call", enters_by_the_task_that_left, 2, 0, 0, ROOMY},
-    {"bursts: tasks: the task that left enters in the call", enters_by_the_task_that_left, 2, 2, 0, ROOMY},
+    {"barging: tasks: the task that left enters in the call", enters_by_the_task_that_left, 2, 2, 0, ROOMY},
     {"tasks: the task that is told of a shut asks in the call", asks_by_the_task_that_was_told, 2, 0, 0, ROOMY},
-    {"bursts: tasks: the task that is told of a shut asks in the call", asks_by_the_task_that_was_told, 2, 2, 0, ROOMY},
+    {"barging: tasks: the task that is told of a shut asks in the call", asks_by_the_task_that_was_told, 2, 2, 0,
+     ROOMY},
+    {"yields: three enter", enters, 3, 0, 0, ROOMY},
+    {"yields: two of three yield", two_yield, 3, 0, 0, ROOMY},
+    {"yields: two are late and come again", is_late_and_comes_again, 3, 0, 0, ROOMY},
+    {"yields: two look in", looks_in, 3, 0, 0, ROOMY},
+    {"yields: one tries", tries, 3, 0, 0, ROOMY},
+    {"yields: one shuts", shuts, 3, 0, 0, ROOMY},
+    {"yields: the last frees, and each yields", last_frees_and_yields, 3, 0, 0, ROOMY},
+    {"yields: one closes", one_closes, 2, 0, 0, ROOMY},
+    {"barging: asks: three enter twice", enters_twice, 3, 4, 0, ROOMY},
+    {"barging: asks: two of three yield", two_yield, 3, 4, 0, ROOMY},
+    {"barging: asks: one stays", one_stays, 3, 4, 0, ROOMY},
+    {"barging: asks: two are late beside one that yields", two_late_beside_one_that_yields, 3, 4, 0, ROOMY},
+    {"barging: asks: one shuts", shuts, 3, 4, 0, ROOMY},
+    {"barging: asks: the last frees, and each yields", last_frees_and_yields, 3, 4, 0, ROOMY},
+    {"barging: asks: tasks: a task beside threads", a_task_beside_threads, 3, 4, 0, ROOMY},
+    {"barging: spins: asks: three enter twice", enters_twice, 3, 4, 0, ROOMY},
+    {"barging: spins: asks: two are late beside one that yields", two_late_beside_one_that_yields, 3, 4, 0, ROOMY},
+    {"barging: spins: asks: late while one stays in", is_late_while_one_stays_in, 2, 4, 0, ROOMY},
+    {"barging: spins: asks: two are late and come again", is_late_and_comes_again, 3, 4, 0, ROOMY},
+    {"barging: spins: each enters, at the first use", enters, 2, 2, 1, ROOMY},
+    {"barging: spins: three enter", enters, 3, 2, 0, ROOMY},
+    {"barging: spins: three enter twice", enters_twice, 3, 2, 0, ROOMY},
+    {"barging: spins: two enter thrice", enters_thrice, 2, 4, 0, ROOMY},
+    {"barging: spins: two of three yield", two_yield, 3, 2, 0, ROOMY},
+    {"barging: spins: one yields", one_yields, 3, 4, 0, ROOMY},
+    {"barging: spins: one stays", one_stays, 3, 2, 0, ROOMY},
+    {"barging: spins: two are late", is_late, 3, 2, 0, ROOMY},
+    {"barging: spins: two are late beside one that yields", two_late_beside_one_that_yields, 3, 3, 0, ROOMY},
+    {"barging: spins: far: two are late beside one that yields", two_late_beside_one_that_yields, 3, 3, 0, FAR},
+    {"barging: spins: crowded: two are late beside one that yields", two_late_beside_one_that_yields, 3, 3, 0, CROWDED},
+    {"barging: spins: late while one stays in", is_late_while_one_stays_in, 2, 2, 0, ROOMY},
+    {"barging: spins: two look in", looks_in, 3, 2, 0, ROOMY},
+    {"barging: spins: one tries", tries, 3, 2, 0, ROOMY},
+    {"barging: spins: the last tries", last_tries, 3, 2, 0, ROOMY},
+    {"barging: spins: one shuts", shuts, 3, 2, 0, ROOMY},
+    {"barging: spins: one shuts and asks", shuts_and_asks, 3, 2, 0, ROOMY},
+    {"barging: spins: one shuts and closes", shuts_and_closes, 2, 2, 0, ROOMY},
+    {"barging: spins: one enters until one shuts", enters_until_shut, 2, 2, 0, ROOMY},
+    {"barging: spins: the last frees", last_frees, 3, 2, 0, ROOMY},
+    {"barging: spins: the last frees, and each yields", last_frees_and_yields, 3, 2, 0, ROOMY},
+    {"barging: spins: the last frees beside one that is late", last_frees_beside_one_that_is_late, 3, 2, 0, ROOMY},
+    {"barging: spins: one closes", one_closes, 2, 2, 0, ROOMY},
+    {"barging: spins: one frees", one_frees, 2, 2, 0, ROOMY},
+    {"barging: spins: one closes beside a holder", one_closes_beside_a_holder, 2, 2, 0, ROOMY},
+    {"barging: spins: two wait at a condition, one not for ever", waits, 3, 2, 0, ROOMY},
+    {"barging: spins: two wait at a condition until one shuts", waits_until_shut, 3, 2, 0, ROOMY},
+    {"barging: spins: one closes beside a waiter", one_closes_beside_a_waiter, 2, 2, 0, ROOMY},
+    {"barging: spins: enters again", enters_again, 2, 2, 0, ROOMY},
+    {"barging: spins: tasks: a task beside threads", a_task_beside_threads, 3, 2, 0, ROOMY},
+    {"barging: spins: tasks: a task beside one that yields", a_task_beside_one_that_yields, 3, 2, 0, ROOMY},
+    {"barging: spins: tasks: one closes beside a task", one_closes_beside_a_task, 3, 2, 0, ROOMY},
     {NULL, NULL, 0, 0, 0, 0, 0, 0, 0},
 };
 
@@ -935,15 +989,15 @@ static qolb_lock *unopened(const struct scene *scene, int k) {
     char *block = model_malloc(sizeof(qolb_lock) + PLACES * PLACE);
     qolb_lock *lock = (qolb_lock *)(block + PLACE * ((scene - scenes + k) % PLACES));
     if (k == 0) it.block = block;
-    *lock = (qolb_lock)QOLB_LOCK_INIT_BURSTS(scene->burst);
+    *lock = (qolb_lock)QOLB_LOCK_INIT_BARGING(scene->barging);
     return lock;
 }
 
 /* As if many turns had ended: the rounds in the cells began anew, and have their highest bits. */
 UNSEEN static void had_many_turns(struct lock *lock) {
-    uint64_t rounds = (uint64_t)7 << 28;
-    words_of(lock)[TAIL] += rounds * TICKETS_IN_ROUND;
-    for (int k = 0; k < TICKETS_IN_ROUND; k++) words_of(lock)[FIRST_CELL + k] += rounds << GRANTED_ROUNDS;
+    uint64_t rounds = (uint64_t)7 << (64 - LAYOUT_ROUNDS_BIT - 2);
+    words_of(lock)[LAYOUT_TAIL_WORD] += rounds * TICKETS_IN_ROUND;
+    for (int k = 0; k < TICKETS_IN_ROUND; k++) words_of(lock)[LAYOUT_FIRST_CELL + k] += rounds << LAYOUT_ROUNDS_BIT;
 }
 
 void set_up(const struct scene *scene) {
@@ -953,25 +1007,32 @@ void set_up(const struct scene *scene) {
     time_of_order = 0, it.users = scene->threads, model_near = scene->near, model_sleepers = scene->sleepers,
     model_open = scene->open;
     model_memory = !scene->no_memory, for_second = 0, model_tries = strncmp(scene->name, "one try", 7) ? 2 : 1;
+    model_barges = strstr(scene->name, "spins: ") ? BARGE_PAUSE * 3 : 0;
+    model_patience = strstr(scene->name, "asks: ") ? 0 : WATCH_PAUSE * 2;
+    model_processors = strstr(scene->name, "yields: ") ? 1 : THREADS;
     for (int k = 0; k < LOCKS; k++) {
         it.locks[k] = unopened(scene, k);
-        if (!scene->at_first_use) MUST(qolb_lock_open(it.locks[k], scene->burst) == QOLB_DONE);
+        if (!scene->at_first_use) MUST(qolb_lock_open(it.locks[k], scene->barging) == QOLB_DONE);
         if (!strncmp(scene->name, "after many turns", 16)) had_many_turns(lock_of(it.locks[k]));
     }
     it.lock = it.locks[0];
     entries.lock = scene->does == late_with_memory_by_a_lock ? it.locks[2] : NULL;
 }
 
-/* Nobody is counted or withdrawn at any cell, waits, is a guest, or holds. */
+/* Nobody is counted or withdrawn at any cell, waits, is without a ticket in a call, or holds. */
 UNSEEN static void check_lock(struct lock *lock) {
-    for (int k = 0; k < TICKETS_IN_ROUND; k++) MUST((uint32_t)words_of(lock)[FIRST_CELL + k] == 0);
-    MUST(!lock->waits && *(unsigned *)&lock->guests == 0 && *(uint64_t *)&lock->beyond_by == 0);
+    for (int k = 0; k < TICKETS_IN_ROUND; k++) MUST((uint32_t)words_of(lock)[LAYOUT_FIRST_CELL + k] == 0);
+    MUST(!lock->waits && *(unsigned *)&lock->without_ticket == 0 && *(uint64_t *)&lock->beyond_by == 0);
 }
 
-/* No notice is in a list, and no call is being made. */
-UNSEEN static void check_bells(void) {
-    for (struct bell *bell = qolb_bells_; bell < qolb_bells_ + BELLS; bell++)
-        MUST(!*(struct notice **)&bell->first && !bell->running && *(unsigned *)&bell->guard == 0);
+/* No callback is in a list, no call is being made, and no entry is counted. */
+UNSEEN static void check_callbacks(void) {
+    for (struct task_row *row = qolb_task_rows_; row < qolb_task_rows_ + TASK_ROWS; row++) {
+        struct callbacks *of = &row->callbacks;
+        MUST(!*(struct callback **)&of->first && !of->running && *(unsigned *)&of->guard == 0);
+        MUST(*(unsigned *)&of->others == 0 && *(unsigned *)&of->waiting == 0);
+    }
+    MUST(*(unsigned *)&qolb_abandoned_.of[0].many == 0 && *(unsigned *)&qolb_tasks_.of[0].many == 0);
 }
 
 /* All threads have ended. */
@@ -989,14 +1050,14 @@ void check_end(const struct scene *scene) {
         qolb_lock *lock = k ? it.locks[k] : it.lock;
         if (!lock) continue;
         if (lock->own) check_lock(lock_of(lock));
-        MUST(qolb_lock_close(lock) == QOLB_DONE && lock->own == NULL);
+        MUST(qolb_lock_destroy(lock) == QOLB_DONE && lock->own == NULL);
     }
-    check_bells();
+    check_callbacks();
     for (int k = 0; k < entries.many; k++) must(was_freed(entries.at[k]), "an entry is not freed");
 }
 
 UNSEEN int is_own(uintptr_t at) {
-    return at - (uintptr_t)owns < sizeof owns || at - (uintptr_t)&qolb_core_room_ < sizeof qolb_core_room_ ||
+    return at - (uintptr_t)owns < sizeof owns || at - (uintptr_t)&qolb_core_arena_ < sizeof qolb_core_arena_ ||
            at - (uintptr_t)&qolb_learned_ < sizeof qolb_learned_ || at - (uintptr_t)&errno < sizeof errno;
 }
 

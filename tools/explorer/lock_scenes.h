@@ -2,7 +2,7 @@
 #ifndef CORE_SCENES_H
 #define CORE_SCENES_H
 
-#include <lock/lock.h>
+#include <lock/entries.h>
 #include <sched.h>
 #include "explorer.h"
 

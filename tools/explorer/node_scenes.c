@@ -1,8 +1,8 @@
 /* The actions of threads with a node each, in the runs that explorer.c makes. The library's files, or those that differ
  * by a fault, are built with -fsanitize=thread, by which the compiler reports each access to memory by a call, and
  * explorer.c answers those calls. */
-#include <bells.h>
 #include <errno.h>
+#include <line.h>
 #include <sched.h>
 #include "explorer.h"
 
@@ -21,9 +21,11 @@ static struct {
     struct {
         _Alignas(QOLB_NODE_ALIGN) qolb_node node;
     } other[2]; /* of a second line */
+    struct line *line, *other_line;
 } it;
 
-unsigned model_bells;
+void qolb_yield_(void);
+void qolb_yield_(void) { sched_yield(); }
 
 static void turn_with(int yields) {
     MUST(it.inside++ == 0);
@@ -50,7 +52,7 @@ static void acquires_twice(int self) { acquires_once(self), acquires_once(self);
 
 static void acquires_in_time(int self) {
     uint32_t got = self ? qolb_acquire_within(&it.of[self].node, MS) : qolb_acquire(&it.of[self].node);
-    if (got == QOLB_LATE) return;
+    if (got == QOLB_TIMEDOUT) return;
     MUST(got == QOLB_GRANTED);
     releases_turn(self);
 }
@@ -133,7 +135,7 @@ static uint32_t takes_back(int self) {
     MUST(it.told[self].calls == (off == QOLB_DONE));
     it.told[self].calls = 0;
     uint32_t got = qolb_withdraw(&it.of[self].node);
-    return got == QOLB_WITHDRAWN ? (uint32_t)QOLB_LATE : got;
+    return got == QOLB_WITHDRAWN ? (uint32_t)QOLB_TIMEDOUT : got;
 }
 
 static uint32_t is_notified(int self, uint64_t time) {
@@ -160,7 +162,7 @@ static void notified_twice(int self) { notified(self), notified(self); }
 
 static void notified_in_time(int self) {
     uint32_t got = is_notified(self, self == 1 ? MS : FOR_EVER);
-    if (got == QOLB_LATE) return;
+    if (got == QOLB_TIMEDOUT) return;
     MUST(got == QOLB_GRANTED);
     releases_turn(self);
 }
@@ -273,63 +275,114 @@ static void closes_with_a_wish(int self) {
     if (got == QOLB_QUEUED) got = wants_call(self, tells);
     if (got == QOLB_WAITING) got = qolb_withdraw(node);
     if (got == QOLB_GRANTED) releases_turn(self);
-    MUST(qolb_close(node) == QOLB_DONE);
+    MUST(qolb_node_free(node) == QOLB_DONE);
     if (self == 1) MUST(it.told[1].calls <= 1);
     it.told[self].calls = 0;
 }
 
+/* One has a turn of the second line while it waits for the first, and its call ends that turn and closes the node. The
+ * other node of the second line withdraws and closes meanwhile: so nobody has that line open any more when the calls
+ * are made that this call puts off. */
+static void ends_other_turn(void *task) {
+    MUST(qolb_deqolb(&it.other[0].node) == QOLB_DONE && qolb_node_free(&it.other[0].node) == QOLB_DONE);
+    sched_yield();
+    tells(task);
+}
+
+static void waits_for_both_lines(void) {
+    MUST(qolb_acquire(&it.other[0].node) == QOLB_GRANTED);
+    uint32_t got = qolb_enqolb(&it.of[1].node);
+    if (got == QOLB_QUEUED) got = wants_call(1, ends_other_turn);
+    if (got == QOLB_GRANTED) ends_other_turn((void *)1);
+    while (got == QOLB_WAITING) {
+        while (!is_told(1, FOR_EVER)) {}
+        MUST(qolb_notify_off(&it.of[1].node) == QOLB_DONE);
+        got = qolb_poll(&it.of[1].node);
+    }
+    MUST(it.told[1].calls-- == 1);
+    releases_turn(1);
+}
+
+static void closes_other_line(void) {
+    qolb_node *node = &it.other[1].node;
+    uint32_t got = qolb_enqolb(node);
+    if (got == QOLB_QUEUED) got = qolb_notify(node, tells, (void *)2);
+    if (got == QOLB_WAITING) sched_yield(), got = qolb_withdraw(node);
+    if (got == QOLB_GRANTED) MUST(qolb_deqolb(node) == QOLB_DONE);
+    MUST(qolb_node_free(node) == QOLB_DONE);
+    it.told[2].calls = 0;
+}
+
+static void closes_a_line_in_a_call(int self) {
+    if (self == 0) {
+        MUST(qolb_acquire(&it.of[0].node) == QOLB_GRANTED);
+        turn_with(2);
+        MUST(qolb_deqolb(&it.of[0].node) == QOLB_DONE);
+    } else if (self == 1) {
+        waits_for_both_lines();
+    } else {
+        closes_other_line();
+    }
+}
+
+/* The last that closes frees the line. */
+static void all_close(int self) {
+    acquires_once(self);
+    MUST(qolb_node_free(&it.of[self].node) == QOLB_DONE);
+}
+
 const struct scene scenes[] = {
-    {"nodes: three acquire", acquires_once, QOLB_TICKET, 3, EACH_ITS_BELL},
-    {"nodes: three acquire, who link", acquires_once, QOLB_LINK, 3, EACH_ITS_BELL},
-    {"nodes: two acquire twice", acquires_twice, QOLB_TICKET, 2, EACH_ITS_BELL},
-    {"nodes: two acquire twice, and link", acquires_twice, QOLB_LINK, 2, EACH_ITS_BELL},
-    {"nodes: two are late", acquires_in_time, QOLB_TICKET, 3, EACH_ITS_BELL},
-    {"nodes: one is late and comes again", acquires_in_time_and_again, QOLB_TICKET, 2, EACH_ITS_BELL},
-    {"nodes: one looks on", one_looks_on, QOLB_TICKET, 3, EACH_ITS_BELL},
-    {"nodes: one withdraws", one_withdraws, QOLB_TICKET, 3, EACH_ITS_BELL},
-    {"nodes: one shuts", one_shuts, QOLB_TICKET, 3, EACH_ITS_BELL},
-    {"nodes: one shuts, and one looks on", one_shuts_and_one_looks_on, QOLB_TICKET, 3, EACH_ITS_BELL},
-    {"nodes: three acquire at one bell", acquires_once, QOLB_TICKET, 3, AT_ONE_BELL},
-    {"nodes: two acquire twice at one bell", acquires_twice, QOLB_TICKET, 2, AT_ONE_BELL},
-    {"nodes: one holds two lines", one_holds_two_lines, QOLB_TICKET, 3, TWO_LINES},
-    {"notices: three", notified, QOLB_TICKET, 3, EACH_ITS_BELL},
-    {"notices: three, who link", notified, QOLB_LINK, 3, EACH_ITS_BELL},
-    {"notices: three at one bell", notified, QOLB_TICKET, 3, AT_ONE_BELL},
-    {"notices: two twice", notified_twice, QOLB_TICKET, 2, EACH_ITS_BELL},
-    {"notices: two twice at one bell", notified_twice, QOLB_TICKET, 2, AT_ONE_BELL},
-    {"notices: one gives up", notified_in_time, QOLB_TICKET, 3, EACH_ITS_BELL},
-    {"notices: one gives up at one bell", notified_in_time, QOLB_TICKET, 3, AT_ONE_BELL},
-    {"notices: one gives up and asks again", notified_in_time_and_again, QOLB_TICKET, 2, EACH_ITS_BELL},
-    {"notices: one takes back at once", one_takes_back, QOLB_TICKET, 2, EACH_ITS_BELL},
-    {"notices: one shuts", one_notified_shuts, QOLB_TICKET, 3, EACH_ITS_BELL},
-    {"notices: one beside threads", one_notified_beside_threads, QOLB_TICKET, 3, EACH_ITS_BELL},
-    {"notices: each wants two calls", wants_two_calls, QOLB_TICKET, 2, EACH_ITS_BELL},
-    {"notices: calls have turns", has_turn_in_call, QOLB_TICKET, 3, EACH_ITS_BELL},
-    {"notices: calls have turns, at one bell", has_turn_in_call, QOLB_TICKET, 3, AT_ONE_BELL},
-    {"notices: one takes back under a lock", takes_back_under_a_lock, QOLB_TICKET, 3, EACH_ITS_BELL},
-    {"notices: one closes with a wish", closes_with_a_wish, QOLB_TICKET, 3, EACH_ITS_BELL},
-    {NULL, NULL, 0, 0, EACH_ITS_BELL},
+    {"nodes: three acquire", acquires_once, QOLB_TICKET, 3},
+    {"nodes: three acquire, who link", acquires_once, QOLB_LINK, 3},
+    {"nodes: two acquire twice", acquires_twice, QOLB_TICKET, 2},
+    {"nodes: two acquire twice, and link", acquires_twice, QOLB_LINK, 2},
+    {"nodes: two are late", acquires_in_time, QOLB_TICKET, 3},
+    {"nodes: one is late and comes again", acquires_in_time_and_again, QOLB_TICKET, 2},
+    {"nodes: one looks on", one_looks_on, QOLB_TICKET, 3},
+    {"nodes: one withdraws", one_withdraws, QOLB_TICKET, 3},
+    {"nodes: one shuts", one_shuts, QOLB_TICKET, 3},
+    {"nodes: one shuts, and one looks on", one_shuts_and_one_looks_on, QOLB_TICKET, 3},
+    {"nodes: all close", all_close, QOLB_TICKET, 3},
+    {"nodes: one holds two lines", one_holds_two_lines, QOLB_TICKET, 3, 1},
+    {"callbacks: three", notified, QOLB_TICKET, 3},
+    {"callbacks: three, who link", notified, QOLB_LINK, 3},
+    {"callbacks: two twice", notified_twice, QOLB_TICKET, 2},
+    {"callbacks: one gives up", notified_in_time, QOLB_TICKET, 3},
+    {"callbacks: one gives up and asks again", notified_in_time_and_again, QOLB_TICKET, 2},
+    {"callbacks: one takes back at once", one_takes_back, QOLB_TICKET, 2},
+    {"callbacks: one shuts", one_notified_shuts, QOLB_TICKET, 3},
+    {"callbacks: one beside threads", one_notified_beside_threads, QOLB_TICKET, 3},
+    {"callbacks: each wants two calls", wants_two_calls, QOLB_TICKET, 2},
+    {"callbacks: calls have turns", has_turn_in_call, QOLB_TICKET, 3},
+    {"callbacks: one takes back under a lock", takes_back_under_a_lock, QOLB_TICKET, 3},
+    {"callbacks: one closes with a wish", closes_with_a_wish, QOLB_TICKET, 3},
+    {"callbacks: one closes a line in a call", closes_a_line_in_a_call, QOLB_TICKET, 3, 1},
+    {NULL, NULL, 0, 0},
 };
 
 /* Before each run all is as at the start of the program. */
 void set_up(const struct scene *scene) {
     static const qolb_bytes zeros;
     qolb_node nodes[THREADS] = {{0}}, more[2] = {{0}};
-    memset(qolb_bells_, 0, sizeof qolb_bells_), memset(&it, 0, sizeof it);
-    model_bells = scene->bells == TWO_LINES ? 3 : scene->bells == AT_ONE_BELL ? 1 : BELLS;
+    memset(&it, 0, sizeof it);
     MUST(qolb_open(scene->kind, 0, (uint64_t)scene->threads, QOLB_NO_LEASE, &zeros, nodes, THREADS) == QOLB_DONE);
     for (int k = 0; k < scene->threads; k++) it.of[k].node = nodes[k];
-    if (scene->bells != TWO_LINES) return;
+    it.line = node_of(&nodes[0])->line;
+    if (!scene->two_lines) return;
     MUST(qolb_open(scene->kind, 0, 2, QOLB_NO_LEASE, &zeros, more, 2) == QOLB_DONE);
     for (int k = 0; k < 2; k++) it.other[k].node = more[k];
-    MUST(bell_at(&more[0], PLACE_WORDS) == bell_at(&nodes[0], PLACE_WORDS));
+    it.other_line = node_of(&more[0])->line;
 }
 
-__attribute__((no_sanitize("thread"))) static void check_bells(void) {
-    for (unsigned k = 0; k < BELLS; k++) {
-        struct bell *bell = &qolb_bells_[k];
-        MUST(!bell->first && !bell->running && !bell->in_line && !bell->sleepers && !bell->guard);
+/* A line that is open has nobody who waits, and one whose nodes are closed is freed. */
+__attribute__((no_sanitize("thread"))) static void check_line(struct line *line, int is_open) {
+    struct callbacks *of = &line->callbacks;
+    if (!is_open) {
+        MUST(was_freed(line));
+        return;
     }
+    MUST(!of->first && !of->running && !of->waiting && !of->guard);
+    for (uint64_t k = 0; k < places_for(line->nodes); k++) MUST(!place_at(line, k * LAYOUT_PLACE_WORDS)->sleepers);
 }
 
 /* All threads have ended. */
@@ -337,17 +390,14 @@ void check_end(const struct scene *scene) {
     static const struct {
         void (*does)(int);
         int turns;
-    } each[] = {{acquires_once, 1},
-                {acquires_twice, 2},
-                {notified, 1},
-                {notified_twice, 2},
-                {one_notified_beside_threads, 1},
-                {wants_two_calls, 1},
-                {has_turn_in_call, 1}};
+    } each[] = {{acquires_once, 1},   {acquires_twice, 2},  {all_close, 1},
+                {notified, 1},        {notified_twice, 2},  {one_notified_beside_threads, 1},
+                {wants_two_calls, 1}, {has_turn_in_call, 1}};
     for (size_t k = 0; k < sizeof each / sizeof each[0]; k++)
         MUST(scene->does != each[k].does || it.turns == each[k].turns * scene->threads);
     for (int k = 0; k < THREADS; k++) MUST(it.told[k].calls == 0 || scene->does == takes_back_under_a_lock);
-    check_bells();
+    check_line(it.line, it.of[0].node.own != NULL);
+    if (scene->two_lines) check_line(it.other_line, it.other[0].node.own != NULL);
     MUST(it.inside == 0);
 }
 

@@ -38,7 +38,7 @@ static uint32_t task_waits(int k, uint64_t time) {
     uint32_t got = QOLB_WAITING;
     while (got == QOLB_WAITING) {
         while (!is_told(k, time))
-            if (time != FOR_EVER) return task_gives_up(k), QOLB_LATE;
+            if (time != FOR_EVER) return task_gives_up(k), QOLB_TIMEDOUT;
         atomic_store(&it.told[k].word, 0);
         got = qolb_task_poll(&it.task[k]);
     }
@@ -204,7 +204,7 @@ static void frees_if_last_task(int self) {
     int last = --it.users == 0;
     MUST(qolb_task_leave(&it.task[self]) == QOLB_DONE);
     if (!last) return;
-    MUST(qolb_lock_close(it.lock) == QOLB_DONE);
+    MUST(qolb_lock_destroy(it.lock) == QOLB_DONE);
     free_lock();
 }
 
@@ -227,7 +227,7 @@ void one_frees_beside_a_task(int self) {
     MUST(qolb_lock_enter(it.lock) == QOLB_GRANTED);
     while (!atomic_fetch_add(&it.over, 0)) sched_yield();
     leave();
-    while (qolb_lock_close(it.lock) != QOLB_DONE) sched_yield();
+    while (qolb_lock_destroy(it.lock) != QOLB_DONE) sched_yield();
     free_lock();
 }
 
@@ -260,8 +260,8 @@ void a_task_polls_early(int self) {
 void one_closes_beside_a_task(int self) {
     if (self == 2) {
         while (!atomic_fetch_add(&it.over, 0)) sched_yield();
-        uint32_t got = qolb_lock_close(it.lock);
-        MUST(got == QOLB_DONE || got == QOLB_MISUSE);
+        uint32_t got = qolb_lock_destroy(it.lock);
+        MUST(got == QOLB_DONE || got == QOLB_BUSY);
     } else if (self == 1) {
         while (qolb_lock_try(it.lock) != QOLB_BUSY) leave(), sched_yield();
         uint32_t got = task_asks(1);
@@ -282,7 +282,7 @@ void closes_while_both_wait(int self) {
     if (self == 1) return by_task(self);
     begins_call();
     MUST(qolb_lock_enter(it.lock) == QOLB_GRANTED);
-    if (self == 0) MUST(qolb_lock_close(it.lock) == QOLB_MISUSE);
+    if (self == 0) MUST(qolb_lock_destroy(it.lock) == QOLB_BUSY);
     turn();
     leave();
 }
@@ -314,7 +314,7 @@ void a_task_comes_to_a_younger_lock(int self) {
         return task_turn(2);
     }
     enters(self);
-    while (!had_turns(2) || qolb_lock_close(it.lock) != QOLB_DONE) sched_yield();
+    while (!had_turns(2) || qolb_lock_destroy(it.lock) != QOLB_DONE) sched_yield();
     MUST(qolb_lock_enter(it.lock) == QOLB_GRANTED);
     atomic_store(&it.over, 1);
     while (atomic_fetch_add(&it.over, 0) < 2) sched_yield();
@@ -561,7 +561,7 @@ void two_tasks_behind_one_that_is_late(int self) {
     if (self == 0) return leave();
     if (self == 1) {
         time_goes_on(MS / 2);
-        MUST(qolb_lock_enter_within(it.lock, MS) == QOLB_LATE);
+        MUST(qolb_lock_enter_within(it.lock, MS) == QOLB_TIMEDOUT);
         atomic_store(&it.over, 2);
         return;
     }

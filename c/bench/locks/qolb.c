@@ -39,7 +39,7 @@ static void leave(void *lock, void *own) {
 
 static void close_lock(void *lock, void *const *own, int threads) {
     (void)own, (void)threads;
-    if (qolb_lock_close(lock) != QOLB_DONE) abort();
+    if (qolb_lock_destroy(lock) != QOLB_DONE) abort();
 }
 
 #ifndef WITHOUT_NODES
@@ -81,7 +81,7 @@ static uint64_t add(void *lock, void *node) {
 static void close_nodes(void *lock, void *const *own, int threads) {
     (void)lock;
     for (int k = 0; k < threads; k++)
-        if (qolb_close(own[k]) != QOLB_DONE) abort();
+        if (qolb_node_free(own[k]) != QOLB_DONE) abort();
 }
 #endif
 

@@ -30,7 +30,7 @@ int main(void) {
     }
     if (qolb_acquire(&node[0]) != QOLB_GRANTED || qolb_read_lane(&node[0], 0, &count) != QOLB_DONE) return 1;
     qolb_deqolb(&node[0]);
-    for (int k = 0; k < THREADS; k++) qolb_close(&node[k]);
+    for (int k = 0; k < THREADS; k++) qolb_node_free(&node[k]);
     printf("%llu\n", (unsigned long long)count);
     return 0;
 }

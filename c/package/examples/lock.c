@@ -38,5 +38,5 @@ int main(void) {
     }
     if (pthread_join(waiter, &wrong) || wrong) return 1;
     printf("%ld\n", count);
-    return qolb_lock_close(&lock) == QOLB_DONE ? 0 : 1;
+    return qolb_lock_destroy(&lock) == QOLB_DONE ? 0 : 1;
 }

@@ -1,4 +1,4 @@
-// Threads that come and go add to a count that a lock guards, and to a table that has a lock with bursts.
+// Threads that come and go add to a count that a lock guards, and to a table that has a barging lock.
 #include <cstdio>
 #include <map>
 #include <mutex>
@@ -7,7 +7,7 @@
 #include <vector>
 
 static qolb::lock lock;
-static qolb::guarded<std::map<int, long>> visits({}, qolb::burst{1024});
+static qolb::guarded<std::map<int, long>> visits({}, qolb::barging{1024});
 
 int main() {
     long count = 0;

@@ -1,5 +1,5 @@
 /* A queue of at most eight jobs, under a lock with two conditions. Who takes a job looks up each millisecond. At the
- * end the lock is shut, which ends all waits. The lock has bursts, as processors may be few: a strict one waits at
+ * end the lock is shut, which ends all waits. The lock is barging, as processors may be few: a strict one waits at
  * each turn until the next thread runs. Prints 4000. */
 #include <pthread.h>
 #include <qolb.h>
@@ -14,7 +14,7 @@ static struct {
     qolb_cond some, room; /* signalled for a job that was put, and for one that was taken */
     long jobs[ROOM];
     unsigned first, count;
-} queue = {QOLB_LOCK_INIT_BURSTS(1024), QOLB_COND_INIT, QOLB_COND_INIT, {0}, 0, 0};
+} queue = {QOLB_LOCK_INIT_BARGING(1024), QOLB_COND_INIT, QOLB_COND_INIT, {0}, 0, 0};
 
 /* Puts a job, and waits while there is no room. */
 static void put(long job) {
@@ -32,7 +32,7 @@ static long take(void) {
     while (queue.count == 0) {
         uint32_t got = qolb_cond_wait_within(&queue.some, &queue.lock, LOOK_UP);
         if (got == QOLB_CLOSED) return 0;  /* the lock is not held */
-        if (got != QOLB_GRANTED) continue; /* QOLB_LATE: it is held again */
+        if (got != QOLB_GRANTED) continue; /* QOLB_TIMEDOUT: it is held again */
     }
     long job = queue.jobs[queue.first];
     queue.first = (queue.first + 1) % ROOM;

@@ -1,5 +1,5 @@
 // A queue of at most eight jobs, under a lock with two conditions. Who takes a job looks up each millisecond. At the
-// end the lock is shut, which ends all waits. The lock has bursts, as processors may be few: a strict one waits at
+// end the lock is shut, which ends all waits. The lock is barging, as processors may be few: a strict one waits at
 // each turn until the next thread runs. Prints 4000.
 #include <chrono>
 #include <cstdio>
@@ -38,7 +38,7 @@ class Queue {
     }
 
   private:
-    qolb::lock lock_{qolb::burst{1024}};
+    qolb::lock lock_{qolb::barging{1024}};
     qolb::Condition some_, room_; // signalled for a job that was put, and for one that was taken
     std::deque<long> jobs_;
 };

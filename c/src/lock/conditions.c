@@ -2,9 +2,9 @@
  *
  * A waiter is in two lists, by an entry on its stack: that of the condition, under a guard, from whose front a signal
  * takes one; and that of the lock, under the lock itself, by which a shut tells all. It sleeps on a word of its entry,
- * which is set once. It is a guest of the lock from before it leaves until it has a ticket again: so the lock is not
- * closed meanwhile. Who is told of a shut asks, too, and is answered CLOSED at its turn: the shut is over by then. */
-#include "lock.h"
+ * which is set once. It is counted as a thread without a ticket from before it leaves the lock until it has one again: so the
+ * lock is not destroyed meanwhile. Who is told of a shut asks, too, and is answered CLOSED at its turn: the shut is over by then. */
+#include "entries.h"
 
 enum { NOTHING, SIGNALLED, SHUT };
 
@@ -23,19 +23,21 @@ static void stand_at(qolb_cond *cond, struct lock *lock, struct waiter *me) {
     *me = (struct waiter){.beside = lock->waits, .before = &lock->waits};
     if (me->beside) me->beside->before = &me->beside;
     lock->waits = me;
-    atomic_uint *guard = qolb_guard_(cond);
+    INVARIANT(*me->before == me && atomic_load(&me->told) == NOTHING);
+    atomic_uint *guard = guard_at((uintptr_t)cond);
     put_last(waiters_of(cond), &me->link);
     return_guard(guard);
 }
 
 /* Removes itself from the condition's list; false if it had been taken out. */
 static int stand_no_more(qolb_cond *cond, struct waiter *me) {
-    atomic_uint *guard = qolb_guard_(cond);
+    atomic_uint *guard = guard_at((uintptr_t)cond);
     int stood = me->link.next != NULL;
     if (stood) {
         struct link *it = &me->link;
         while (it->next != &me->link) it = it->next;
         take_behind(waiters_of(cond), it);
+        me->link.next = NULL;
     }
     return_guard(guard);
     return stood;
@@ -69,37 +71,41 @@ uint32_t qolb_cond_wait_at_(qolb_cond *cond, struct lock *lock, struct turn *at,
     struct limit limit = from_now(nanoseconds); /* leaving may make calls of tasks */
     struct waiter me;
     stand_at(cond, lock, &me);
-    atomic_fetch_add(&lock->guests, 1);
+    atomic_fetch_add(&lock->without_ticket, 1);
     qolb_leave_at_(lock, at);
     int stood = await_word(&me, &limit) != SIGNALLED && stand_no_more(cond, &me);
+    INVARIANT(!me.link.next);
     uint32_t got = qolb_enter_at_(lock, at, FOR_EVER, 1);
     if (got != QOLB_GRANTED) return got;
+    INVARIANT(*me.before == &me);
     stand_no_more_in(&me);
-    return stood ? (uint32_t)QOLB_LATE : got;
+    return stood ? (uint32_t)QOLB_TIMEDOUT : got;
 }
 
-uint32_t qolb_cond_wait_within(qolb_cond *cond, qolb_lock *of, uint64_t nanoseconds) {
+enum qolb_result qolb_cond_wait_within(qolb_cond *cond, qolb_lock *of, uint64_t nanoseconds) {
     struct lock *lock = lock_of(of);
     struct turn beyond, *at = qolb_take_turn_(lock, &beyond);
     if (!at) return QOLB_MISUSE;
     struct turn turn = *at; /* not in the table: a call of a task may enter other locks */
     at->ticket = (struct qolb_ticket){0};
     uint32_t got = qolb_cond_wait_at_(cond, lock, &turn, nanoseconds);
-    if (got != QOLB_GRANTED && got != QOLB_LATE) return got;
+    if (got != QOLB_GRANTED && got != QOLB_TIMEDOUT) return got;
     at = qolb_place_for_(lock, &beyond);
     at->ticket = turn.ticket;
     qolb_keep_turn_(lock, at, &beyond);
     return got;
 }
 
-uint32_t qolb_cond_wait(qolb_cond *cond, qolb_lock *lock) { return qolb_cond_wait_within(cond, lock, FOR_EVER); }
+enum qolb_result qolb_cond_wait(qolb_cond *cond, qolb_lock *lock) {
+    return qolb_cond_wait_within(cond, lock, FOR_EVER);
+}
 
 /* ---- Telling ---- */
 
 static uint32_t signal_some(qolb_cond *cond, int all) {
     struct link **list = waiters_of(cond);
     if (!last_of(list)) return QOLB_DONE;
-    atomic_uint *guard = qolb_guard_(cond);
+    atomic_uint *guard = guard_at((uintptr_t)cond);
     for (int told = 0; last_of(list) && (all || !told);) {
         struct waiter *first = (struct waiter *)take_behind(list, last_of(list));
         first->link.next = NULL;
@@ -109,9 +115,9 @@ static uint32_t signal_some(qolb_cond *cond, int all) {
     return QOLB_DONE;
 }
 
-uint32_t qolb_cond_signal(qolb_cond *cond) { return signal_some(cond, 0); }
+enum qolb_result qolb_cond_signal(qolb_cond *cond) { return signal_some(cond, 0); }
 
-uint32_t qolb_cond_broadcast(qolb_cond *cond) { return signal_some(cond, 1); }
+enum qolb_result qolb_cond_broadcast(qolb_cond *cond) { return signal_some(cond, 1); }
 
 /* From here on the holder does nothing but shut the lock. Who is told asks behind it, and stays in the list until it is
  * answered. */

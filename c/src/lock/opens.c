@@ -4,8 +4,8 @@
  * writes AWAITED and sleeps at that value; who has opened wakes if it found that. So the lock is opened once, and
  * nobody waits for it without a sleep.
  *
- * The core's blocks, its words, its slots and what refers to them, are bytes of the lock: the proved part asks for
- * memory by gaps.c, and gets these (qolb_core_room_). So opening can't fail, and nothing has to be freed. */
+ * The core's blocks are bytes of the lock: the proved part asks for memory by heap.c, and gets these one after another.
+ * So opening can't fail, and nothing has to be freed. */
 #include "lock.h"
 
 /* By who has written OPENING. */
@@ -15,11 +15,14 @@ static void open_core(struct lock *lock) {
     lock->label = atomic_fetch_add(&labels, 1) + 1;
     lock->waits = NULL;
     atomic_store_explicit(&lock->beyond_by, 0, memory_order_relaxed);
-    atomic_init(&lock->guests, 0);
-    qolb_core_room_ = (struct core_room){words_of(lock), spare_of(lock, SLOTS), lock->block};
-    (void)qolb_core_open_proved_(burst_of(lock), lock->label, &core);
-    if (core.at != lock->block) __builtin_trap();
-    qolb_core_room_ = (struct core_room){NULL, NULL, NULL};
+    atomic_init(&lock->without_ticket, 0);
+    struct core_arena arena = {{words_of(lock), spare_of(lock, SLOTS), lock->block}, 0};
+    qolb_core_arena_ = &arena;
+    uint64_t limit = lock->limit < LAYOUT_MAX_BURST ? lock->limit : LAYOUT_MAX_BURST;
+    (void)qolb_core_open_proved_(limit, lock->label, &core);
+    qolb_core_arena_ = NULL;
+    if (core.at != lock->block || arena.taken != CORE_BLOCKS) __builtin_trap();
+    INVARIANT(!lock_word_of(lock) && !tail_word(lock) && !rounds_to_go(lock, 0));
     uintptr_t was = (uintptr_t)__atomic_exchange_n(&lock->core.at, core.at, __ATOMIC_SEQ_CST);
     if (was == AWAITED) qolb_unpark_((uint32_t *)&lock->core.at, 1);
 }
@@ -37,10 +40,10 @@ void qolb_open_(struct lock *lock) {
     }
 }
 
-uint32_t qolb_lock_open(qolb_lock *of, uint64_t turns) {
+enum qolb_result qolb_lock_open(qolb_lock *of, uint64_t limit) {
     struct lock *lock = lock_of(of);
     if (!claims(lock, 0, OPENING)) return QOLB_OCCUPIED;
-    lock->turns = turns;
+    lock->limit = limit;
     open_core(lock);
     return QOLB_DONE;
 }

@@ -1,59 +1,145 @@
 /* Tasks at a lock: who enters it without a thread that waits (qolb_task(3)). Tested and explored, not proved.
  *
- * A task draws a ticket as a thread does. While it waits the registry has its ticket. Who grants that, or leaves the
- * outer word, makes it due, and then its call (../notify.c). From there on the turn is the task's: its poll looks
- * whether the lock is open, and passes on what is not to be kept; so a shut is told to one after another. The entry is
- * allocated before the ticket is drawn: so no call but the first can fail for want of memory.
+ * A task draws a ticket as a thread does. While it waits, an entry has its ticket (entries.h). The thread that grants
+ * that, or leaves the lock word, makes the task due, and then its call (../callbacks.c). From there on the turn is the
+ * task's: its poll looks whether the lock is open, and passes on what is not to be kept; so a shut is told to one after
+ * another. The entry is allocated before the ticket is drawn: so no call but the first can fail for want of memory.
  *
- * Where calls of tasks are made, in passing on and in leaving, they come last, and may use any task and lock: so
- * everything is as it will be when they begin. */
-#include "lock.h"
-#include <stdlib.h>
+ * A task at its turn of the queue of a barging lock is the queue head, and watches nothing. If the lock word is held,
+ * its entry goes to the list of heads, and then requests the handoff, so that no barging thread follows the holder, and
+ * announces the head's sleep. The leaving thread is told of that, looks there, and takes the word for the task.
+ *
+ * The tasks of a lock have one guard. No call of a task is made under it: calls come last in passing on and in leaving,
+ * and may use any task and lock; so everything is as it will be when they begin. */
+#include "entries.h"
 
-/* The number of notices in lists: nobody looks at it. */
-static atomic_uint due;
+struct entries qolb_tasks_;
 
-/* No node waits at this word: notices of tasks are in lists of their own. */
-#define NO_WORD UINT32_MAX
+/* The key of a task's callback. */
+#ifndef EXPLORED
+#define KEY_OF(task) ((uintptr_t)(task))
+#endif
 
 static struct task *task_of(qolb_task *task) { return (struct task *)task; }
+
+static struct link **list_for(const struct entry *e) { return list_of(&qolb_tasks_, (uintptr_t)e->lock, e->number); }
+
+/* Takes the entry out of its list, and its sleep back: the ticket, which WAITS or is AT_TURN. */
+static struct qolb_ticket ticket_out(struct entry *e) {
+    take_out(&qolb_tasks_, list_for(e), find_before(list_for(e), (uintptr_t)e->lock, e->number));
+    return e->number == HEAD ? kept_ticket(e->lock, e->task->number, QOLB_TICKET_AT_TURN_) : retracted(e);
+}
+
+/* ---- A task's turn ---- */
+
+/* Of a task's ticket at its turn of the queue, whose entry is out: whether it waits on as the queue head, as it can't
+ * take the lock word. */
+static int waits_on(struct entry *e, struct qolb_ticket *ticket) {
+    const struct qolb_core *core = &e->lock->core;
+    INVARIANT(ticket->state == QOLB_TICKET_AT_TURN_ && e->task);
+    if (!is_barging(e->lock) || qolb_core_take_outer_proved_(core, ticket) != QOLB_WAITING) return 0;
+    e->number = HEAD;
+    GHOST(hook_is_head(ticket));
+    put_in(&qolb_tasks_, list_for(e), e);
+    do {
+        if (qolb_core_request_handoff_proved_(core, ticket) == QOLB_DONE &&
+            qolb_core_announce_head_sleep_proved_(core, ticket) == QOLB_ASLEEP_)
+            return 1;
+    } while (qolb_core_take_outer_proved_(core, ticket) == QOLB_WAITING);
+    take_out(&qolb_tasks_, list_for(e), find_before(list_for(e), (uintptr_t)e->lock, e->number));
+    return 0;
+}
+
+/* The task of an entry that is out is due: the key of its call. Once the guard is returned the task may no longer
+ * exist. */
+static uint64_t make_due(struct entry *e, const struct qolb_ticket *ticket) {
+    struct task *task = e->task;
+    uint64_t key = task->callback.key;
+    INVARIANT(atomic_load(&task->state) == WAITS && task->entry == e);
+    task->entry = NULL;
+    task->turn = ticket->state;
+    atomic_store(&task->state, DUE);
+    qolb_list_(callbacks_of_task(key), &task->callback);
+    return key;
+}
+
+enum found qolb_find_task_(const struct released *it, uint64_t number, struct granted *out) {
+    struct link **list = list_of(&qolb_tasks_, it->lock, number);
+    struct entry *gone = NULL;
+    enum found found = NOBODY;
+    if (!last_of(list)) return NOBODY;
+    atomic_uint *guard = guard_at(it->lock);
+    struct link *before = find_before(list, it->lock, number);
+    if (before && ((struct entry *)before->next)->lock->label == it->label) {
+        struct entry *e = (struct entry *)before->next;
+        *out = (struct granted){.lock = e->lock, .ticket = ticket_out(e)};
+        found = e->task ? A_TASK : GIVEN_UP;
+        if (found == GIVEN_UP || !waits_on(e, &out->ticket)) gone = e;
+        if (found == A_TASK && gone) out->key = make_due(e, &out->ticket);
+    }
+    return_guard(guard);
+    qolb_free_entry_(gone);
+    return found;
+}
 
 /* ---- Entering ---- */
 
 static void hold(struct task *me, const struct turn *at) {
+    INVARIANT(is_strict_turn(at) || is_inside(at));
     me->turn = at->ticket.state;
     me->number = at->ticket.number;
     me->entry = NULL;
     atomic_store(&me->state, HOLDS);
 }
 
-/* The task's turn, which is due: GRANTED or CLOSED. */
+/* The task's turn, which is due: GRANTED or CLOSED. A task that is told CLOSED is idle before it passes its turn on: the
+ * call of another task may enter with it. */
 static uint32_t settle(struct task *me) {
     struct lock *lock = me->lock;
     struct turn at = {.ticket = kept_ticket(lock, me->number, me->turn)};
     uint32_t got = at.ticket.state == QOLB_TICKET_HEAD_INSIDE_SHUT_ ? QOLB_CLOSED : QOLB_GRANTED;
     if (at.ticket.state == QOLB_TICKET_AT_TURN_) got = qolb_core_check_open_proved_(&lock->core, &at.ticket);
     if (got != QOLB_GRANTED) atomic_store(&me->state, IDLE);
-    qolb_settle_(lock, &at, got);
+    qolb_settle_(lock, &at);
     if (got == QOLB_GRANTED) hold(me, &at);
     return got;
 }
 
-/* Draws a ticket, and registers it: WAITING, and the task may no longer exist; GRANTED or CLOSED; NO_MEMORY. */
-static uint32_t stand_for_turn(struct task *me, struct qolb_ticket *ticket) {
+/* Has the entry in its list, unless the ticket is at its turn: WAITING, and the task will be due, if it is not already,
+ * and may no longer exist; or GRANTED: at its turn, in a barging lock in by the lock word. */
+static uint32_t stand_for(struct entry *e, struct qolb_ticket *ticket) {
+    uint32_t got = QOLB_GRANTED;
+    e->number = ticket->number;
+    atomic_uint *guard = guard_at((uintptr_t)e->lock);
+    if (ticket->state == QOLB_TICKET_WAITING_) got = stand(&qolb_tasks_, list_for(e), e, ticket);
+    while (got == QOLB_FULL_) { /* 65,535 threads sleep at its cell */
+        return_guard(guard);
+        nap(FOR_EVER);
+        take_guard(guard);
+        got = stand(&qolb_tasks_, list_for(e), e, ticket);
+    }
+    if (got == QOLB_GRANTED && waits_on(e, ticket)) got = QOLB_ASLEEP_;
+    return_guard(guard);
+    if (got == QOLB_ASLEEP_) return QOLB_WAITING;
+    qolb_free_entry_(e);
+    return QOLB_GRANTED;
+}
+
+/* Draws a ticket, and stands for its turn: WAITING, and the task may no longer exist; GRANTED or CLOSED; NO_MEMORY. */
+static uint32_t draw_and_stand(struct task *me, struct qolb_ticket *ticket) {
     struct entry *e = has_room(me->lock) ? qolb_new_entry_(me->lock, me) : NULL;
     if (!e) return QOLB_NO_MEMORY;
     me->entry = e;
     atomic_store(&me->state, WAITS);
-    qolb_tell_release_(&me->notice); /* another thread may list it */
+    qolb_tell_release_(&me->callback); /* another thread may list it */
     qolb_core_ask_proved_(&me->lock->core, ticket);
     me->number = ticket->number;
-    if (qolb_stand_for_(e, ticket) == QOLB_WAITING) return QOLB_WAITING;
+    if (stand_for(e, ticket) == QOLB_WAITING) return QOLB_WAITING;
     me->turn = ticket->state;
     return settle(me);
 }
 
-uint32_t qolb_task_enter(qolb_task *task, qolb_lock *of, void (*call)(void *), void *arg) {
+enum qolb_result qolb_task_enter(qolb_task *task, qolb_lock *of, void (*call)(void *), void *arg) {
     struct task *me = task_of(task);
     struct lock *lock = lock_of(of);
     if (!call || atomic_load(&me->state) != IDLE) return QOLB_MISUSE;
@@ -63,29 +149,58 @@ uint32_t qolb_task_enter(qolb_task *task, qolb_lock *of, void (*call)(void *), v
     uint32_t got = qolb_try_at_(lock, &at);
     if (got == QOLB_GRANTED) hold(me, &at);
     if (got != QOLB_BUSY) return got;
-    me->notice = (struct notice){.key = (uint64_t)(uintptr_t)me / sizeof *me << 32 | NO_WORD};
-    me->notice.call = call, me->notice.arg = arg, me->notice.in_line = &due;
-    return stand_for_turn(me, &at.ticket);
+    me->callback = (struct callback){.key = KEY_OF(me), .call = call, .arg = arg};
+    return draw_and_stand(me, &at.ticket);
 }
 
-uint32_t qolb_task_enter_fd(qolb_task *task, qolb_lock *lock, int fd) {
-    return fd < 0 ? (uint32_t)QOLB_MISUSE : qolb_task_enter(task, lock, qolb_add_to_descriptor_, (void *)(intptr_t)fd);
+enum qolb_result qolb_task_enter_fd(qolb_task *task, qolb_lock *lock, int fd) {
+    return fd < 0 ? QOLB_MISUSE : qolb_task_enter(task, lock, qolb_add_to_descriptor_, (void *)(intptr_t)fd);
 }
 
-/* The guard is taken, as who makes it due is not done yet once its state says so. */
-uint32_t qolb_task_poll(qolb_task *task) {
+/* ---- Polling, and giving up ---- */
+
+/* Gives up for a task that waits. The ticket of one that is near is FREE afterwards, or AT_TURN, to be passed on, and
+ * the entry is out; of one that is far the entry stays, for a ticket that is given up. */
+static struct qolb_ticket withdraw(struct task *me, struct entry **gone) {
+    struct entry *e = me->entry;
+    me->entry = NULL;
+    if (e->number != HEAD && rounds_to_go(e->lock, e->number) > MOST_ROUNDS_NEAR) {
+        e->task = NULL;
+        GHOST(hook_withdraws());
+        return (struct qolb_ticket){.state = QOLB_TICKET_FREE_};
+    }
+    struct qolb_ticket ticket = ticket_out(e);
+    *gone = e;
+    if (ticket.state == QOLB_TICKET_WAITING_) qolb_core_withdraw_proved_(&e->lock->core, &ticket);
+    return ticket;
+}
+
+/* The state of a task. The guard is taken, as a thread that makes it due is not done once its state says so. With a
+ * ticket, a task that WAITS gives up, and is IDLE: the ticket is FREE, or AT_TURN. */
+static unsigned state_of(struct task *me, struct qolb_ticket *withdrawn) {
+    struct entry *gone = NULL;
+    atomic_uint *guard = guard_at((uintptr_t)me->lock);
+    unsigned state = atomic_load(&me->state);
+    if (withdrawn && state == WAITS) {
+        atomic_store(&me->state, IDLE);
+        *withdrawn = withdraw(me, &gone);
+    }
+    return_guard(guard);
+    qolb_free_entry_(gone);
+    return state;
+}
+
+enum qolb_result qolb_task_poll(qolb_task *task) {
     struct task *me = task_of(task);
-    unsigned state = qolb_state_of_(me, NULL);
+    unsigned state = state_of(me, NULL);
     if (state == WAITS) return QOLB_WAITING;
     if (state != DUE) return QOLB_MISUSE;
-    qolb_unlist_(&me->notice);
+    qolb_unlist_(callbacks_of_task(me->callback.key), &me->callback);
     return settle(me);
 }
 
-/* ---- Giving up ---- */
-
 /* The task may look at the lock while it waits or has a turn there. */
-uint32_t qolb_task_cancel(qolb_task *task) {
+enum qolb_result qolb_task_cancel(qolb_task *task) {
     struct task *me = task_of(task);
     unsigned state = atomic_load(&me->state);
     if (state == IDLE) return QOLB_DONE;
@@ -93,10 +208,10 @@ uint32_t qolb_task_cancel(qolb_task *task) {
     struct lock *lock = me->lock;
     struct turn at = {0};
     uint32_t told = closed_or(QOLB_WITHDRAWN, lock);
-    state = qolb_state_of_(me, &at.ticket);
-    qolb_unlist_(&me->notice);
+    state = state_of(me, &at.ticket);
+    qolb_unlist_(callbacks_of_task(me->callback.key), &me->callback);
     if (state == WAITS) {
-        if (at.ticket.state == QOLB_TICKET_AT_TURN_) qolb_pass_on_(lock, &at);
+        qolb_settle_(lock, &at);
         return told;
     }
     if (settle(me) == QOLB_CLOSED) return QOLB_CLOSED;
@@ -108,7 +223,7 @@ uint32_t qolb_task_cancel(qolb_task *task) {
 
 int qolb_task_holds(const qolb_task *task) { return atomic_load(&((const struct task *)task)->state) == HOLDS; }
 
-static uint32_t leave(struct task *me, int shuts) {
+static enum qolb_result leave(struct task *me, int shuts) {
     struct lock *lock = me->lock;
     if (atomic_load(&me->state) != HOLDS) return QOLB_MISUSE;
     struct turn at = {.ticket = kept_ticket(lock, me->number, me->turn)};
@@ -118,6 +233,6 @@ static uint32_t leave(struct task *me, int shuts) {
     return QOLB_DONE;
 }
 
-uint32_t qolb_task_leave(qolb_task *task) { return leave(task_of(task), 0); }
+enum qolb_result qolb_task_leave(qolb_task *task) { return leave(task_of(task), 0); }
 
-uint32_t qolb_task_shut(qolb_task *task) { return leave(task_of(task), 1); }
+enum qolb_result qolb_task_shut(qolb_task *task) { return leave(task_of(task), 1); }

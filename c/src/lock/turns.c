@@ -18,14 +18,13 @@ static int says_held(const struct turn *at, const struct lock *lock) {
 }
 
 static struct turn *find(const struct lock *lock) {
-    for (struct turn *at = this_thread()->table; at < this_thread()->table + MOST_HELD; at++)
+    for (struct turn *at = THIS_THREAD->table; at < THIS_THREAD->table + MOST_HELD; at++)
         if (says_held(at, lock) && at->ticket.label == lock->label) return at;
     return NULL;
 }
 
 static int holds_beyond(const struct lock *lock) {
-    return this_thread()->number &&
-           atomic_load_explicit(&lock->beyond_by, memory_order_relaxed) == this_thread()->number;
+    return THIS_THREAD->number && atomic_load_explicit(&lock->beyond_by, memory_order_relaxed) == THIS_THREAD->number;
 }
 
 int qolb_holds_(const struct lock *lock) { return find(lock) || holds_beyond(lock); }
@@ -35,11 +34,12 @@ int qolb_lock_is_mine(const qolb_lock *lock) { return qolb_holds_(lock_of(lock))
 struct turn *qolb_take_turn_(struct lock *lock, struct turn *beyond) {
     struct turn *at = find(lock);
     if (at) {
+        INVARIANT(is_strict_turn(at) || is_inside(at));
         at->core -= HELD - LAST;
         return at;
     }
     if (!holds_beyond(lock)) return NULL;
-    uint32_t state = has_bursts(lock) ? QOLB_TICKET_INSIDE_ : QOLB_TICKET_SERVED_;
+    uint32_t state = is_barging(lock) ? QOLB_TICKET_INSIDE_ : QOLB_TICKET_SERVED_;
     *beyond = (struct turn){.ticket = kept_ticket(lock, *spare_of(lock, KEPT_NUMBER), state)};
     atomic_store_explicit(&lock->beyond_by, 0, memory_order_relaxed);
     return beyond;
@@ -47,7 +47,7 @@ struct turn *qolb_take_turn_(struct lock *lock, struct turn *beyond) {
 
 uint64_t qolb_draw_number_(void) {
     static _Atomic uint64_t threads;
-    return this_thread()->number = atomic_fetch_add(&threads, 1) + 1;
+    return THIS_THREAD->number = atomic_fetch_add(&threads, 1) + 1;
 }
 
 /* A place that says that the thread holds a lock which lay at this address before is free. One whose ticket is in use
@@ -58,14 +58,19 @@ static int is_free(const struct turn *at, const struct lock *lock) {
 
 struct turn *qolb_place_for_(const struct lock *lock, struct turn *beyond) {
     struct turn *at = home_of(lock);
-    for (int k = 0; k < MOST_HELD && !is_free(at, lock); k++) at = &this_thread()->table[k];
-    if (!is_free(at, lock)) return *beyond = (struct turn){0}, beyond;
+    for (int k = 0; k < MOST_HELD && !is_free(at, lock); k++) at = &THIS_THREAD->table[k];
+    if (!is_free(at, lock)) {
+        *beyond = (struct turn){0};
+        return beyond;
+    }
     if (has(at, HELD)) at->ticket = (struct qolb_ticket){0};
     at->core = own_of(lock) + LAST;
+    INVARIANT(at->ticket.state == QOLB_TICKET_FREE_);
     return at;
 }
 
 void qolb_keep_turn_(struct lock *lock, struct turn *at, const struct turn *beyond) {
+    INVARIANT(!qolb_holds_(lock));
     if (at == beyond) {
         *spare_of(lock, KEPT_NUMBER) = at->ticket.number;
         atomic_store_explicit(&lock->beyond_by, own_number(), memory_order_relaxed);

@@ -1,4 +1,4 @@
-//! Threads that come and go add to a count, and to a table that a mutex with bursts guards.
+//! Threads that come and go add to a count, and to a table that a barging mutex guards.
 use qolb::{Mutex, Stopped};
 use std::collections::HashMap;
 use std::thread;
@@ -6,7 +6,7 @@ use std::thread;
 static COUNT: Mutex<u64> = Mutex::new(0);
 
 fn main() -> Result<(), Stopped> {
-    let visits = Mutex::with_burst(HashMap::new(), 1024);
+    let visits = Mutex::with_barging(HashMap::new(), 1024);
     for _wave in 0..2 {
         thread::scope(|scope| {
             for page in 0..4 {

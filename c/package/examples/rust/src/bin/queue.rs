@@ -1,11 +1,11 @@
 //! A queue of at most eight jobs, under a mutex with two conditions. Who takes a job looks up each millisecond; at the end the mutex is shut, which ends all waits.
-//! It has bursts, as processors may be few: a strict one waits at each turn until the next thread runs.
+//! It is barging, as processors may be few: a strict one waits at each turn until the next thread runs.
 use qolb::{Condition, Mutex, Stopped};
 use std::collections::VecDeque;
 use std::thread;
 use std::time::Duration;
 
-static JOBS: Mutex<VecDeque<u64>> = Mutex::with_burst(VecDeque::new(), 1024);
+static JOBS: Mutex<VecDeque<u64>> = Mutex::with_barging(VecDeque::new(), 1024);
 /// Signalled for a job that was put, and for one that was taken.
 static SOME: Condition = Condition::new();
 static ROOM: Condition = Condition::new();

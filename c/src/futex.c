@@ -1,7 +1,7 @@
-/* The bells, the clock, and the system calls of sleeping: Linux's futex, for locks by classes. On other systems a
- * sleeper polls again after 200 us (bells.h). Tested, not proved. */
+/* The clock, and the system calls of sleeping: Linux's futex, for locks by classes (futex.h). On other systems a sleeper
+ * polls again after 200 us. Tested, not proved. */
 #define _GNU_SOURCE
-#include "bells.h"
+#include "futex.h"
 #include <errno.h>
 #include <time.h>
 #ifdef __linux__
@@ -10,8 +10,6 @@
 #else
 #include <pthread.h>
 #endif
-
-struct bell qolb_bells_[BELLS];
 
 uint64_t qolb_now_(void) {
     struct timespec time;
@@ -69,8 +67,3 @@ void qolb_park_(uint32_t *half, uint32_t value, uint32_t classes, uint64_t until
 void qolb_unpark_(uint32_t *half, uint32_t classes) { (void)half, (void)classes; }
 
 #endif
-
-void qolb_toll_(struct bell *bell) {
-    atomic_fetch_add(&bell->word, 1);
-    qolb_wake_at_(&bell->word, INT32_MAX);
-}

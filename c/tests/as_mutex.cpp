@@ -1,0 +1,155 @@
+// A program that is written for std::mutex and std::condition_variable, compiled with both and with the library's: a queue
+// of bounded length, a counter that ends by a deadline, an account for each thread under two locks at a time, and a value
+// that is made once. Both programs print the same numbers, which are worked out below.
+#ifdef STD
+#include <condition_variable>
+#include <mutex>
+using Mutex = std::mutex;
+using Cond = std::condition_variable;
+#else
+#include <qolb.hpp>
+using Mutex = qolb::lock;
+using Cond = qolb::Condition;
+#endif
+#include <chrono>
+#include <cstdio>
+#include <deque>
+#include <numeric>
+#include <thread>
+#include <type_traits>
+#include <vector>
+
+using namespace std::chrono_literals;
+
+static_assert(!std::is_copy_constructible<Mutex>::value && !std::is_move_constructible<Mutex>::value, "as std::mutex");
+static_assert(!std::is_copy_constructible<Cond>::value && !std::is_move_constructible<Cond>::value, "as its condition");
+static_assert(std::is_nothrow_default_constructible<Mutex>::value, "as std::mutex");
+
+// ---- A queue of at most eight numbers, of which the last is followed by none ----
+
+class Queue {
+  public:
+    void put(long value) {
+        std::unique_lock<Mutex> held(mutex_);
+        room_.wait(held, [this] { return values_.size() < 8; });
+        values_.push_back(value);
+        held.unlock();
+        some_.notify_one();
+    }
+    bool take(long &value) {
+        std::unique_lock<Mutex> held(mutex_);
+        while (values_.empty() && !ended_) some_.wait(held);
+        if (values_.empty()) return false;
+        value = values_.front();
+        values_.pop_front();
+        room_.notify_one();
+        return true;
+    }
+    void end() {
+        std::lock_guard<Mutex> held(mutex_);
+        ended_ = true;
+        some_.notify_all();
+    }
+
+  private:
+    Mutex mutex_;
+    Cond some_, room_;
+    std::deque<long> values_;
+    bool ended_ = false;
+};
+
+// The sum of 1 to 6,000, by three threads that put and two that take: 18,003,000.
+static long sum_by_queue() {
+    Queue queue;
+    long sums[2] = {0, 0};
+    std::vector<std::thread> takes, puts;
+    for (long &sum : sums)
+        takes.emplace_back([&queue, &sum] {
+            for (long value; queue.take(value);) sum += value;
+        });
+    for (long k = 0; k < 3; k++)
+        puts.emplace_back([&queue, k] {
+            for (long value = 1; value <= 2000; value++) queue.put(k * 2000 + value);
+        });
+    for (std::thread &it : puts) it.join();
+    queue.end();
+    for (std::thread &it : takes) it.join();
+    return std::accumulate(sums, sums + 2, 0L);
+}
+
+// ---- Waits that end in time or not ----
+
+// 7: a wait without a signal times out, by a length and by a point in time, and one with a signal does not.
+static int waits_in_time() {
+    Mutex mutex;
+    Cond cond;
+    bool ready = false;
+    std::unique_lock<Mutex> held(mutex);
+    int found = cond.wait_for(held, 5ms) == std::cv_status::timeout ? 1 : 0;
+    auto end = std::chrono::steady_clock::now() + 5ms;
+    found += cond.wait_until(held, end, [&] { return ready; }) ? 0 : 2;
+    std::thread signals([&] {
+        std::lock_guard<Mutex> lock(mutex);
+        ready = true;
+        cond.notify_all();
+    });
+    found += cond.wait_for(held, 60s, [&] { return ready; }) ? 4 : 0;
+    held.unlock();
+    signals.join();
+    return found;
+}
+
+// ---- Two locks at a time ----
+
+struct Account {
+    Mutex mutex;
+    long coins = 1000;
+};
+
+// What four accounts have when four threads have moved coins to and fro: 4,000.
+static long moves_coins() {
+    Account accounts[4];
+    std::vector<std::thread> threads;
+    for (int k = 0; k < 4; k++)
+        threads.emplace_back([&accounts, k] {
+            for (int round = 0; round < 2000; round++) {
+                Account &from = accounts[(k + round) % 4], &to = accounts[(k + 3 * round + 1) % 4];
+                if (&from == &to) continue;
+                std::lock(from.mutex, to.mutex);
+                std::lock_guard<Mutex> first(from.mutex, std::adopt_lock), second(to.mutex, std::adopt_lock);
+                from.coins--;
+                to.coins++;
+            }
+        });
+    for (std::thread &it : threads) it.join();
+    long coins = 0;
+    for (Account &it : accounts) coins += it.coins;
+    return coins;
+}
+
+// ---- Trying, deferring and moving guards ----
+
+// 15: a try of a held mutex fails, of a free one succeeds, a deferred guard owns nothing, and a moved one all.
+static int tries() {
+    Mutex mutex;
+    int found = 0;
+    std::unique_lock<Mutex> held(mutex);
+    std::thread other([&] {
+        if (!mutex.try_lock()) found += 1;
+    });
+    other.join();
+    std::unique_lock<Mutex> moved(std::move(held));
+    if (moved.owns_lock() && !held.owns_lock()) found += 2;
+    moved.unlock();
+    std::unique_lock<Mutex> deferred(mutex, std::defer_lock);
+    if (!deferred.owns_lock()) found += 4;
+    if (deferred.try_lock()) found += 8;
+    return found;
+}
+
+int main() {
+    long sum = sum_by_queue(), coins = moves_coins();
+    int in_time = waits_in_time(), tried = tries();
+    std::printf("%ld %d %ld %d\n", sum, in_time, coins, tried);
+    return sum == 18003000 && in_time == 7 && coins == 4000 && tried == 15 ? 0 : 1;
+}
