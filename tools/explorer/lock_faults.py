@@ -231,7 +231,7 @@ INVARIANTS = {
     "entering: a turn is taken for a timeout": (2, "", "ticket_of(my)->state == (got == QOLB_GRANTED", (ENTER, "give_up", "got == QOLB_GRANTED ? got : told", "told")),
     "entering: a barging thread waits as the queue head": (1, "barging: crowded: two are late", "ticket_of(my)->state == QOLB_TICKET_AT_TURN_", (ENTER, "finish", "    if (ticket_of(my)->state == QOLB_TICKET_AT_TURN_)\n", "    if (got == QOLB_GRANTED)\n")),
     "leaving: a task leaves by a state that no holder has": (1, "tasks", "is_strict_turn(at) || is_inside(at)", (TASKS, "hold", "    me->turn = at->ticket.state;\n", "    me->turn = QOLB_TICKET_AT_TURN_;\n")),
-    "leaving: the turn is not released": (1, "", "at->ticket.state == QOLB_TICKET_FREE_", (LEAVE, "qolb_end_turn_", "    release(lock, &at->ticket, got);\n", "    if (0) release(lock, &at->ticket, got);\n")),
+    "leaving: the turn is not released": (1, "holds three", "at->ticket.state == QOLB_TICKET_FREE_", (LEAVE, "qolb_end_turn_", "    release(lock, &at->ticket, got);\n", "    if (0) release(lock, &at->ticket, got);\n")),
     "leaving: a release is not finished": (1, "", "got == QOLB_DONE", (LEAVE, "release", "    while (got == QOLB_UNFINISHED_)", "    if (got == QOLB_UNFINISHED_)")),
     "leaving: a turn that slept takes the short way": (1, "", "got == QOLB_UNFINISHED_ || !has(at, SLEPT)", (LEAVE, "qolb_lock_leave", "is_at(at, lock_of(of), HELD)", "(at->core & ~(uintptr_t)SLEPT) == own_of(lock_of(of)) + HELD")),
     "leaving: the lock word is left once": (1, "barging", "got == QOLB_DONE", (LEAVE, "leave_lock_word", "    while (got == QOLB_BUSY) got =", "    if (got == QOLB_BUSY) got =")),
