@@ -11,8 +11,8 @@
  *
  * The proofs of a lock are about its core, which decides who is next. They show that the core has at most one holder;
  * that it serves tickets, numbers that threads draw, in order; that with a barging limit of B it counts at most B - 1
- * acquisitions of barging threads (threads without a ticket) from one served waiter to the next; and that it tells a leaving
- * thread of a sleep that the next waiter has announced (with barging, announced while that thread was in).
+ * acquisitions of barging threads (threads without a ticket) from one served waiter to the next; and that it tells a
+ * leaving thread of a sleep that the next waiter has announced (with barging, announced while that thread was in).
  *
  * The code around the core is C and qolb.hpp. It waits and wakes, and has the time limits, conditions and tasks. It is
  * not proved but tested. The C code was also model-checked, at the commit that PROVED names, in small scenes: two or
@@ -103,8 +103,8 @@
  * ==== qolb_lock(3): locks for any number of threads, with conditions ====
  *
  * A lock and the data that it guards lie where the program has them, as in a struct, the lock at a multiple of 16
- * bytes. It need not be freed. Two calls take memory from the heap: qolb_task_enter, and a call with a timeout while more
- * than 60 requests are before it. No call of a thread on a lock answers NO_MEMORY.
+ * bytes. It need not be freed. Two calls take memory from the heap: qolb_task_enter, and a call with a timeout while
+ * more than 60 requests are before it. No call of a thread on a lock answers NO_MEMORY.
  *
  * INITIALISERS
  *
@@ -160,11 +160,12 @@
  *
  * times, where `limit` is the lock's barging limit. Calls that enter, calls that try and waits at a condition that end
  * all count. Usually a thread is overtaken less often: the first waiter asks for the lock once a barging thread has
- * overtaken it and it has found the lock taken for 2 us, or 1 ms after it fell asleep, and the next leave hands it over.
- * A limit above 65,535 counts as 65,535, and a lock with a limit of 0 or 1 is strict.
+ * overtaken it and it has found the lock taken for 2 us, or 1 ms after it fell asleep, and the next leave hands it
+ * over. A limit above 65,535 counts as 65,535, and a lock with a limit of 0 or 1 is strict.
  *
  * Use a barging lock with a limit of 1,024 for what a mutex does today. Use a strict lock where threads have to be
- * served in the order in which they asked, or where the longest wait matters more than the time of all threads together.
+ * served in the order in which they asked, or where the longest wait matters more than the time of all threads
+ * together.
  *
  * TIMEOUTS
  *
@@ -235,7 +236,8 @@
  * - The thread that entered a lock leaves it before it ends. If a thread ends while it holds a lock, the lock stays
  *   held, as a mutex does, and all others wait.
  * - Destroy a lock only if no thread is about to call it. Its memory may be freed once it is destroyed, or once nobody
- *   holds it, waits for it or is about to call it, even if a thread that left it is still in that call. That of a condition
+ *   holds it, waits for it or is about to call it, even if a thread that left it is still in that call. That of a
+ *   condition
  *   may go when no thread is in a call on it.
  * - Call nothing from a signal handler, nor in the forked child of a process with threads.
  * - Use one copy of the library for a lock: not the static one in the program and another one in what it opens at run
@@ -334,8 +336,8 @@
  * node of a link line may also be busy after its own release, until its successor has linked. So ask again later; if a
  * node before the withdrawn request never releases, for ever.
  *
- * A thread with a busy node is in no queue, and may be overtaken. Of a pool, take a node for which qolb_settle_node answers
- * DONE.
+ * A thread with a busy node is in no queue, and may be overtaken. Of a pool, take a node for which qolb_settle_node
+ * answers DONE.
  *
  * THREADS THAT END
  *
@@ -380,8 +382,8 @@
  *   another thread, throw, jump out or end the thread, which is not cancelled in it.
  * - The call may use any node that its thread may use, by calls that do not wait. A release in it makes its own calls
  *   after this one has returned, or when a node is told BUSY in it, or, if 32 are already put off, at once.
- * - qolb_notify, qolb_notify_fd, qolb_notify_off, qolb_node_free, qolb_task_poll and qolb_task_cancel wait for a call of
- *   the same node or task in another thread, until it has returned or said qolb_notify_done. A call says that before
+ * - qolb_notify, qolb_notify_fd, qolb_notify_off, qolb_node_free, qolb_task_poll and qolb_task_cancel wait for a call
+ *   of the same node or task in another thread, until it has returned or said qolb_notify_done. A call says that before
  *   it takes a lock under which one of these six is made, before it resumes a coroutine, and before it makes one.
  * - A call may come before the call that asked for it has returned, and may use the node or task even then.
  * - A call may be early: the request still waits. Call qolb_notify again, which polls and wants another call in one
@@ -657,21 +659,21 @@ enum qolb_result qolb_lock_destroy(qolb_lock *lock);
 /* 1 if the calling thread holds the lock, else 0. */
 int qolb_lock_is_mine(const qolb_lock *lock);
 
-/* 1 if a thread or a task holds the lock, or is about to, else 0. It reads the lock and does not try it, so another call
- * may have changed that when it returns. */
+/* 1 if a thread or a task holds the lock, or is about to, else 0. It reads the lock and does not try it, so another
+ * call may have changed that when it returns. */
 int qolb_lock_is_held(const qolb_lock *lock);
 
-/* Leaves the lock, waits at the condition until it is signalled, and enters the lock again; no signal after the leave is
- * missed. Check what you wait for in a loop, because another thread may have been first. GRANTED, and the thread holds
- * the lock. CLOSED, and it does not. MISUSE: the calling thread does not hold the lock. */
+/* Leaves the lock, waits at the condition until it is signalled, and enters the lock again; no signal after the leave
+ * is missed. Check what you wait for in a loop, because another thread may have been first. GRANTED, and the thread
+ * holds the lock. CLOSED, and it does not. MISUSE: the calling thread does not hold the lock. */
 enum qolb_result qolb_cond_wait(qolb_cond *cond, qolb_lock *lock) QOLB_LOOK;
 
 /* Waits as qolb_cond_wait does, but for at most `nanoseconds`; then it enters the lock again, however long that takes.
  * GRANTED, or TIMEDOUT if no signal came, and the thread holds the lock. CLOSED, and it does not. MISUSE. */
 enum qolb_result qolb_cond_wait_within(qolb_cond *cond, qolb_lock *lock, uint64_t nanoseconds) QOLB_LOOK;
 
-/* Wake the thread that has waited longest at the condition (signal), or all (broadcast). The caller may hold the lock or
- * not. DONE, also without waiters. */
+/* Wake the thread that has waited longest at the condition (signal), or all (broadcast). The caller may hold the lock
+ * or not. DONE, also without waiters. */
 enum qolb_result qolb_cond_signal(qolb_cond *cond);
 enum qolb_result qolb_cond_broadcast(qolb_cond *cond);
 

@@ -57,7 +57,7 @@ REAL(cancel, "GLIBC_2.2.5", pthread_t)
 
 /* ---- Settings ---- */
 
-enum { USUAL_BARGING = 1024, BARGING = LAYOUT_MAX_BURST + 1 };
+enum { USUAL_BARGING = 1024, BARGING = LAYOUT_MAX_BARGING_LIMIT + 1 };
 
 static uint32_t barging_of_all = USUAL_BARGING;
 

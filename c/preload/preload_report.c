@@ -1,9 +1,9 @@
 /* What a process did with its mutexes, counted for tools and tests: in the library of `make -C c preload-report` alone.
  *
  * With QOLB_REPORT=/FOLDER/FILE each process of the program that ends by exit, not by _exit, quick_exit, exec or a
- * signal, appends a line to that file. The line says the barging limit; how many mutexes were ours in all, and at most at a
- * time; how often a mutex was granted, how often a call timed out, and how often a mutex was not free at once; and how
- * often two threads were in one mutex at the same time, which must be 0. The child of a fork counts from 0 on. */
+ * signal, appends a line to that file. The line says the barging limit; how many mutexes were ours in all, and at most
+ * at a time; how often a mutex was granted, how often a call timed out, and how often a mutex was not free at once; and
+ * how often two threads were in one mutex at the same time, which must be 0. The child of a fork counts from 0 on. */
 #define _GNU_SOURCE
 #ifndef QOLB_REPORT
 #define QOLB_REPORT

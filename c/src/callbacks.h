@@ -1,5 +1,5 @@
-/* Callbacks: calls that the library makes in place of a wake, when a node or a task is at its turn (callbacks.c). One of
- * the library's internal files.
+/* Callbacks: calls that the library makes in place of a wake, when a node or a task is at its turn (callbacks.c). One
+ * of the library's internal files.
  *
  * The callbacks of nodes are in their line (line.h). Those of tasks are here, outside of their locks: the memory of a
  * lock may be freed while a thread that left it is still in that call. */

@@ -4,17 +4,17 @@
  * opening allocates.
  *
  * A lock has a queue of tickets, and a *lock word*. A strict lock (a barging limit of at most 1): ask, wait for the
- * ticket's turn, check_open, be served, release. With barging: a barging thread goes in by the lock word and leaves; else it
- * asks for a ticket; at its turn it is the queue head, takes the lock word, releases its turn of the queue (it stays
- * in), is served, and leaves.
+ * ticket's turn, check_open, be served, release. With barging: a barging thread goes in by the lock word and leaves;
+ * else it asks for a ticket; at its turn it is the queue head, takes the lock word, releases its turn of the queue (it
+ * stays in), is served, and leaves.
  *
  * The answers are those of qolb.h where it has one, and these. MISUSE always means that nothing changed.
  *
  * What no call can see, and the caller owes (docs/PROVED.md):
  *
  * - a `qolb_core` that opening wrote, or a copy of it;
- * - a ticket of zeros, or as its last call left it but for `lock_word`, in one call at a time, and not copied: it may be
- *   moved. One that is not WAITING may be kept as its number, label and state, and made of them again with zeros: of
+ * - a ticket of zeros, or as its last call left it but for `lock_word`, in one call at a time, and not copied: it may
+ *   be moved. One that is not WAITING may be kept as its number, label and state, and made of them again with zeros: of
  *   the rest a call reads the guess `lock_word` alone;
  * - for each opening a label of its own;
  * - nothing else in the lock's bytes while a call on it may be made, and none afterwards. A FREE ticket of such a lock
@@ -54,8 +54,8 @@ struct qolb_core {
     const void *at;
 };
 
-/* A ticket, all zeros at first. The head of this file says what its caller owes, who may write `lock_word`, and no other
- * field. A FREE ticket may go to another lock, or be set to zeros. */
+/* A ticket, all zeros at first. The head of this file says what its caller owes, who may write `lock_word`, and no
+ * other field. A FREE ticket may go to another lock, or be set to zeros. */
 struct qolb_ticket {
     uint64_t number;    /* from ask on: the ticket's number. After a release: the last number whose turn ended, so that
                             number + 1 is the ticket that was granted */
@@ -80,16 +80,16 @@ _Static_assert(sizeof(struct qolb_ticket) == LAYOUT_TICKET_BYTES, "a ticket has 
 uint32_t qolb_core_open_proved_(uint64_t barging, uint64_t label, struct qolb_core *out);
 
 /* Draws the next ticket, and looks: GRANTED (at its turn) or WAITING. MISUSE: the ticket has a request, or is in. */
-uint32_t qolb_core_ask_proved_(const struct qolb_core *, struct qolb_ticket *);
+uint32_t qolb_core_draw_proved_(const struct qolb_core *, struct qolb_ticket *);
 /* In a strict lock, ask, and check_open (below) if it is granted: GRANTED (SERVED), CLOSED (SERVED_SHUT) or WAITING.
  * MISUSE as ask, and in a barging lock. */
-uint32_t qolb_core_ask_open_proved_(const struct qolb_core *, struct qolb_ticket *);
+uint32_t qolb_core_draw_and_check_proved_(const struct qolb_core *, struct qolb_ticket *);
 /* As ask, if the request could still be withdrawn: GRANTED, or WAITING (rounds at most 15); FAR; BUSY (another drew
  * at that moment): no ticket drawn. MISUSE as ask. */
-uint32_t qolb_core_ask_near_proved_(const struct qolb_core *, struct qolb_ticket *);
+uint32_t qolb_core_draw_near_proved_(const struct qolb_core *, struct qolb_ticket *);
 /* As ask, if it would be at its turn: GRANTED, or BUSY: no ticket drawn. Says nothing of whether the lock is shut.
  * MISUSE as ask. */
-uint32_t qolb_core_try_ask_proved_(const struct qolb_core *, struct qolb_ticket *);
+uint32_t qolb_core_try_draw_proved_(const struct qolb_core *, struct qolb_ticket *);
 /* Looks at the ticket's cell: GRANTED or WAITING. MISUSE unless it is WAITING (state). */
 uint32_t qolb_core_poll_proved_(const struct qolb_core *, struct qolb_ticket *);
 
@@ -111,23 +111,23 @@ uint32_t qolb_core_release_proved_(const struct qolb_core *, struct qolb_ticket 
 /* At the turn of a strict lock: GRANTED (open: SERVED) or CLOSED (SERVED_SHUT: pass the turn on by release, or
  * reopen). MISUSE unless it is AT_TURN, SERVED or SERVED_SHUT in a strict lock. */
 uint32_t qolb_core_check_open_proved_(const struct qolb_core *, struct qolb_ticket *);
-/* A barging thread takes the lock word, if that is ticket.lock_word, free for anyone, and open: GRANTED (INSIDE; ticket.lock_word
- * is the word as it was left). BUSY: ticket.lock_word is the word that the step found. MISUSE: the ticket has a request or
- * is in, or the lock is strict. */
-uint32_t qolb_core_go_in_proved_(const struct qolb_core *, struct qolb_ticket *);
+/* A barging thread takes the lock word, if that is ticket.lock_word, free for anyone, and open: GRANTED (INSIDE;
+ * ticket.lock_word is the word as it was left). BUSY: ticket.lock_word is the word that the step found. MISUSE: the
+ * ticket has a request or is in, or the lock is strict. */
+uint32_t qolb_core_barge_proved_(const struct qolb_core *, struct qolb_ticket *);
 /* The queue head takes the lock word, if it is free: GRANTED (HEAD_INSIDE) or CLOSED (HEAD_INSIDE_SHUT): in, and
- * ticket.lock_word is the word as it was left; release the turn of the queue next. WAITING: it is held, or changed at that
- * moment; ticket.lock_word is the word that the last step found. MISUSE unless it is AT_TURN in a barging lock. */
-uint32_t qolb_core_take_outer_proved_(const struct qolb_core *, struct qolb_ticket *);
-/* Leaves the lock word, if that is ticket.lock_word: DONE (FREE; ticket.head_sleeps; the lock may no longer exist). BUSY:
- * the word is another, which ticket.lock_word has then: call again. MISUSE unless it is INSIDE or INSIDE_SHUT. */
-uint32_t qolb_core_leave_proved_(const struct qolb_core *, struct qolb_ticket *);
+ * ticket.lock_word is the word as it was left; release the turn of the queue next. WAITING: it is held, or changed at
+ * that moment; ticket.lock_word is the word that the last step found. MISUSE unless it is AT_TURN in a barging lock. */
+uint32_t qolb_core_take_lock_word_proved_(const struct qolb_core *, struct qolb_ticket *);
+/* Leaves the lock word, if that is ticket.lock_word: DONE (FREE; ticket.head_sleeps; the lock may no longer exist).
+ * BUSY: the word is another, which ticket.lock_word has then: call again. MISUSE unless it is INSIDE or INSIDE_SHUT. */
+uint32_t qolb_core_leave_lock_word_proved_(const struct qolb_core *, struct qolb_ticket *);
 /* The queue head asks whoever is in to leave the lock word for the head alone: DONE, or BUSY (it changed at that
  * moment). MISUSE unless it is AT_TURN in a barging lock. */
 uint32_t qolb_core_request_handoff_proved_(const struct qolb_core *, struct qolb_ticket *);
 /* The queue head notes at the lock word that it sleeps: ASLEEP, then sleep while the lower 32 bits of the lock
- * word are those of ticket.lock_word. WAITING: the word is not held, or changed at that moment, and ticket.lock_word is as
- * before. MISUSE unless it is AT_TURN in a barging lock. */
+ * word are those of ticket.lock_word. WAITING: the word is not held, or changed at that moment, and ticket.lock_word is
+ * as before. MISUSE unless it is AT_TURN in a barging lock. */
 uint32_t qolb_core_announce_head_sleep_proved_(const struct qolb_core *, struct qolb_ticket *);
 
 /* Who is served shuts the lock: DONE (SERVED becomes SERVED_SHUT, and so on). From then on nobody goes in by go_in,

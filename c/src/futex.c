@@ -1,5 +1,5 @@
-/* The clock, and the system calls of sleeping: Linux's futex, for locks by classes (futex.h). On other systems a sleeper
- * polls again after 200 us. Tested, not proved. */
+/* The clock, and the system calls of sleeping: Linux's futex, for locks by classes (futex.h). On other systems a
+ * sleeper polls again after 200 us. Tested, not proved. */
 #define _GNU_SOURCE
 #include "futex.h"
 #include <errno.h>

@@ -1,10 +1,10 @@
 /* The functions by which the proved part allocates, over the program's malloc and free. The proved part calls them by
  * these names.
  *
- * A thread writes to its node's block in each call, and to the words and slots of a table. Each of these blocks begins at
- * a multiple of 128 bytes, and no other begins in its last 128: so no cache line has data of two nodes, nor has a pair of
- * lines that is fetched together, and a slot of a table, with its 64 bytes and what goes with them, is in one pair. What
- * all nodes of a line read, and none writes, is a smaller block. */
+ * A thread writes to its node's block in each call, and to the words and slots of a table. Each of these blocks begins
+ * at a multiple of 128 bytes, and no other begins in its last 128: so no cache line has data of two nodes, nor has a
+ * pair of lines that is fetched together, and a slot of a table, with its 64 bytes and what goes with them, is in one
+ * pair. What all nodes of a line read, and none writes, is a smaller block. */
 #include "heap.h"
 #include <stdint.h>
 #include <stdlib.h>
@@ -22,7 +22,8 @@ HIDDEN struct tried rattle_alloc(size_t size, size_t align);
 HIDDEN struct tried rattle_realloc(void *block, size_t kept, size_t size, size_t align);
 HIDDEN void rattle_dealloc(void *block);
 
-/* The next block of the lock's core that the thread opens, which must be as large as the arena's next one; else NULL. */
+/* The next block of the lock's core that the thread opens, which must be as large as the arena's next one; else NULL.
+ * */
 static void *given_by_lock(size_t size) {
     static const size_t sizes[CORE_BLOCKS] = {LAYOUT_CORE_WORDS_BYTES, LAYOUT_CORE_SLOTS_BYTES,
                                               LAYOUT_CORE_BLOCK_BYTES};

@@ -16,8 +16,8 @@ struct before {
 static inline int is_small(size_t size) { return size < APART; }
 
 /* The bytes that malloc is asked for, for a block of this size. A block that is not small begins at the first multiple
- * of APART that leaves room for a `struct before`, and no other begins in its last APART bytes: malloc keeps 16 bytes of
- * its own between two blocks. */
+ * of APART that leaves room for a `struct before`, and no other begins in its last APART bytes: malloc keeps 16 bytes
+ * of its own between two blocks. */
 static inline size_t asked_bytes(size_t size) {
     if (is_small(size)) return sizeof(struct before) + size;
     size_t whole = (size + APART - 1) / APART * APART - sizeof(struct before);

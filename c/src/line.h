@@ -8,8 +8,8 @@
  * sleepers and to the line's waiting, reads the place's word, polls once more, and sleeps while that word is unchanged.
  * A thread that has released the line then loads `waiting`. If that is not 0, the thread asks the proved part where the
  * next holder waits, and where the one behind it does, and wakes the sleepers of these two places. Each step is
- * sequentially consistent, so one of the two sees the other: a Dekker handshake. A node without a thread has its callback
- * in the line's list in place of a sleeper, and the releasing thread makes the call (callbacks.h).
+ * sequentially consistent, so one of the two sees the other: a Dekker handshake. A node without a thread has its
+ * callback in the line's list in place of a sleeper, and the releasing thread makes the call (callbacks.h).
  *
  * The line, its places and its nodes are one block of memory. It is freed with the line's last node, or behind the last
  * call of a callback that was put off. A thread may use the block as long as it is in a call on one of the nodes, also

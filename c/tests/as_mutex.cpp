@@ -1,6 +1,6 @@
-// A program that is written for std::mutex and std::condition_variable, compiled with both and with the library's: a queue
-// of bounded length, a counter that ends by a deadline, an account for each thread under two locks at a time, and a value
-// that is made once. Both programs print the same numbers, which are worked out below.
+// A program that is written for std::mutex and std::condition_variable, compiled with both and with the library's: a
+// queue of bounded length, a counter that ends by a deadline, an account for each thread under two locks at a time, and
+// a value that is made once. Both programs print the same numbers, which are worked out below.
 #ifdef STD
 #include <condition_variable>
 #include <mutex>

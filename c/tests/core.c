@@ -134,7 +134,7 @@ static void pass_on(struct caller *caller) {
 }
 
 static void leave(struct caller *caller) {
-    while (qolb_core_leave_proved_(&scene.core, &caller->ticket) != QOLB_DONE)
+    while (qolb_core_leave_lock_word_proved_(&scene.core, &caller->ticket) != QOLB_DONE)
         CHECK(caller->ticket.state == QOLB_TICKET_INSIDE_ || caller->ticket.state == QOLB_TICKET_INSIDE_SHUT_);
     if (caller->ticket.head_sleeps) wake_at(qolb_core_outer_(&scene.core));
 }
@@ -149,7 +149,8 @@ static void strict_turn(struct caller *caller) {
 /* The queue head of a barging lock. */
 static void head_turn(struct caller *caller) {
     uint32_t got;
-    for (int looks = 0; (got = qolb_core_take_outer_proved_(&scene.core, &caller->ticket)) == QOLB_WAITING; looks++) {
+    for (int looks = 0; (got = qolb_core_take_lock_word_proved_(&scene.core, &caller->ticket)) == QOLB_WAITING;
+         looks++) {
         if (looks == FEW_LOOKS)
             while (qolb_core_request_handoff_proved_(&scene.core, &caller->ticket) == QOLB_BUSY) continue;
         if (looks <= FEW_LOOKS) sched_yield();
@@ -193,18 +194,18 @@ static int waits(struct caller *caller) {
 static int asks(struct caller *caller) {
     if (does(caller, TRIES)) {
         scene.tried++;
-        return qolb_core_try_ask_proved_(&scene.core, &caller->ticket) == QOLB_GRANTED;
+        return qolb_core_try_draw_proved_(&scene.core, &caller->ticket) == QOLB_GRANTED;
     }
-    if (!does(caller, NEARS)) return qolb_core_ask_proved_(&scene.core, &caller->ticket) != QOLB_MISUSE;
-    uint32_t got = qolb_core_ask_near_proved_(&scene.core, &caller->ticket);
+    if (!does(caller, NEARS)) return qolb_core_draw_proved_(&scene.core, &caller->ticket) != QOLB_MISUSE;
+    uint32_t got = qolb_core_draw_near_proved_(&scene.core, &caller->ticket);
     if (got == QOLB_FAR_) scene.far++;
     if (got == QOLB_BUSY) scene.drawn_by_another++;
     return got == QOLB_GRANTED || got == QOLB_WAITING;
 }
 
 static int goes_in(struct caller *caller) {
-    uint32_t got = qolb_core_go_in_proved_(&scene.core, &caller->ticket);
-    if (got == QOLB_BUSY) got = qolb_core_go_in_proved_(&scene.core, &caller->ticket);
+    uint32_t got = qolb_core_barge_proved_(&scene.core, &caller->ticket);
+    if (got == QOLB_BUSY) got = qolb_core_barge_proved_(&scene.core, &caller->ticket);
     return got == QOLB_GRANTED;
 }
 
@@ -275,19 +276,19 @@ static const struct {
 #define AT_TURN (1 << QOLB_TICKET_AT_TURN_)
 #define TURNS (AT_TURN | 1 << QOLB_TICKET_SERVED_ | 1 << QOLB_TICKET_SERVED_SHUT_)
 #define HEADS (1 << QOLB_TICKET_HEAD_INSIDE_ | 1 << QOLB_TICKET_HEAD_INSIDE_SHUT_)
-    {"ask", qolb_core_ask_proved_, FREE, 0, 9},
-    {"ask_open", qolb_core_ask_open_proved_, FREE, 0, 1},
-    {"ask_near", qolb_core_ask_near_proved_, FREE, 0, 9},
-    {"try_ask", qolb_core_try_ask_proved_, FREE, 0, 9},
+    {"ask", qolb_core_draw_proved_, FREE, 0, 9},
+    {"ask_open", qolb_core_draw_and_check_proved_, FREE, 0, 1},
+    {"ask_near", qolb_core_draw_near_proved_, FREE, 0, 9},
+    {"try_ask", qolb_core_try_draw_proved_, FREE, 0, 9},
     {"poll", qolb_core_poll_proved_, WAITING, 0, 9},
     {"announce_sleep", qolb_core_announce_sleep_proved_, WAITING, 0, 9},
     {"retract_sleep", qolb_core_retract_sleep_proved_, 1 << QOLB_TICKET_ASLEEP_, 0, 9},
     {"withdraw", qolb_core_withdraw_proved_, WAITING, 0, 9},
     {"release", qolb_core_release_proved_, TURNS | 1 << QOLB_TICKET_ENDING_ | HEADS, 0, 9},
     {"check_open", qolb_core_check_open_proved_, TURNS, 0, 1},
-    {"go_in", qolb_core_go_in_proved_, FREE, 2, 9},
-    {"take_outer", qolb_core_take_outer_proved_, AT_TURN, 2, 9},
-    {"leave", qolb_core_leave_proved_, 1 << QOLB_TICKET_INSIDE_ | 1 << QOLB_TICKET_INSIDE_SHUT_, 0, 9},
+    {"go_in", qolb_core_barge_proved_, FREE, 2, 9},
+    {"take_outer", qolb_core_take_lock_word_proved_, AT_TURN, 2, 9},
+    {"leave", qolb_core_leave_lock_word_proved_, 1 << QOLB_TICKET_INSIDE_ | 1 << QOLB_TICKET_INSIDE_SHUT_, 0, 9},
     {"request_handoff", qolb_core_request_handoff_proved_, AT_TURN, 0, 9},
     {"announce_head_sleep", qolb_core_announce_head_sleep_proved_, AT_TURN, 0, 9},
     {"shut", qolb_core_shut_proved_,
@@ -326,14 +327,14 @@ static void all_misuse(uint64_t barging) {
     struct qolb_ticket a, b, c;
     memset(&a, 0, sizeof a), memset(&b, 0, sizeof b), memset(&c, 0, sizeof c);
     misuses(&core, barging, &a, QOLB_TICKET_FREE_);
-    CHECK(qolb_core_ask_proved_(&core, &a) == QOLB_GRANTED);
+    CHECK(qolb_core_draw_proved_(&core, &a) == QOLB_GRANTED);
     misuses(&core, barging, &a, QOLB_TICKET_AT_TURN_);
-    CHECK(qolb_core_ask_proved_(&core, &b) == QOLB_WAITING);
+    CHECK(qolb_core_draw_proved_(&core, &b) == QOLB_WAITING);
     misuses(&core, barging, &b, QOLB_TICKET_WAITING_);
     CHECK(qolb_core_announce_sleep_proved_(&core, &b) == QOLB_ASLEEP_);
     misuses(&core, barging, &b, QOLB_TICKET_ASLEEP_);
     CHECK(qolb_core_retract_sleep_proved_(&core, &b) == QOLB_WAITING);
-    call *serve = barging > 1 ? qolb_core_take_outer_proved_ : qolb_core_check_open_proved_;
+    call *serve = barging > 1 ? qolb_core_take_lock_word_proved_ : qolb_core_check_open_proved_;
     CHECK(serve(&core, &a) == QOLB_GRANTED);
     misuses(&core, barging, &a, barging > 1 ? QOLB_TICKET_HEAD_INSIDE_ : QOLB_TICKET_SERVED_);
     if (barging > 1) {
@@ -341,7 +342,7 @@ static void all_misuse(uint64_t barging) {
         misuses(&core, barging, &a, QOLB_TICKET_INSIDE_);
         CHECK(qolb_core_shut_proved_(&core, &a) == QOLB_DONE);
         misuses(&core, barging, &a, QOLB_TICKET_INSIDE_SHUT_);
-        CHECK(qolb_core_leave_proved_(&core, &a) == QOLB_DONE);
+        CHECK(qolb_core_leave_lock_word_proved_(&core, &a) == QOLB_DONE);
     } else {
         CHECK(qolb_core_shut_proved_(&core, &a) == QOLB_DONE);
         misuses(&core, barging, &a, QOLB_TICKET_SERVED_SHUT_);
@@ -351,11 +352,11 @@ static void all_misuse(uint64_t barging) {
     CHECK(qolb_core_poll_proved_(&core, &b) == QOLB_GRANTED && serve(&core, &b) == QOLB_CLOSED);
     misuses(&core, barging, &b, barging > 1 ? QOLB_TICKET_HEAD_INSIDE_SHUT_ : QOLB_TICKET_SERVED_SHUT_);
     CHECK(qolb_core_reopen_proved_(&core, &b) == QOLB_GRANTED && qolb_core_release_proved_(&core, &b) == QOLB_DONE);
-    if (barging > 1) CHECK(qolb_core_leave_proved_(&core, &b) == QOLB_DONE);
+    if (barging > 1) CHECK(qolb_core_leave_lock_word_proved_(&core, &b) == QOLB_DONE);
     /* A free ticket may go to another lock. */
     struct qolb_core other = opened(barging);
-    CHECK(qolb_core_ask_proved_(&other, &b) == QOLB_GRANTED && qolb_core_release_proved_(&other, &b) == QOLB_DONE);
-    CHECK(qolb_core_try_ask_proved_(&core, &c) == QOLB_GRANTED && qolb_core_release_proved_(&core, &c) == QOLB_DONE);
+    CHECK(qolb_core_draw_proved_(&other, &b) == QOLB_GRANTED && qolb_core_release_proved_(&other, &b) == QOLB_DONE);
+    CHECK(qolb_core_try_draw_proved_(&core, &c) == QOLB_GRANTED && qolb_core_release_proved_(&core, &c) == QOLB_DONE);
 }
 
 /* ---- One thread: opening ---- */
@@ -376,10 +377,10 @@ static void opens(void) {
         qolb_core_arena_ = NULL;
         CHECK(core.at == (void *)block && qolb_core_words_(&core) == (void *)words);
         /* The second time the ticket is of the lock that lay there before. */
-        CHECK(qolb_core_ask_proved_(&core, &ticket) == QOLB_GRANTED && ticket.number == 0);
-        CHECK(qolb_core_take_outer_proved_(&core, &ticket) == QOLB_GRANTED);
+        CHECK(qolb_core_draw_proved_(&core, &ticket) == QOLB_GRANTED && ticket.number == 0);
+        CHECK(qolb_core_take_lock_word_proved_(&core, &ticket) == QOLB_GRANTED);
         CHECK(qolb_core_release_proved_(&core, &ticket) == QOLB_DONE);
-        CHECK(qolb_core_leave_proved_(&core, &ticket) == QOLB_DONE);
+        CHECK(qolb_core_leave_lock_word_proved_(&core, &ticket) == QOLB_DONE);
     }
     static struct qolb_core on_heap;
     CHECK(qolb_core_open_proved_(4, ++labels, &on_heap) == QOLB_DONE);

@@ -14,38 +14,38 @@
 
 /* The stand-in, by other names. */
 #define qolb_core_open_proved_ stand_in_open
-#define qolb_core_ask_proved_ stand_in_ask
-#define qolb_core_ask_open_proved_ stand_in_ask_open
-#define qolb_core_ask_near_proved_ stand_in_ask_near
-#define qolb_core_try_ask_proved_ stand_in_try_ask
+#define qolb_core_draw_proved_ stand_in_ask
+#define qolb_core_draw_and_check_proved_ stand_in_ask_open
+#define qolb_core_draw_near_proved_ stand_in_ask_near
+#define qolb_core_try_draw_proved_ stand_in_try_ask
 #define qolb_core_poll_proved_ stand_in_poll
 #define qolb_core_announce_sleep_proved_ stand_in_announce_sleep
 #define qolb_core_retract_sleep_proved_ stand_in_retract_sleep
 #define qolb_core_withdraw_proved_ stand_in_withdraw
 #define qolb_core_release_proved_ stand_in_release
 #define qolb_core_check_open_proved_ stand_in_check_open
-#define qolb_core_go_in_proved_ stand_in_go_in
-#define qolb_core_take_outer_proved_ stand_in_take_outer
-#define qolb_core_leave_proved_ stand_in_leave
+#define qolb_core_barge_proved_ stand_in_go_in
+#define qolb_core_take_lock_word_proved_ stand_in_take_outer
+#define qolb_core_leave_lock_word_proved_ stand_in_leave
 #define qolb_core_request_handoff_proved_ stand_in_request_handoff
 #define qolb_core_announce_head_sleep_proved_ stand_in_announce_head_sleep
 #define qolb_core_shut_proved_ stand_in_shut
 #define qolb_core_reopen_proved_ stand_in_reopen
 #include "../../tools/explorer/core.c"
 #undef qolb_core_open_proved_
-#undef qolb_core_ask_proved_
-#undef qolb_core_ask_open_proved_
-#undef qolb_core_ask_near_proved_
-#undef qolb_core_try_ask_proved_
+#undef qolb_core_draw_proved_
+#undef qolb_core_draw_and_check_proved_
+#undef qolb_core_draw_near_proved_
+#undef qolb_core_try_draw_proved_
 #undef qolb_core_poll_proved_
 #undef qolb_core_announce_sleep_proved_
 #undef qolb_core_retract_sleep_proved_
 #undef qolb_core_withdraw_proved_
 #undef qolb_core_release_proved_
 #undef qolb_core_check_open_proved_
-#undef qolb_core_go_in_proved_
-#undef qolb_core_take_outer_proved_
-#undef qolb_core_leave_proved_
+#undef qolb_core_barge_proved_
+#undef qolb_core_take_lock_word_proved_
+#undef qolb_core_leave_lock_word_proved_
 #undef qolb_core_request_handoff_proved_
 #undef qolb_core_announce_head_sleep_proved_
 #undef qolb_core_shut_proved_
@@ -305,7 +305,7 @@ static void unfinished(uint64_t label, uint64_t barging) {
     opens(&stand_in, stand_in_open, barging, label);
     memset(proved.tickets, 0, sizeof proved.tickets), memset(stand_in.tickets, 0, sizeof stand_in.tickets);
     calls(asks, HOLDER);
-    if (barging > 1) calls(number_of(qolb_core_take_outer_proved_), HOLDER);
+    if (barging > 1) calls(number_of(qolb_core_take_lock_word_proved_), HOLDER);
     for (calls(asks_near, WITHDRAWER); proved.tickets[WITHDRAWER].rounds <= MOST_NEAR; calls(asks_near, WITHDRAWER))
         calls(withdraws, WITHDRAWER);
     struct accesses by_stand_in = is_unfinished(&stand_in, false), by = is_unfinished(&proved, true);
@@ -342,7 +342,7 @@ static void full(uint64_t label) {
 int main(int argc, char **argv) {
     uint64_t schedules = argc > 1 ? strtoull(argv[1], NULL, 10) : 1000000;
     seed = argc > 2 ? strtoull(argv[2], NULL, 10) : 1;
-    asks = number_of(qolb_core_ask_proved_), asks_near = number_of(qolb_core_ask_near_proved_);
+    asks = number_of(qolb_core_draw_proved_), asks_near = number_of(qolb_core_draw_near_proved_);
     withdraws = number_of(qolb_core_withdraw_proved_), releases = number_of(qolb_core_release_proved_);
     if (WATCHES) begin_to_watch();
     for (uint64_t label = 1; label <= schedules; label++) schedule(label);

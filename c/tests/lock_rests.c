@@ -255,7 +255,7 @@ static int begins_behind(unsigned before, uint64_t nanoseconds) {
     memset(waiting, 0, sizeof waiting);
     if (is_held(0)) return 1;
     for (unsigned k = 1; k < before; k++)
-        WANT(qolb_core_ask_proved_(&lock_of(&lock)->core, &waiting[k].ticket), QOLB_WAITING);
+        WANT(qolb_core_draw_proved_(&lock_of(&lock)->core, &waiting[k].ticket), QOLB_WAITING);
     begins(NULL);
     WANT(enters(nanoseconds), QOLB_TIMEDOUT);
     WANT(sleeps, 1);
@@ -415,8 +415,8 @@ static void newcomer_has_a_turn(void) {
     event.at_clock = while_it_sleeps ? 0 : clocks + LOOKS;
 }
 
-/* The head requests the lock once it was overtaken while it looked; if it slept, after a millisecond. The barging thread that
- * is in then is the last. */
+/* The head requests the lock once it was overtaken while it looked; if it slept, after a millisecond. The barging
+ * thread that is in then is the last. */
 static int requests_the_lock(int asleep, uint64_t each_lasts, uint64_t last) {
     if (is_held(1024)) return 1;
     begins(newcomer_has_a_turn);

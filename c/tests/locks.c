@@ -724,7 +724,8 @@ static void *uses(void *argument) {
     return NULL;
 }
 
-/* Threads come and go: each wave is joined, and another starts, before the next combination of barging limits and ends. */
+/* Threads come and go: each wave is joined, and another starts, before the next combination of barging limits and ends.
+ * */
 static int much_use(unsigned threads, uint32_t barging, int ends_by_shut) {
     static struct helper helpers[MOST];
     long had = 0;

@@ -109,8 +109,8 @@ bool is_overtaken_within(std::uint16_t barging) {
     return true;
 }
 
-// A barging limit above the greatest counts as the greatest: the lock is barging. While one waits, this thread enters again before
-// it, soon or late.
+// A barging limit above the greatest counts as the greatest: the lock is barging. While one waits, this thread enters
+// again before it, soon or late.
 bool is_overtaken_by_some(qolb::barging most) {
     for (int round = 0; round < 1000; round++) {
         qolb::lock lock(most);

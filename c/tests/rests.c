@@ -27,8 +27,8 @@ enum { US = 1000, MS = 1000000 };
 static uint64_t now, clocks, yields, sleeps, longest, asks, spins, spun, looks, names, wakes, wrong;
 
 /* How often a node polls before it sleeps, each 60 ns, as qolb.h says: for 50 us on a line of no more nodes than
- * processors, here four, and for 20 us on others; at least for 2 us, and once it has slept, for 10. It pauses while 90 ns are left. A poll is
- * before the pauses and behind each, and one more is before the sleep. */
+ * processors, here four, and for 20 us on others; at least for 2 us, and once it has slept, for 10. It pauses while 90
+ * ns are left. A poll is before the pauses and behind each, and one more is before the sleep. */
 enum { PAUSE = 60 };
 #define POLLS(nanoseconds) (((nanoseconds)-90) / PAUSE + 1)
 enum { NEAR = POLLS(50000), UNKNOWN = POLLS(20000), LEAST = POLLS(2000) };

@@ -18,19 +18,19 @@
 enum { MOST_PASSED = 1, IN_ROUND = TICKETS_IN_ROUND };
 #else
 #define GHOST(event) ((void)0)
-enum { MOST_NEAR = LAYOUT_MAX_ROUNDS_NEAR, MOST_SLEEPERS = LAYOUT_MAX_SLEEPERS, MOST_PASSED = LAYOUT_MAX_PASSED };
+enum { MOST_NEAR = LAYOUT_WITHDRAWAL_WINDOW, MOST_SLEEPERS = LAYOUT_MAX_SLEEPERS, MOST_PASSED = LAYOUT_MAX_PASSED };
 enum { IN_ROUND = LAYOUT_CELLS };
 #endif
 
 void *qolb_malloc_(size_t size);
 void qolb_free_(void *block);
 
-enum { OUTER = LAYOUT_OUTER_WORD, TAIL = LAYOUT_TAIL_WORD, CELLS = LAYOUT_FIRST_CELL };
+enum { OUTER = LAYOUT_LOCK_WORD, TAIL = LAYOUT_TAIL_WORD, CELLS = LAYOUT_FIRST_CELL };
 enum { WORDS = LAYOUT_CORE_WORDS, HANDOFF = LAYOUT_HANDOFF, HEAD_SLEEPS = LAYOUT_HEAD_ASLEEP, HELD = LAYOUT_HELD };
 enum { RESERVED = LAYOUT_RESERVED, STATE = HELD | RESERVED, SHUT = LAYOUT_SHUT, NEWCOMER = LAYOUT_NEWCOMER };
 #define ROUND ((uint64_t)1 << LAYOUT_ROUNDS_BIT)
 #define SLEEPER ((uint64_t)1 << LAYOUT_SLEEPERS_BIT)
-#define MOST_BARGING ((uint64_t)LAYOUT_MAX_BURST)
+#define MOST_BARGING ((uint64_t)LAYOUT_MAX_BARGING_LIMIT)
 
 struct lock {
     _Atomic uint64_t *words;
@@ -91,14 +91,14 @@ static void draws(const struct lock *lock, struct qolb_ticket *ticket, uint64_t 
     ticket->label = lock->label;
 }
 
-uint32_t qolb_core_ask_proved_(const struct qolb_core *core, struct qolb_ticket *ticket) {
+uint32_t qolb_core_draw_proved_(const struct qolb_core *core, struct qolb_ticket *ticket) {
     const struct lock *lock = of(core);
     if (!is(lock, ticket, BIT(FREE))) return QOLB_MISUSE;
     draws(lock, ticket, atomic_fetch_add(&lock->words[TAIL], 1));
     return looks(ticket, atomic_load(cell_of(lock, ticket->number)));
 }
 
-uint32_t qolb_core_ask_near_proved_(const struct qolb_core *core, struct qolb_ticket *ticket) {
+uint32_t qolb_core_draw_near_proved_(const struct qolb_core *core, struct qolb_ticket *ticket) {
     const struct lock *lock = of(core);
     if (!is(lock, ticket, BIT(FREE))) return QOLB_MISUSE;
     uint64_t number = atomic_load(&lock->words[TAIL]), cell = atomic_load(cell_of(lock, number));
@@ -110,7 +110,7 @@ uint32_t qolb_core_ask_near_proved_(const struct qolb_core *core, struct qolb_ti
     return looks(ticket, cell);
 }
 
-uint32_t qolb_core_try_ask_proved_(const struct qolb_core *core, struct qolb_ticket *ticket) {
+uint32_t qolb_core_try_draw_proved_(const struct qolb_core *core, struct qolb_ticket *ticket) {
     const struct lock *lock = of(core);
     if (!is(lock, ticket, BIT(FREE))) return QOLB_MISUSE;
     uint64_t number = atomic_load(&lock->words[TAIL]), cell = atomic_load(cell_of(lock, number)), tail = number;
@@ -191,9 +191,9 @@ uint32_t qolb_core_check_open_proved_(const struct qolb_core *core, struct qolb_
                                                   : in_state(ticket, QOLB_TICKET_SERVED_, QOLB_GRANTED);
 }
 
-uint32_t qolb_core_ask_open_proved_(const struct qolb_core *core, struct qolb_ticket *ticket) {
+uint32_t qolb_core_draw_and_check_proved_(const struct qolb_core *core, struct qolb_ticket *ticket) {
     if (of(core)->barging > 1) return QOLB_MISUSE;
-    uint32_t got = qolb_core_ask_proved_(core, ticket);
+    uint32_t got = qolb_core_draw_proved_(core, ticket);
     return got == QOLB_GRANTED ? qolb_core_check_open_proved_(core, ticket) : got;
 }
 
@@ -203,7 +203,7 @@ static uint32_t found(struct qolb_ticket *ticket, uint64_t lock_word, uint32_t a
     return answer;
 }
 
-uint32_t qolb_core_go_in_proved_(const struct qolb_core *core, struct qolb_ticket *ticket) {
+uint32_t qolb_core_barge_proved_(const struct qolb_core *core, struct qolb_ticket *ticket) {
     const struct lock *lock = of(core);
     if (lock->barging <= 1 || !is(lock, ticket, BIT(FREE))) return QOLB_MISUSE;
     uint64_t guess = ticket->lock_word, in = guess + NEWCOMER + HELD;
@@ -215,7 +215,7 @@ uint32_t qolb_core_go_in_proved_(const struct qolb_core *core, struct qolb_ticke
     return in_state(ticket, QOLB_TICKET_INSIDE_, QOLB_GRANTED);
 }
 
-uint32_t qolb_core_take_outer_proved_(const struct qolb_core *core, struct qolb_ticket *ticket) {
+uint32_t qolb_core_take_lock_word_proved_(const struct qolb_core *core, struct qolb_ticket *ticket) {
     const struct lock *lock = of(core);
     if (lock->barging <= 1 || !is(lock, ticket, BIT(AT_TURN))) return QOLB_MISUSE;
     uint64_t was = atomic_load(lock_word_at(lock)), in = (was & SHUT) + HELD;
@@ -227,7 +227,7 @@ uint32_t qolb_core_take_outer_proved_(const struct qolb_core *core, struct qolb_
                      : in_state(ticket, QOLB_TICKET_HEAD_INSIDE_, QOLB_GRANTED);
 }
 
-uint32_t qolb_core_leave_proved_(const struct qolb_core *core, struct qolb_ticket *ticket) {
+uint32_t qolb_core_leave_lock_word_proved_(const struct qolb_core *core, struct qolb_ticket *ticket) {
     const struct lock *lock = of(core);
     if (!is(lock, ticket, BIT(INSIDE) | BIT(INSIDE_SHUT))) return QOLB_MISUSE;
     uint64_t guess = ticket->lock_word, was = guess, to = guess / SHUT * SHUT;

@@ -1,7 +1,7 @@
-/* What the model checker's build of the lock has in place of the numbers of c/src/lock/lock.h (../explore_lock.py, which
- * includes this file before each of the library's and sets WIDTH). There is less room, and there are fewer looks before
- * the same decisions. What limits tickets is by scenes, and so is the memory for entries. All tasks have one key. Each
- * thread's data are where lock_scenes.c has them, as the model has several threads in one. */
+/* What the model checker's build of the lock has in place of the numbers of c/src/lock/lock.h (../explore_lock.py,
+ * which includes this file before each of the library's and sets WIDTH). There is less room, and there are fewer looks
+ * before the same decisions. What limits tickets is by scenes, and so is the memory for entries. All tasks have one
+ * key. Each thread's data are where lock_scenes.c has them, as the model has several threads in one. */
 #ifndef EXPLORED_H
 #define EXPLORED_H
 
@@ -33,7 +33,8 @@ void hook_takes_outer(uint64_t label);
 void hook_head_sleeps(const struct qolb_ticket *ticket);
 void hook_is_head(const struct qolb_ticket *ticket);
 
-/* A fault must be found by the scenes alone, so that the library with it has no invariants (UNCHECKED). In explorer.c. */
+/* A fault must be found by the scenes alone, so that the library with it has no invariants (UNCHECKED). In explorer.c.
+ * */
 void must(int is_so, const char *what);
 #ifdef UNCHECKED
 #define INVARIANT(it) ((void)sizeof !(it))

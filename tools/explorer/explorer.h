@@ -66,8 +66,8 @@ void time_goes_on(uint64_t by);
 /* The time is over of all that sleep for a time: how many. */
 int times_out(void);
 
-/* For proved_line.c: another thread may be next; an access, which must follow all that it races with; all stores of this
- * thread are seen; what happened before, as a call takes it over or hands it on. */
+/* For proved_line.c: another thread may be next; an access, which must follow all that it races with; all stores of
+ * this thread are seen; what happened before, as a call takes it over or hands it on. */
 void step(int yields);
 void touch(const volatile void *where, unsigned size, int how);
 void show_all(void);

@@ -72,7 +72,7 @@ FAULTS = {
     "a call whose time is over asks until it is too far": (1, "two look in", (ENTER, "draw", "got == QOLB_BUSY; k++", "got != QOLB_FAR_; k++")),
     "who goes in after a nap waits for the lock word": (1, "barging: crowded: two are late", (ENTER, "finish", "    if (ticket_of(my)->state == QOLB_TICKET_AT_TURN_)\n", "    if (got == QOLB_GRANTED)\n")),
     "a call whose time is over draws a ticket that it can't withdraw": (1, "far: two look in", (ENTER, "draw", "    if (!is_over(my->until))\n        return", "    return")),
-    "a call with a timeout draws a ticket while too many are open": (1, "far: crowded", (ENTER, "draw", "has_room(my->lock) ? qolb_core_ask_proved_(core_of(my), ticket_of(my)) : (uint32_t)QOLB_FAR_", "qolb_core_ask_proved_(core_of(my), ticket_of(my))")),
+    "a call with a timeout draws a ticket while too many are open": (1, "far: crowded", (ENTER, "draw", "has_room(my->lock) ? qolb_core_draw_proved_(core_of(my), ticket_of(my)) : (uint32_t)QOLB_FAR_", "qolb_core_draw_proved_(core_of(my), ticket_of(my))")),
     "who waited and is told of a shut holds the lock": (1, "one enters until", (ENTER, "go_on", "    if (got == QOLB_GRANTED) hold_by", "    if (got == QOLB_GRANTED || my.waits) hold_by")),
     "who went in before and is told of a shut holds the lock": (1, "barging: one enters until", (ENTER, "go_on", "    if (got == QOLB_GRANTED) hold_by", "    hold_by")),
     # Spinning before a ticket is drawn, yields, and the queue head's request.
@@ -95,7 +95,7 @@ FAULTS = {
     "a shut is told to nobody by the core": (1, "", (LEAVE, "qolb_shut_at_", "    qolb_core_shut_proved_(&lock->core, &at->ticket);\n", "")),
     "a shut tells nobody at a condition": (1, "", (LEAVE, "qolb_shut_at_", "    qolb_tell_shut_(lock);\n", "")),
     "a shut leaves nothing": (1, "", (LEAVE, "qolb_shut_at_", "    qolb_leave_at_(lock, at);\n", "")),
-    "a lock is destroyed while it is held": (1, "", (LEAVE, "qolb_lock_destroy", "    if (qolb_core_try_ask_proved_(&lock->core, &at->ticket) != QOLB_GRANTED) return QOLB_BUSY;\n", "    if (qolb_core_ask_proved_(&lock->core, &at->ticket) != QOLB_GRANTED) return __atomic_store_n(&lock->core.at, NULL, __ATOMIC_SEQ_CST), QOLB_DONE;\n")),
+    "a lock is destroyed while it is held": (1, "", (LEAVE, "qolb_lock_destroy", "    if (qolb_core_try_draw_proved_(&lock->core, &at->ticket) != QOLB_GRANTED) return QOLB_BUSY;\n", "    if (qolb_core_draw_proved_(&lock->core, &at->ticket) != QOLB_GRANTED) return __atomic_store_n(&lock->core.at, NULL, __ATOMIC_SEQ_CST), QOLB_DONE;\n")),
     "a barging lock is destroyed while one is in": (1, "barging", (LEAVE, "is_alone", "got == QOLB_WAITING || ", ""), (LEAVE, "is_alone", "return got == QOLB_GRANTED ||", "return got != QOLB_CLOSED ||")),
     "a lock is destroyed while it has threads without a ticket": (2, "one closes beside", (LEAVE, "is_alone", " || atomic_load(&lock->without_ticket)", "")),
     "a lock is destroyed without a look at who asked after": (2, "one signals and frees", (LEAVE, "is_alone", " || tail_word(lock) != at->ticket.number + 1", "")),
@@ -185,7 +185,7 @@ FAULTS = {
     "a task that gives up near leaves its entry": (1, "tasks", (TASKS, "withdraw", "    *gone = e;\n", "    put_in(&qolb_tasks_, list_for(e), e);\n    *gone = e;\n")),
     "a task that gives up far is withdrawn": (1, "far: tasks", (TASKS, "withdraw", "e->number != HEAD && rounds_to_go(e->lock, e->number) > MOST_ROUNDS_NEAR", "0")),
     "a task that gives up as the queue head retracts a sleep": (1, "barging: tasks", (TASKS, "ticket_out", "    return e->number == HEAD ? kept_ticket(e->lock, e->task->number, QOLB_TICKET_AT_TURN_) : retracted(e);\n", "    if (e->number == HEAD) e->number = e->task->number;\n    return retracted(e);\n")),
-    "a task draws its ticket before its entry is allocated": (1, "tasks: no memory", (TASKS, "draw_and_stand", "    struct entry *e = has_room(me->lock)", "    qolb_core_ask_proved_(&me->lock->core, ticket);\n    struct entry *e = has_room(me->lock)"), (TASKS, "draw_and_stand", "    qolb_core_ask_proved_(&me->lock->core, ticket);\n    me->number", "    me->number")),
+    "a task draws its ticket before its entry is allocated": (1, "tasks: no memory", (TASKS, "draw_and_stand", "    struct entry *e = has_room(me->lock)", "    qolb_core_draw_proved_(&me->lock->core, ticket);\n    struct entry *e = has_room(me->lock)"), (TASKS, "draw_and_stand", "    qolb_core_draw_proved_(&me->lock->core, ticket);\n    me->number", "    me->number")),
     "a task draws a ticket while too many are open": (1, "tasks: crowded", (TASKS, "draw_and_stand", "has_room(me->lock) ? qolb_new_entry_(me->lock, me) : NULL", "qolb_new_entry_(me->lock, me)")),
     "a task waits before its state says so": (2, "tasks: a task each", (TASKS, "draw_and_stand", "    atomic_store(&me->state, WAITS);\n", ""), (TASKS, "draw_and_stand", "    if (stand_for(e, ticket) == QOLB_WAITING) return QOLB_WAITING;\n", "    if (stand_for(e, ticket) == QOLB_WAITING) return atomic_store(&me->state, WAITS), QOLB_WAITING;\n")),
     "a task's shut is told to nobody at a condition": (1, "tasks", (TASKS, "leave", "qolb_shut_at_(lock, &at);", "qolb_core_shut_proved_(&lock->core, &at.ticket), qolb_leave_at_(lock, &at);")),
@@ -221,7 +221,7 @@ FAULTS = {
     "the stand-in: its blocks come in another order": (0, "", ("core.c", "qolb_core_open_proved_", "qolb_malloc_(WORDS * sizeof *words)", "qolb_malloc_(sizeof(struct lock))")),
     "the stand-in: who is next has its turn": (0, "", ("core.c", "looks", "ticket->rounds = to_go(cell, ticket->number);", "ticket->rounds = to_go(cell, ticket->number) / 2;")),
     "the stand-in: the second and the third ticket are exchanged": (0, "", ("core.c", "draws", "    ticket->number = number;\n", "    ticket->number = number == 1 || number == 2 ? 3 - number : number;\n")),
-    "the stand-in: the barging limit is two more": (1, "barging", ("core.c", "qolb_core_leave_proved_", "guess / NEWCOMER + 1 >= lock->barging", "guess / NEWCOMER > lock->barging")),
+    "the stand-in: the barging limit is two more": (1, "barging", ("core.c", "qolb_core_leave_lock_word_proved_", "guess / NEWCOMER + 1 >= lock->barging", "guess / NEWCOMER > lock->barging")),
 }
 
 # Most turns of the schedule, the beginning of the scenes' names, the beginning of the invariant that is broken then, and the edits.

@@ -89,8 +89,8 @@ UNSEEN void ends_call(void) {
     order[me].in_call = order[me].waits = order[me].yields = order[me].hurries = 0;
 }
 
-/* With a barging limit of B at most B - 1 later calls go first, which drew no ticket, until a thread goes that was there
- * before. */
+/* With a barging limit of B at most B - 1 later calls go first, which drew no ticket, until a thread goes that was
+ * there before. */
 UNSEEN static void enters_turn(void) {
     int me = who(), barging = (int)lock_of(it.lock)->limit, later = barging ? barging - 1 : 0;
     for (int k = 0; k <= THREADS; k++) {

@@ -2,8 +2,9 @@
  *
  * A waiter is in two lists, by an entry on its stack: that of the condition, under a guard, from whose front a signal
  * takes one; and that of the lock, under the lock itself, by which a shut tells all. It sleeps on a word of its entry,
- * which is set once. It is counted as a thread without a ticket from before it leaves the lock until it has one again: so the
- * lock is not destroyed meanwhile. Who is told of a shut asks, too, and is answered CLOSED at its turn: the shut is over by then. */
+ * which is set once. It is counted as a thread without a ticket from before it leaves the lock until it has one again:
+ * so the lock is not destroyed meanwhile. Who is told of a shut asks, too, and is answered CLOSED at its turn: the shut
+ * is over by then. */
 #include "entries.h"
 
 enum { NOTHING, SIGNALLED, SHUT };

@@ -1,13 +1,14 @@
 /* Entering a lock, from the call until the thread holds it (lock.h). Tested and explored, not proved.
  *
- * A strict lock: draw a ticket; from that step on the call is in the order. Wait for its turn, and look whether the lock
- * is open. A barging lock: take the lock word as a barging thread, if that is free for anyone, or becomes free while the
- * thread spins; else draw a ticket, wait for its turn, take the lock word as the queue head, and release the turn of the
- * queue.
+ * A strict lock: draw a ticket; from that step on the call is in the order. Wait for its turn, and look whether the
+ * lock is open. A barging lock: take the lock word as a barging thread, if that is free for anyone, or becomes free
+ * while the thread spins; else draw a ticket, wait for its turn, take the lock word as the queue head, and release the
+ * turn of the queue.
  *
  * A waiter polls, spins by spin.h, and then announces its sleep by a proved call, whose answer has the value to sleep
  * at. It sleeps while the word has that value, retracts, and looks again. The thread that grants is told by the same
- * step how many sleep there, and wakes them by address, unless nobody waits for the ticket. There is no other handshake.
+ * step how many sleep there, and wakes them by address, unless nobody waits for the ticket. There is no other
+ * handshake.
  *
  * A call that times out withdraws, or abandons its ticket if its turn is too far for that. A call that may not wait
  * draws a ticket only if that can be withdrawn. While too many requests are open a call with a timeout draws none: it
@@ -53,14 +54,14 @@ FAST enum qolb_result qolb_lock_enter(qolb_lock *of) {
     struct turn *at = home_of(lock_of(of));
     if (!likely(is_at(at, lock_of(of), LAST))) return enter_or_try(lock_of(of), FOR_EVER, QOLB_MISUSE);
     if (!likely(!is_barging(lock_of(of)))) return barge(at);
-    uint32_t got = qolb_core_ask_open_proved_(&lock_of(of)->core, &at->ticket);
+    uint32_t got = qolb_core_draw_and_check_proved_(&lock_of(of)->core, &at->ticket);
     if (!likely(got == QOLB_GRANTED)) return go_on(at, got);
     at->core += HELD - LAST;
     return got;
 }
 
 static uint32_t barge(struct turn *at) {
-    uint32_t got = qolb_core_go_in_proved_(&lock_by(at)->core, &at->ticket);
+    uint32_t got = qolb_core_barge_proved_(&lock_by(at)->core, &at->ticket);
     if (!likely(got == QOLB_GRANTED)) return go_on(at, got);
     at->core += HELD - LAST;
     return got;
@@ -116,7 +117,7 @@ static void count_out(struct request *my) {
 /* Takes the lock word as a barging thread, if it is free for anyone. */
 static int goes_in(struct lock *lock, struct turn *at) {
     for (int k = 0; k < TRIES; k++) {
-        if (qolb_core_go_in_proved_(&lock->core, &at->ticket) == QOLB_GRANTED) return 1;
+        if (qolb_core_barge_proved_(&lock->core, &at->ticket) == QOLB_GRANTED) return 1;
         if (at->ticket.lock_word & (WORD_STATE | LAYOUT_SHUT)) return 0;
     }
     return 0;
@@ -141,10 +142,10 @@ static int barges(struct request *my) {
 /* Draws a ticket: GRANTED and it is at its turn, WAITING, or, with a timeout, FAR: without a ticket. */
 static uint32_t draw(struct request *my) {
     uint32_t got = QOLB_BUSY;
-    if (my->until == FOR_EVER) return qolb_core_ask_proved_(core_of(my), ticket_of(my));
+    if (my->until == FOR_EVER) return qolb_core_draw_proved_(core_of(my), ticket_of(my));
     if (!is_over(my->until))
-        return has_room(my->lock) ? qolb_core_ask_proved_(core_of(my), ticket_of(my)) : (uint32_t)QOLB_FAR_;
-    for (int k = 0; k < DRAWS && got == QOLB_BUSY; k++) got = qolb_core_ask_near_proved_(core_of(my), ticket_of(my));
+        return has_room(my->lock) ? qolb_core_draw_proved_(core_of(my), ticket_of(my)) : (uint32_t)QOLB_FAR_;
+    for (int k = 0; k < DRAWS && got == QOLB_BUSY; k++) got = qolb_core_draw_near_proved_(core_of(my), ticket_of(my));
     return got == QOLB_BUSY ? (uint32_t)QOLB_FAR_ : got;
 }
 
@@ -157,8 +158,8 @@ static uint32_t ask(struct request *my) {
 uint32_t qolb_try_at_(struct lock *lock, struct turn *at) {
     uint32_t got = QOLB_BUSY;
     if (is_barging(lock) && goes_in(lock, at)) return QOLB_GRANTED;
-    if (qolb_core_try_ask_proved_(&lock->core, &at->ticket) == QOLB_GRANTED)
-        got = is_barging(lock) ? qolb_core_take_outer_proved_(&lock->core, &at->ticket)
+    if (qolb_core_try_draw_proved_(&lock->core, &at->ticket) == QOLB_GRANTED)
+        got = is_barging(lock) ? qolb_core_take_lock_word_proved_(&lock->core, &at->ticket)
                                : qolb_core_check_open_proved_(&lock->core, &at->ticket);
     if (got == QOLB_BUSY || got == QOLB_WAITING) got = closed_or(QOLB_BUSY, lock);
     qolb_settle_(lock, at);
@@ -278,8 +279,8 @@ static uint32_t wait_for_turn(struct request *my) {
 /* ---- Waiting for the lock word, as the queue head ----
  *
  * It announces its sleep there, and the leaving thread is told. It takes the word when that is reserved for it, or when
- * that is free, and no barging thread came since its last look: so barging threads may go first. It requests the handoff
- * once it was overtaken, and has found the word held for 2 us; or a millisecond after it first slept. */
+ * that is free, and no barging thread came since its last look: so barging threads may go first. It requests the
+ * handoff once it was overtaken, and has found the word held for 2 us; or a millisecond after it first slept. */
 
 /* How the queue head has watched the lock word. */
 struct watch {
@@ -327,7 +328,7 @@ static uint32_t wait_for_lock_word(struct request *my) {
     for (;; word = lock_word_of(my->lock)) {
         INVARIANT(ticket_of(my)->state == QOLB_TICKET_AT_TURN_);
         if (may_take(&watch, word)) {
-            uint32_t got = qolb_core_take_outer_proved_(core_of(my), ticket_of(my));
+            uint32_t got = qolb_core_take_lock_word_proved_(core_of(my), ticket_of(my));
             if (got != QOLB_WAITING) return got;
         } else if (is_over(my->until)) {
             return closed_or(QOLB_TIMEDOUT, my->lock);

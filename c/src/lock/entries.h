@@ -2,7 +2,8 @@
  * neighbours: abandoned.c has those of calls that timed out, tasks.c those of tasks.
  *
  * An entry is put into its list, and then announces its ticket's sleep by the proved call. So a thread that grants the
- * ticket is told of a sleeper, looks, and finds the entry. If the ticket is at its turn already, the entry is taken out.
+ * ticket is told of a sleeper, looks, and finds the entry. If the ticket is at its turn already, the entry is taken
+ * out.
  *
  * A thread that grants has the lock's address and label: the lock may no longer exist. While an entry is in, its lock
  * lives. An entry of a younger lock at that address has another label: it is left to who grants there. A thread that
@@ -32,7 +33,8 @@ static inline void put_last(struct link **list, struct link *it) {
     __atomic_store_n(list, it, __ATOMIC_SEQ_CST);
 }
 
-/* Takes out the one behind this. A thread that looks at the list without its guard may find it there a moment longer. */
+/* Takes out the one behind this. A thread that looks at the list without its guard may find it there a moment longer.
+ * */
 static inline struct link *take_behind(struct link **list, struct link *before) {
     struct link *it = before->next;
     if (last_of(list) == it) __atomic_store_n(list, it == before ? NULL : before, __ATOMIC_RELEASE);

@@ -5,9 +5,9 @@
  * pointer to the lock, but for one that an entry gives it: while an entry is in its list, its lock exists.
  *
  * A release is told how many sleep at the cell of the granted ticket. It wakes them, unless no thread waits for the
- * ticket: one that a call abandoned, or a task gave up, is passed on; a task is due, and its call is made. A thread that
- * slept for its turn wakes the waiter behind the next one as well, if others sleep there: that thread gets up during the
- * critical section before its own.
+ * ticket: one that a call abandoned, or a task gave up, is passed on; a task is due, and its call is made. A thread
+ * that slept for its turn wakes the waiter behind the next one as well, if others sleep there: that thread gets up
+ * during the critical section before its own.
  *
  * A thread that is told that the lock is shut passes its turn on. Destroying is a try that finds nobody: no holder, no
  * waiter, and no thread without a ticket in a call. */
@@ -35,12 +35,12 @@ FAST enum qolb_result qolb_lock_leave(qolb_lock *of) {
 }
 
 static uint32_t leave_barging(struct turn *at) {
-    uint32_t got = qolb_core_leave_proved_(&lock_by(at)->core, &at->ticket);
+    uint32_t got = qolb_core_leave_lock_word_proved_(&lock_by(at)->core, &at->ticket);
     return likely(got == QOLB_DONE && !at->ticket.head_sleeps) ? got : leave_on(at, got, 1);
 }
 
-/* In the thread's own place for the lock, after a proved call that answered this: MISUSE, UNFINISHED, BUSY; or DONE, and
- * the lock may no longer exist. */
+/* In the thread's own place for the lock, after a proved call that answered this: MISUSE, UNFINISHED, BUSY; or DONE,
+ * and the lock may no longer exist. */
 SLOW static uint32_t leave_on(struct turn *at, uint32_t got, int barging) {
     struct lock *lock = lock_by(at);
     if (got == QOLB_MISUSE) {
@@ -99,7 +99,7 @@ void qolb_end_turn_(struct lock *lock, struct turn *at, uint32_t got) {
 static void leave_lock_word(struct lock *lock, struct turn *at, uint32_t got) {
     struct released it = released_of(lock, at);
     struct granted head = {.key = 0};
-    while (got == QOLB_BUSY) got = qolb_core_leave_proved_(&lock->core, &at->ticket);
+    while (got == QOLB_BUSY) got = qolb_core_leave_lock_word_proved_(&lock->core, &at->ticket);
     INVARIANT(got == QOLB_DONE);
     if (!at->ticket.head_sleeps) return;
     if (!has_entries(&qolb_tasks_, it.lock) || qolb_find_task_(&it, HEAD, &head) == NOBODY)
@@ -179,9 +179,9 @@ enum qolb_result qolb_lock_destroy(qolb_lock *of) {
     struct turn turn = {0}, *at = &turn;
     if (!own_of(lock)) return QOLB_DONE;
     if (!is_open(lock) || qolb_holds_(lock)) return QOLB_BUSY;
-    if (qolb_core_try_ask_proved_(&lock->core, &at->ticket) != QOLB_GRANTED) return QOLB_BUSY;
+    if (qolb_core_try_draw_proved_(&lock->core, &at->ticket) != QOLB_GRANTED) return QOLB_BUSY;
     int alone = is_alone(lock, at,
-                         is_barging(lock) ? qolb_core_take_outer_proved_(&lock->core, &at->ticket)
+                         is_barging(lock) ? qolb_core_take_lock_word_proved_(&lock->core, &at->ticket)
                                           : qolb_core_check_open_proved_(&lock->core, &at->ticket));
     qolb_pass_on_(lock, at);
     if (at->ticket.state != QOLB_TICKET_FREE_) leave_lock_word(lock, at, QOLB_BUSY);

@@ -33,7 +33,7 @@
 #ifndef EXPLORED
 enum {
     TICKETS_IN_ROUND = LAYOUT_CELLS,
-    MOST_ROUNDS_NEAR = LAYOUT_MAX_ROUNDS_NEAR, /* rounds to go, from which a request can be withdrawn */
+    MOST_ROUNDS_NEAR = LAYOUT_WITHDRAWAL_WINDOW, /* rounds to go, from which a request can be withdrawn */
     MOST_OPEN = 12288, /* requests when a ticket with a timeout is drawn: one release passes them in 2 ms */
     MOST_OPEN_ROUNDS = MOST_OPEN / TICKETS_IN_ROUND,
     MOST_HELD = 8,            /* locks for which a thread's table has room */
@@ -113,7 +113,7 @@ static inline uint64_t *spare_of(struct lock *lock, enum spare which) {
 enum { WORD_STATE = LAYOUT_HELD | LAYOUT_RESERVED };
 
 static inline uint64_t load_word(const uint64_t *word) { return __atomic_load_n(word, __ATOMIC_SEQ_CST); }
-static inline uint64_t lock_word_of(const struct lock *lock) { return load_word(words_of(lock) + LAYOUT_OUTER_WORD); }
+static inline uint64_t lock_word_of(const struct lock *lock) { return load_word(words_of(lock) + LAYOUT_LOCK_WORD); }
 
 /* The next ticket's number. */
 static inline uint64_t tail_word(const struct lock *lock) { return load_word(words_of(lock) + LAYOUT_TAIL_WORD); }
@@ -128,7 +128,7 @@ static inline uint64_t *cell_of(uint64_t *words, uint64_t number) {
 }
 
 /* The 32 bits at which the queue head sleeps, and those of a ticket's cell at which a waiter sleeps, in its class. */
-static inline uint32_t *lock_word_half(uint64_t *words) { return (uint32_t *)(words + LAYOUT_OUTER_WORD); }
+static inline uint32_t *lock_word_half(uint64_t *words) { return (uint32_t *)(words + LAYOUT_LOCK_WORD); }
 static inline uint32_t *cell_half(uint64_t *words, uint64_t number) { return (uint32_t *)cell_of(words, number) + 1; }
 static inline uint32_t class_of(uint64_t number) {
     return (uint32_t)1 << number / TICKETS_IN_ROUND % CLASSES_OF_SLEEPERS;
@@ -272,8 +272,8 @@ HIDDEN void qolb_free_guards_(void);
 HIDDEN void qolb_end_turn_(struct lock *lock, struct turn *at, uint32_t got);
 static inline void qolb_pass_on_(struct lock *lock, struct turn *at) { qolb_end_turn_(lock, at, QOLB_UNFINISHED_); }
 
-/* Passes on what a call that entered is not to keep, by the ticket's state: the turn of the queue of a queue head, and a
- * turn at which it is told that the lock is shut. After that the lock may no longer exist. */
+/* Passes on what a call that entered is not to keep, by the ticket's state: the turn of the queue of a queue head, and
+ * a turn at which it is told that the lock is shut. After that the lock may no longer exist. */
 HIDDEN void qolb_settle_(struct lock *lock, struct turn *at);
 
 /* Leaves; and shuts before. Afterwards the lock may no longer exist. */
@@ -282,8 +282,8 @@ HIDDEN void qolb_shut_at_(struct lock *lock, struct turn *at);
 
 /* ---- enter.c ---- */
 
-/* Enters by a turn that has no request, which may be in no table, until this time of CLOCK_MONOTONIC: GRANTED, TIMEDOUT,
- * CLOSED. It counts itself out of the lock's threads without a ticket, if it is counted. */
+/* Enters by a turn that has no request, which may be in no table, until this time of CLOCK_MONOTONIC: GRANTED,
+ * TIMEDOUT, CLOSED. It counts itself out of the lock's threads without a ticket, if it is counted. */
 HIDDEN uint32_t qolb_enter_at_(struct lock *lock, struct turn *at, uint64_t until, int is_counted);
 
 /* The same, without waiting: GRANTED, BUSY, CLOSED. */

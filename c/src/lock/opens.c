@@ -18,7 +18,7 @@ static void open_core(struct lock *lock) {
     atomic_init(&lock->without_ticket, 0);
     struct core_arena arena = {{words_of(lock), spare_of(lock, SLOTS), lock->block}, 0};
     qolb_core_arena_ = &arena;
-    uint64_t limit = lock->limit < LAYOUT_MAX_BURST ? lock->limit : LAYOUT_MAX_BURST;
+    uint64_t limit = lock->limit < LAYOUT_MAX_BARGING_LIMIT ? lock->limit : LAYOUT_MAX_BARGING_LIMIT;
     (void)qolb_core_open_proved_(limit, lock->label, &core);
     qolb_core_arena_ = NULL;
     if (core.at != lock->block || arena.taken != CORE_BLOCKS) __builtin_trap();

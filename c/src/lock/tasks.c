@@ -37,7 +37,7 @@ static struct qolb_ticket ticket_out(struct entry *e) {
 static int waits_on(struct entry *e, struct qolb_ticket *ticket) {
     const struct qolb_core *core = &e->lock->core;
     INVARIANT(ticket->state == QOLB_TICKET_AT_TURN_ && e->task);
-    if (!is_barging(e->lock) || qolb_core_take_outer_proved_(core, ticket) != QOLB_WAITING) return 0;
+    if (!is_barging(e->lock) || qolb_core_take_lock_word_proved_(core, ticket) != QOLB_WAITING) return 0;
     e->number = HEAD;
     GHOST(hook_is_head(ticket));
     put_in(&qolb_tasks_, list_for(e), e);
@@ -45,7 +45,7 @@ static int waits_on(struct entry *e, struct qolb_ticket *ticket) {
         if (qolb_core_request_handoff_proved_(core, ticket) == QOLB_DONE &&
             qolb_core_announce_head_sleep_proved_(core, ticket) == QOLB_ASLEEP_)
             return 1;
-    } while (qolb_core_take_outer_proved_(core, ticket) == QOLB_WAITING);
+    } while (qolb_core_take_lock_word_proved_(core, ticket) == QOLB_WAITING);
     take_out(&qolb_tasks_, list_for(e), find_before(list_for(e), (uintptr_t)e->lock, e->number));
     return 0;
 }
@@ -92,8 +92,8 @@ static void hold(struct task *me, const struct turn *at) {
     atomic_store(&me->state, HOLDS);
 }
 
-/* The task's turn, which is due: GRANTED or CLOSED. A task that is told CLOSED is idle before it passes its turn on: the
- * call of another task may enter with it. */
+/* The task's turn, which is due: GRANTED or CLOSED. A task that is told CLOSED is idle before it passes its turn on:
+ * the call of another task may enter with it. */
 static uint32_t settle(struct task *me) {
     struct lock *lock = me->lock;
     struct turn at = {.ticket = kept_ticket(lock, me->number, me->turn)};
@@ -132,7 +132,7 @@ static uint32_t draw_and_stand(struct task *me, struct qolb_ticket *ticket) {
     me->entry = e;
     atomic_store(&me->state, WAITS);
     qolb_tell_release_(&me->callback); /* another thread may list it */
-    qolb_core_ask_proved_(&me->lock->core, ticket);
+    qolb_core_draw_proved_(&me->lock->core, ticket);
     me->number = ticket->number;
     if (stand_for(e, ticket) == QOLB_WAITING) return QOLB_WAITING;
     me->turn = ticket->state;
