@@ -1,7 +1,5 @@
 //! Replays of schedules: what is said of each command, and then of each line.
-ghost use Rattle.std.specs.Prelude.{◌≡◌, ◌≢◌, ◌⊎◌, ◌↔◌, ℕ, List, length, ◌≤◌, true, false, Ok, Err, OnOk, IfOk, IfErr, IfSome};
-ghost use Rattle.std.specs.Io.KnownBytes.{Appends};
-ghost use Rattle.qolb_script.specs.Watched.{inner_of, has_failed};
+ghost use Rattle.std.specs.Prelude.{◌≡◌, ℕ, List, length, Ok, Err, IfOk, IfErr};
 ghost use Rattle.qolb_script.specs.Reply.{config_of, replay_start, reply_of, reply_to};
 ghost use Rattle.qolb_model.specs.Opening.{MayOpen};
 ghost use Rattle.qolb_model.specs.Plain.{PlainView, Agrees};
@@ -9,7 +7,7 @@ ghost use Rattle.qolb_model.specs.OneOwner.{OwnerState};
 ghost use Rattle.qolb_model.specs.Whole.{ViewAndTurn, AreSynced};
 ghost use Rattle.qolb_replay.specs.Tallies.{AreLinesOf};
 ghost use Rattle.qolb_replay.specs.declared.replay.ReplayError.TheVariants.{Memory, Write};
-ghost use Rattle.qolb_replay.specs.Outcome.{IsReply, ReplayMayFail, HasNoReply, script_error};
+ghost use Rattle.qolb_replay.specs.Outcome.{IsReply, ReplayMayFail, HasNoReply, Runs, script_error};
 
 use crate::input::read_all;
 use crate::line::{CountingLine, PortedLine, ReplayLine};
@@ -97,17 +95,8 @@ pub fn run_schedule_over<L: OpenLine<Free> + Drop, R: Read, W: Write>(
 ) -> Result<(), ReplayError>
 where
     L::Port: Drop,
-    ensures ok { OnOk result (IfSome (R.remaining (inner_of reader.old)) (λ input.
-        (text : List ℕ) × IsReply input text
-        × Appends (W.contents (inner_of writer.old)) (W.contents (inner_of writer.new)) text)) }
-    ensures refused { IfErr result (λ error.
-        IfSome (R.remaining (inner_of reader.old)) (λ input. ReplayMayFail input error)) }
-    ensures unwritten { IfErr result (λ error. error ≢ ReplayError.Write
-        → writer.new ≡ writer.old) }
-    ensures read_fault { (result ≡ Err ReplayError.Read) ↔ (has_failed reader.new ≡ true) }
-    ensures write_fault { result ≡ Err ReplayError.Write → has_failed writer.new ≡ true }
-    ensures written { OnOk result (has_failed writer.new ≡ false) }
-    ensures memory { result ≢ Err (ReplayError.Script ScriptError.Memory) }
+    ensures { Runs R.remaining W.contents IsReply ReplayMayFail
+        reader.old reader.new writer.old writer.new result }
 {
     let input = read_all(alloc, reader)?;
     let text = answered_over::<Global, L>(alloc, alloc, input.as_slice())?;

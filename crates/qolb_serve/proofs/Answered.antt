@@ -1,6 +1,5 @@
 -- The meaning of an outcome for its subcommand.
 use Rattle.std.proofs.Common.{◌≡◌, ℕ, List, Option, Some, None, IfSome, inl, inr, subst, arith}
-use Rattle.qolb_run.specs.declared.each_lock.AnyKind.TheVariants.{Plain}
 use Rattle.qolb_run.specs.declared.task.TaskError.{TaskError}
 use Rattle.qolb_run.specs.declared.task.TaskError.TheVariants as ending
 use Rattle.qolb_replay.specs.declared.steps.Detail.TheVariants.{Words}
@@ -22,7 +21,7 @@ fault task (ending.Stalled worker) input h one = absurd (omega arith)
 
 denied : (subcommand : Subcommand) (e : TaskError) (input : List ℕ) → MayDeny subcommand input e → status_of e ≡ 1 → IsDenied subcommand input
 denied (Answer task) e input h one = fault task e input h one
-denied (Draw form) e input h one = fault (Replay Plain) e input h one
+denied (Draw form) e input h one = fault (Replay None) e input h one
 denied (DrawSteps form) e input h one = fault (Steps Words) e input h one
 
 -- a script that was read is refused, if the status is 1

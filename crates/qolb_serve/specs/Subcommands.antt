@@ -1,9 +1,8 @@
 -- The answer of a subcommand to the bytes on standard input.
-use Rattle.std.specs.Prelude.{◌≡◌, ℕ, Bool, true, false, List, [], Option}
+use Rattle.std.specs.Prelude.{◌≡◌, ℕ, Bool, true, false, List, [], Option, None}
 use Rattle.line_kinds.specs.declared.Lock.{Lock}
 use Rattle.qolb_script.specs.declared.report.Report.{Report}
 use Rattle.qolb_script.specs.WorkScript.{WorkScript}
-use Rattle.qolb_run.specs.declared.each_lock.AnyKind.TheVariants.{Plain}
 use Rattle.qolb_explain.specs.Notes.{AreStepNotes, schedule_notes}
 use Rattle.qolb_explain.specs.Reasons.{Complaint, schedule_complaint, steps_complaint, work_complaint}
 use Rattle.qolb_replay.specs.declared.steps.Detail.TheVariants.{Words}
@@ -37,13 +36,13 @@ AreNotesIf asked subcommand input text = (asked ≡ true → AreNotesOn subcomma
 -- the bytes are too many, or have a first fault; for a drawing the faults are those of a replay
 abbrev pub IsDenied : Subcommand → List ℕ → Type 0
 IsDenied (Answer task) input = IsRefused task input
-IsDenied (Draw form) input = IsRefused (Replay Plain) input
+IsDenied (Draw form) input = IsRefused (Replay None) input
 IsDenied (DrawSteps form) input = IsRefused (Steps Words) input
 
 -- when a subcommand may end with each error: as its task, and a drawing as the replay of the script
 abbrev pub MayDeny : Subcommand → List ℕ → TaskError → Type 0
 MayDeny (Answer task) input error = MayEnd task input error
-MayDeny (Draw form) input error = MayEnd (Replay Plain) input error
+MayDeny (Draw form) input error = MayEnd (Replay None) input error
 MayDeny (DrawSteps form) input error = MayEnd (Steps Words) input error
 
 -- the complaint about the bytes, as a script of the subcommand, if they are refused

@@ -7,7 +7,7 @@ ghost use Rattle.qolb_serve.specs.CommandLine.{KindNames, NamesFlag, NamesWish, 
 use clap::error::ErrorKind;
 use clap::{Arg, ArgAction, ArgMatches, Command, Error};
 use line_kinds::{LOCKS, Lock, NAMES, lock_names};
-use qolb_run::{AnyKind, Detail, Task, WaitMode};
+use qolb_run::{Detail, Task, WaitMode};
 use qolb_script::WorkKind;
 use qolb_shapes::Form;
 use std::alloc::{AllocError, Global};
@@ -271,18 +271,15 @@ fn task_of(name: &str, kind: Option<&str>, detail: Detail, waits: WaitMode) -> T
     } else if name == "bank" {
         Task::Work(WorkKind::Bank, lock_named(kind), waits)
     } else {
-        Task::Replay(kind_named(kind))
+        Task::Replay(replayed_by(kind))
     }
 }
 
-/// Returns the kind of this name.
-fn kind_named(name: Option<&str>) -> AnyKind
-    ensures { result ≡ spec.kind_of_name (option_map (λ n. n.now) name.entry) }
+/// Returns the lock of the lines that replay a schedule, by the name of their kind, or `None` for the plain reference.
+fn replayed_by(kind: Option<&str>) -> Option<Lock>
+    ensures { result ≡ spec.replayed_by (option_map (λ n. n.now) kind.entry) }
 {
-    match name.and_then(Lock::named) {
-        Some(lock) => AnyKind::Shared(lock),
-        None => AnyKind::Plain,
-    }
+    kind.and_then(Lock::named)
 }
 
 /// Returns the lock of this name.
