@@ -3,7 +3,7 @@ ghost use Rattle.std.specs.Prelude.{◌≡◌, ◌↔◌, IsOk};
 
 use anyhow::{bail, ensure};
 use line_kinds::{ALL, Lock};
-use qolb_run::{AlwaysOpen, AnyKind, KINDS, WaitMode, answer_work, run_schedule_with, run_steps};
+use qolb_run::{AlwaysOpen, REPLAYED, WaitMode, answer_work, run_schedule_with, run_steps};
 use qolb_script::{Watched, WorkKind};
 use std::alloc::Global;
 use std::sync::Wait;
@@ -34,7 +34,7 @@ pub fn compare<R: Threads + Wait + Sync>(
 ) -> anyhow::Result<()> {
     match form {
         Form::Schedule => {
-            for &kind in &KINDS {
+            for &kind in &REPLAYED {
                 let said = replay(alloc, script, kind)?;
                 expect(said.as_slice(), wanted)?;
             }
@@ -79,7 +79,7 @@ fn expect(said: &[u8], wanted: &[u8]) -> anyhow::Result<()>
 }
 
 /// The output of the schedule over lines of the kind.
-fn replay(alloc: Global, script: &[u8], kind: AnyKind) -> anyhow::Result<Vec<u8>> {
+fn replay(alloc: Global, script: &[u8], kind: Option<Lock>) -> anyhow::Result<Vec<u8>> {
     let mut said = Vec::new(alloc);
     let done = run_schedule_with(
         alloc,

@@ -2,7 +2,7 @@
 use crate::tests::rows::{expect, expect_at};
 use line_kinds::{ALL, Lock};
 use linked_list_allocator::LocalHeap;
-use qolb_run::{AnyKind, KINDS, Kind, ReplayError, read_all, run_schedule, run_schedule_with};
+use qolb_run::{Kind, REPLAYED, ReplayError, read_all, run_schedule, run_schedule_with};
 use qolb_script::{ScriptError, Watched};
 use std::alloc::Global;
 use std::io;
@@ -11,16 +11,16 @@ use std::test::Fail;
 
 #[test]
 fn kinds_are_the_plain_one_and_each_lock(rt: HostRuntime) -> Result<(), Fail> {
-    expect(&rt, "kinds", KINDS.len(), ALL.len() + 1);
-    expect(&rt, "the first", KINDS[0], AnyKind::Plain);
-    for (lock, kind) in ALL.iter().zip(KINDS.iter().skip(1)) {
-        expect(&rt, "a lock's kind", *kind, AnyKind::Shared(*lock));
+    expect(&rt, "kinds", REPLAYED.len(), ALL.len() + 1);
+    expect(&rt, "the first", REPLAYED[0], None);
+    for (lock, kind) in ALL.iter().zip(REPLAYED.iter().skip(1)) {
+        expect(&rt, "a lock's kind", *kind, Some(*lock));
     }
     Ok(())
 }
 
 /// The reply to the script.
-fn reply_to(alloc: Global, script: &str, kind: AnyKind) -> Result<String, Fail> {
+fn reply_to(alloc: Global, script: &str, kind: Option<Lock>) -> Result<String, Fail> {
     let mut reader = Watched::new(script.as_bytes());
     let mut text: Vec<u8> = Vec::new(alloc);
     run_schedule_with(alloc, &mut reader, &mut Watched::new(&mut text), kind)?;
@@ -36,7 +36,7 @@ fn the_longest_reply_is_whole(rt: HostRuntime) -> Result<(), Fail> {
     for _ in 1..100_000 {
         script.push_str("show 1 0\n")?;
     }
-    let reply = reply_to(rt.alloc(), script.as_str(), AnyKind::Plain)?;
+    let reply = reply_to(rt.alloc(), script.as_str(), None)?;
     let ends = "line 0 served 0 withdrawn 0 told 0 left 1\n";
     expect(&rt, "the begin", reply.starts_with("granted\n0000"), true);
     expect(&rt, "the end", reply.ends_with(ends), true);
@@ -72,7 +72,7 @@ fn the_longest_script_is_replayed_by_shared_lines(rt: HostRuntime) -> Result<(),
     let script = repeated(alloc, "nodes 1 lines 1\n", 50_000, turn, "")?;
     let summary = "line 0 served 50000 withdrawn 0 told 0 left 0\n";
     let wanted = repeated(alloc, "", 50_000, "granted\nreleased\n", summary)?;
-    let reply = reply_to(alloc, script.as_str(), AnyKind::Shared(Lock::Ring))?;
+    let reply = reply_to(alloc, script.as_str(), Some(Lock::Ring))?;
     expect(&rt, "the reply", reply == wanted, true);
     Ok(())
 }
@@ -157,7 +157,7 @@ static REPLIES: [(&str, &str); 14] = [
 #[test]
 fn answers_scripts(rt: HostRuntime) -> Result<(), Fail> {
     for (script, reply) in &REPLIES {
-        for kind in &KINDS {
+        for kind in &REPLAYED {
             expect(
                 &rt,
                 script,
@@ -213,7 +213,7 @@ fn passed_behind_one(alloc: Global) -> Result<String, Fail> {
 fn a_release_passes_199_withdrawn_nodes(rt: HostRuntime) -> Result<(), Fail> {
     let script = withdrawn_behind_one(rt.alloc())?;
     let reply = passed_behind_one(rt.alloc())?;
-    for kind in &KINDS {
+    for kind in &REPLAYED {
         let found = reply_to(rt.alloc(), script.as_str(), *kind)?;
         expect_at(&rt, kind, found.as_str(), reply.as_str());
     }
@@ -266,7 +266,7 @@ fn shows_what_holders_wrote(rt: HostRuntime) -> Result<(), Fail> {
     for (script, before, place, digits, behind) in &SHOWN {
         let line = line_of(alloc, *place, digits)?;
         let reply = format!(in alloc; "{before}{line}\n{behind}")?;
-        for kind in &KINDS {
+        for kind in &REPLAYED {
             expect(
                 &rt,
                 script,

@@ -3,7 +3,7 @@ use crate::tests::rows::expect_at;
 use line_kinds::{Lock, TicketLine};
 use qolb_model::Free;
 use qolb_run::{
-    AnyKind, KINDS, Kind, ReplayError, run_schedule, run_schedule_over, run_schedule_with,
+    Kind, REPLAYED, ReplayError, run_schedule, run_schedule_over, run_schedule_with,
 };
 use qolb_script::Watched;
 use std::alloc::Global;
@@ -22,7 +22,7 @@ static ROOMS: [usize; 4] = [300, 450, 650, 1_200];
 #[derive(Clone, Copy, Debug)]
 enum Call {
     /// `run_schedule_with`.
-    With(AnyKind),
+    With(Option<Lock>),
     /// `run_schedule`.
     Named(Kind),
     /// `run_schedule_over` ticket lines, named by their type.
@@ -63,10 +63,10 @@ fn error_if(is_small: bool) -> Option<ReplayError> {
 
 /// Calls, each with the place of the first room that holds its lines.
 static CALLS: [(Call, usize); 8] = [
-    (Call::With(AnyKind::Plain), 0),
-    (Call::With(AnyKind::Shared(Lock::Link)), 1),
-    (Call::With(AnyKind::Shared(Lock::Ring)), 2),
-    (Call::With(AnyKind::Shared(Lock::Ticket)), 3),
+    (Call::With(None), 0),
+    (Call::With(Some(Lock::Link)), 1),
+    (Call::With(Some(Lock::Ring)), 2),
+    (Call::With(Some(Lock::Ticket)), 3),
     (Call::Named(Kind::Plain), 0),
     (Call::Named(Kind::Link), 1),
     (Call::Named(Kind::Ring), 2),
@@ -98,7 +98,7 @@ fn refusals_of<R: Abort>(
     rt: &R,
     alloc: Global,
     limit: &MemoryLimit,
-    kind: AnyKind,
+    kind: Option<Lock>,
 ) -> Result<usize, Fail> {
     for grains in 2..8_000usize {
         let (error, text) = replayed(alloc, limit, SHORT, GRAIN * grains, Call::With(kind))?;
@@ -119,7 +119,7 @@ fn refusals_of<R: Abort>(
 #[test]
 fn each_allocation_of_a_replay_is_refused(rt: HostRuntime) -> Result<(), Fail> {
     let limit = MemoryLimit::begin(rt.alloc(), 1 << 20)?;
-    for kind in &KINDS {
+    for kind in &REPLAYED {
         let refused = refusals_of(&rt, rt.alloc(), &limit, *kind)?;
         expect_at(&rt, kind, refused > 100, true);
     }

@@ -33,12 +33,12 @@ static NOT_TAKEN: [(&[&str], &str); 31] = [
     (&["--help"], "\n  2  the command line was refused"),
     (
         &["--help"],
-        "\n  3  want of memory: `out of memory`; or worker W gave up",
+        "\n  3  out of memory: `out of memory`; or worker W gave up",
     ),
     (&["--help"], "\n  4  a failed read or write: "),
     (&["replay", "--help"], "--kind"),
     (&["--help"], "-V, --version"),
-    (&["-V"], "qolb 2.0.0\n"),
+    (&["-V"], "qolb 3.0.0\n"),
     (&["replay", "--version"], "--version"),
 ];
 
@@ -122,7 +122,7 @@ const FIRST_WORDS: [(&str, &str); 5] = [
 ];
 
 /// The output of `--version`.
-const VERSION: &str = "qolb 2.0.0\nkinds of lines: plain, ring, link, ticket\n";
+const VERSION: &str = "qolb 3.0.0\nkinds of lines: plain, ring, link, ticket\n";
 
 #[test]
 fn tells_its_version(rt: HostRuntime) -> Result<(), Fail> {
