@@ -15,12 +15,12 @@ use Rattle.qolb_script.specs.declared.command.Command.{Command}
 use Rattle.qolb_script.specs.Commands.{node_of, line_of}
 use Rattle.qolb_script.specs.Script.{Script}
 use Rattle.qolb_script.specs.Reply.{config_of, after_command}
-use Rattle.qolb_shapes.specs.declared.event.Event.{Event}
-use Rattle.qolb_shapes.specs.declared.symbol.Change.{Change}
-use Rattle.qolb_shapes.specs.declared.symbol.Symbol.{Symbol}
-use Rattle.qolb_shapes.specs.declared.symbol.Symbol.TheVariants as symbol
+use Rattle.qolb_draw.specs.declared.event.Event.{Event}
+use Rattle.qolb_draw.specs.declared.symbol.Change.{Change}
+use Rattle.qolb_draw.specs.declared.symbol.Symbol.{Symbol}
+use Rattle.qolb_draw.specs.declared.symbol.Symbol.TheVariants as symbol
 use Rattle.qolb_draw.specs.Changes.{change_of}
-use Rattle.qolb_shapes.specs.Marks.{mark_of}
+use Rattle.qolb_draw.specs.Marks.{mark_of}
 use Rattle.qolb_draw.specs.LineRuns.{Step, LineRun, run_start, run_step, steps_on, mark_at, event_of}
 use Rattle.qolb_draw.specs.Following.{Follows, Rests}
 use Rattle.qolb_draw.proofs.Resting.{column_is_by, opened_rests}

@@ -31,11 +31,12 @@ use Rattle.qolb_script.specs.declared.command.Command.TheVariants as command
 use Rattle.qolb_script.specs.declared.reply_text.Said.TheVariants as said
 use Rattle.qolb_script.specs.Commands.{node_of}
 use Rattle.qolb_script.specs.Reply.{is_queued, is_holding, said_of, after_command}
-use Rattle.qolb_shapes.specs.declared.symbol.Symbol.{Symbol}
-use Rattle.qolb_shapes.specs.declared.symbol.Symbol.TheVariants as symbol
-use Rattle.qolb_shapes.specs.declared.symbol.Change.{Change}
-use Rattle.qolb_shapes.specs.Marks.{is_node, is_handed_on, mark_of_state, mark_of, at_rest, at_turn, mark_by, effect_by, is_misuse, unless_misuse}
-use Rattle.qolb_shapes.specs.Shapes.{stand_of}
+use Rattle.qolb_draw.specs.declared.symbol.Symbol.{Symbol}
+use Rattle.qolb_draw.specs.declared.symbol.Symbol.TheVariants as symbol
+use Rattle.qolb_draw.specs.declared.symbol.Change.{Change}
+use Rattle.qolb_draw.specs.Marks.{is_node, is_handed_on, mark_of_state, mark_of, at_rest, at_turn, mark_by, effect_by, unless_misuse}
+use Rattle.qolb_words.specs.Words.{is_misuse}
+use Rattle.qolb_draw.specs.Shapes.{stand_of}
 use Rattle.qolb_draw.specs.Changes.{waiting_nodes}
 use Rattle.qolb_draw.specs.Following as following
 use Rattle.qolb_draw.specs.Following.{has_asked, has_stayed, state_ended, is_among, is_shut, differs, Follows, Rests, AreAtRest, ArePassed, AreLookedAt, IsKept}

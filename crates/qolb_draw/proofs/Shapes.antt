@@ -10,13 +10,14 @@ use Rattle.qolb_script.specs.declared.command.Command.{Command}
 use Rattle.qolb_script.specs.declared.command.Command.TheVariants.{Write}
 use Rattle.qolb_script.specs.declared.reply_text.Said.{Said}
 use Rattle.qolb_script.specs.declared.reply_text.Said.TheVariants as said
-use Rattle.qolb_shapes.specs.declared.bar.Stand.{Stand}
-use Rattle.qolb_shapes.specs.declared.bar.Stand.TheVariants as stand
-use Rattle.qolb_shapes.specs.declared.symbol.Symbol.{Symbol}
+use Rattle.qolb_draw.specs.declared.bar.Stand.{Stand}
+use Rattle.qolb_draw.specs.declared.bar.Stand.TheVariants as stand
+use Rattle.qolb_draw.specs.declared.symbol.Symbol.{Symbol}
 use Rattle.qolb_draw.specs.Grids.{mark_out_of, stands_out_of}
-use Rattle.qolb_shapes.specs.declared.svg.TheConstants.{NAMED_EVERY}
-use Rattle.qolb_shapes.specs.Svg.{arrow_text, bytes_text, field, name_end, shape_text, texts, y_of}
-use Rattle.qolb_shapes.specs.Shapes.{Arrow, Bytes, Shape, is_same, places_in, stand_of}
+use Rattle.qolb_draw.specs.declared.svg.TheConstants.{NAMED_EVERY}
+use Rattle.qolb_draw.specs.Svg.{arrow_text, bytes_text, name_end, shape_text, texts, y_of}
+use Rattle.qolb_words.specs.Words.{field}
+use Rattle.qolb_draw.specs.Shapes.{Arrow, Bytes, Shape, is_same, places_in, stand_of}
 use Rattle.qolb_draw.specs.Timelines.{arrow_of, bar_of, bars_from, bytes_of, row_of}
 
 -- the texts of shapes one behind another

@@ -1,7 +1,7 @@
 -- Worked pictures: the pictures of small scripts by definition, by computation.
 use Rattle.std.specs.Prelude.{◌≡◌, ◌++◌, codes, refl, Ok, Err}
 use Rattle.qolb_script.specs.declared.error.ScriptError.TheVariants.{BadLine}
-use Rattle.qolb_shapes.specs.declared.form.Form.TheVariants.{Text}
+use Rattle.qolb_draw.specs.declared.form.Form.TheVariants.{Text}
 use Rattle.qolb_draw.specs.Pictures.{picture_to, legend}
 
 -- three nodes, of which each hands the line over to the next

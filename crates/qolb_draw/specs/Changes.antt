@@ -5,7 +5,7 @@ use Rattle.qolb_model.specs.OneOwner.{OwnerState}
 use Rattle.qolb_script.specs.declared.command.Command.{Command}
 use Rattle.qolb_script.specs.Commands.{node_of}
 use Rattle.qolb_script.specs.Reply.{said_of, after_command, is_told}
-use Rattle.qolb_shapes.specs.declared.symbol.Change.{Change}
+use Rattle.qolb_draw.specs.declared.symbol.Change.{Change}
 
 -- the nodes whose requests have no end yet, oldest first; and the first of these, which is at its turn
 abbrev pub waiting_nodes : OwnerState → List ℕ

@@ -9,9 +9,9 @@ use Rattle.qolb_model.specs.OneOwner.{OwnerState}
 use Rattle.qolb_script.specs.declared.reply_text.Said.{Said}
 use Rattle.qolb_script.specs.declared.reply_text.Said.TheVariants as said
 use Rattle.std.specs.List.{list_any, slice_index_or}
-use Rattle.qolb_shapes.specs.declared.symbol.Symbol.{Symbol}
-use Rattle.qolb_shapes.specs.declared.symbol.Symbol.TheVariants as symbol
-use Rattle.qolb_shapes.specs.Marks.{at_rest}
+use Rattle.qolb_draw.specs.declared.symbol.Symbol.{Symbol}
+use Rattle.qolb_draw.specs.declared.symbol.Symbol.TheVariants as symbol
+use Rattle.qolb_draw.specs.Marks.{at_rest}
 use Rattle.qolb_draw.specs.Changes.{waiting_nodes}
 
 -- answers to a node that has made a request

@@ -3,20 +3,20 @@ use Rattle.std.specs.Prelude.{◌≡◌, ℕ, ◌+◌, ◌-◌, ◌*◌, ◌==�
 use Rattle.std.specs.List.{list_any, range_with_len, slice_index_or}
 use Rattle.qolb_model.specs.Plain.{PlainView, node_state}
 use Rattle.qolb_script.specs.Commands.{node_of}
-use Rattle.qolb_shapes.specs.declared.symbol.Symbol.{Symbol}
-use Rattle.qolb_shapes.specs.declared.symbol.Symbol.TheVariants as symbol
-use Rattle.qolb_shapes.specs.declared.symbol.Change.{Change}
-use Rattle.qolb_shapes.specs.Marks.{is_node, mark_of, mark_by}
+use Rattle.qolb_draw.specs.declared.symbol.Symbol.{Symbol}
+use Rattle.qolb_draw.specs.declared.symbol.Symbol.TheVariants as symbol
+use Rattle.qolb_draw.specs.declared.symbol.Change.{Change}
+use Rattle.qolb_draw.specs.Marks.{is_node, mark_of, mark_by}
 use Rattle.qolb_draw.specs.declared.text.TheConstants.{COLUMNS}
 use Rattle.qolb_draw.specs.LineRuns.{Step, mark_at, event_of}
-use Rattle.qolb_shapes.specs.declared.event.Event.{Event}
-use Rattle.qolb_shapes.specs.declared.bar.Stand.{Stand}
-use Rattle.qolb_shapes.specs.declared.bar.Stand.TheVariants as stand
-use Rattle.qolb_shapes.specs.Svg.{line_begin, texts}
-use Rattle.qolb_shapes.specs.Shapes.{Shape, stand_of}
+use Rattle.qolb_draw.specs.declared.event.Event.{Event}
+use Rattle.qolb_draw.specs.declared.bar.Stand.{Stand}
+use Rattle.qolb_draw.specs.declared.bar.Stand.TheVariants as stand
+use Rattle.qolb_draw.specs.Svg.{line_begin, texts}
+use Rattle.qolb_draw.specs.Shapes.{Shape, stand_of}
 use Rattle.qolb_draw.specs.Timelines.{bars_from, columns_of, row_shapes}
 use Rattle.qolb_draw.specs.Pictures.{letter_of, label_of, label_room, block_count}
-use Rattle.qolb_shapes.specs.Heads.{heads_text}
+use Rattle.qolb_draw.specs.Heads.{heads_text}
 
 -- the marks of the nodes after each step, and the steps' numbers and nodes
 abbrev pub marks_of : ℕ → List Step → List Symbol

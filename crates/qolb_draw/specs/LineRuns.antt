@@ -7,10 +7,10 @@ use Rattle.qolb_script.specs.declared.command.Command.{Command}
 use Rattle.qolb_script.specs.Commands.{node_of, line_of}
 use Rattle.qolb_script.specs.Script.{Script}
 use Rattle.qolb_script.specs.Reply.{config_of, after_command}
-use Rattle.qolb_shapes.specs.declared.event.Event.{Event}
-use Rattle.qolb_shapes.specs.declared.symbol.Symbol.{Symbol}
+use Rattle.qolb_draw.specs.declared.event.Event.{Event}
+use Rattle.qolb_draw.specs.declared.symbol.Symbol.{Symbol}
 use Rattle.qolb_draw.specs.Changes.{change_of}
-use Rattle.qolb_shapes.specs.Marks.{mark_of}
+use Rattle.qolb_draw.specs.Marks.{mark_of}
 
 -- a command on the line, with its number and the line's state before it. Numbers count from 1 in the script
 pub record Step : Type 0 where

@@ -1,6 +1,6 @@
 //! A plain line that also records what each command changes.
 ghost use Rattle.std.specs.Prelude.{◌≡◌, ◌⊎◌, length, option_copied};
-ghost use Rattle.qolb_shapes.specs.Marks.{at_rest};
+ghost use Rattle.qolb_draw.specs.Marks.{at_rest};
 ghost use Rattle.qolb_script.specs.Reply as reply;
 ghost use Rattle.qolb_draw.specs.Following as spec;
 
@@ -8,7 +8,7 @@ use link_core::Told;
 use qolb_model::{Enq, Out, PlainLine, Poll, PortState};
 use qolb_replay::ReplayLine;
 use qolb_script::{Command, Said};
-use qolb_shapes::{Change, Symbol};
+use crate::symbol::{Change, Symbol};
 use std::alloc::{AllocError, Allocator};
 
 /// A plain line, with what a picture shows of it: to ask the line for each node's state after each command would take long.

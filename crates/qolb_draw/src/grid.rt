@@ -9,7 +9,8 @@ use crate::follow::TracedLine;
 use line_lanes::Line64;
 use qolb_model::{LineConfig, MAX_NODES, PlainLine};
 use qolb_script::Schedule;
-use qolb_shapes::{Change, Event, Symbol};
+use crate::event::Event;
+use crate::symbol::{Change, Symbol};
 use std::alloc::{AllocError, Allocator};
 
 /// The capacity for the marks of all nodes by their numbers, which begin with 1.

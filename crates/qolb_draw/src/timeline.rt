@@ -3,18 +3,17 @@ ghost use Rattle.std.specs.Prelude.{◌≡◌, ◌++◌, ◌≤◌, ◌<◌, ◌
 ghost use Rattle.std.specs.List.{range_with_len, slice_index_or};
 ghost use Rattle.qolb_model.specs.declared.config.TheConstants.{MAX_NODES};
 ghost use Rattle.qolb_script.specs.declared.schedule.TheConstants.{MAX_COMMANDS, MAX_LINES};
-ghost use Rattle.qolb_shapes.specs.Svg.{texts};
+ghost use Rattle.qolb_draw.specs.Svg.{texts};
 ghost use Rattle.qolb_draw.specs.Grids.{row_shapes_out_of, bars_out_of, shown_out_of, line_svg_out_of};
 ghost use Rattle.qolb_draw.specs.Timelines as spec;
 
 use crate::grid::Grid;
 use crate::text::shown;
 use qolb_script::{Command, Said};
-use qolb_shapes::svg::{
-    NAMED_EVERY, push_arrow, push_bar, push_bytes, push_call, push_lane, push_line_begin,
-    push_name, push_name_end, push_number,
-};
-use qolb_shapes::{Event, Stand, places};
+use crate::svg::{NAMED_EVERY, push_arrow, push_bar, push_bytes, push_call, push_lane, push_line_begin, push_name, push_name_end, push_number};
+use crate::bar::Stand;
+use crate::call::places;
+use crate::event::Event;
 use std::alloc::{AllocError, Allocator};
 
 /// Returns the row of a node: the number of shown nodes before it.

@@ -17,7 +17,7 @@ use Rattle.qolb_model.specs.declared.answer.PortState.{PortState}
 use Rattle.qolb_model.specs.OneOwner.{state_of}
 use Rattle.qolb_script.specs.Commands as commands
 use Rattle.qolb_script.specs.Reply.{said_of}
-use Rattle.qolb_shapes.specs.Marks.{is_misuse}
+use Rattle.qolb_words.specs.Words.{is_misuse}
 use Rattle.qolb_script.specs.declared.command.Command.{Command}
 use Rattle.qolb_script.specs.Reply.{config_of}
 use Rattle.qolb_script.specs.Script.{Script}

@@ -9,7 +9,7 @@ use clap::{Arg, ArgAction, ArgMatches, Command, Error};
 use line_kinds::{LOCKS, Lock, NAMES, lock_names};
 use qolb_run::{AnyKind, Detail, Task, WaitMode};
 use qolb_script::WorkKind;
-use qolb_shapes::Form;
+use qolb_draw::Form;
 use std::alloc::{AllocError, Global};
 
 /// The names of the kinds of lines that replay a schedule.

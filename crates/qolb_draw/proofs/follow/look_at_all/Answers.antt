@@ -3,8 +3,8 @@ use Rattle.std.proofs.lemmas.Bool.{cases_eq}
 use Rattle.std.proofs.lemmas.List.{length-set, get_or-set_other}
 use Rattle.std.proofs.lemmas.Grind.{get_or-set_at}
 use Rattle.qolb_model.specs.Plain.{node_state}
-use Rattle.qolb_shapes.specs.declared.symbol.Symbol.TheVariants as symbol
-use Rattle.qolb_shapes.specs.Marks.{at_rest}
+use Rattle.qolb_draw.specs.declared.symbol.Symbol.TheVariants as symbol
+use Rattle.qolb_draw.specs.Marks.{at_rest}
 use Rattle.qolb_draw.proofs.follow.look_at_all.Goals as goal
 
 pub loop-node-preserved : goal.loop-node-preserved

@@ -1,7 +1,7 @@
 use Rattle.std.proofs.Common.{◌≡◌, ◌<◌, ℕ, length, get_or}
 use Rattle.qolb_model.specs.Plain.{node_state}
-use Rattle.qolb_shapes.specs.declared.symbol.Symbol.TheVariants as symbol
-use Rattle.qolb_shapes.specs.Marks.{at_rest}
+use Rattle.qolb_draw.specs.declared.symbol.Symbol.TheVariants as symbol
+use Rattle.qolb_draw.specs.Marks.{at_rest}
 use Rattle.qolb_draw.proofs.follow.look_at_all.Given as goal
 
 abbrev pub invariant-loop-node : goal.invariant-loop-node

@@ -7,8 +7,8 @@ use Rattle.qolb_script.specs.declared.command.Command.TheVariants.{Enq}
 use Rattle.qolb_script.specs.Reply.{config_of}
 use Rattle.qolb_draw.specs.declared.follow.TracedLine.{TracedLine}
 use Rattle.qolb_draw.specs.declared.grid.Grid.{Grid}
-use Rattle.qolb_shapes.specs.declared.symbol.Symbol.{Symbol}
-use Rattle.qolb_shapes.specs.declared.symbol.Symbol.TheVariants as symbol
+use Rattle.qolb_draw.specs.declared.symbol.Symbol.{Symbol}
+use Rattle.qolb_draw.specs.declared.symbol.Symbol.TheVariants as symbol
 use Rattle.qolb_draw.specs.Grids.{column_by}
 use Rattle.qolb_draw.proofs.Drawn.{Stands, none_drawn, command_drawn, command_skipped, all_drawn, grid_size, config_is}
 use Rattle.qolb_draw.proofs.grid.draw_line.Goals as goal

@@ -1,5 +1,5 @@
 use Rattle.std.proofs.Common.{◌++◌, drop, List, sym, ap, ◌∙◌}
-use Rattle.qolb_shapes.specs.declared.symbol.Symbol.{Symbol}
+use Rattle.qolb_draw.specs.declared.symbol.Symbol.{Symbol}
 use Rattle.qolb_draw.proofs.Resting.{all_marked}
 use Rattle.qolb_draw.proofs.grid.push_column.Goals as goal
 

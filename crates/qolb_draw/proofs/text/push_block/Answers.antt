@@ -1,8 +1,8 @@
 use Rattle.std.proofs.Common.{◌∷◌, ◌-◌, take, drop}
-use Rattle.qolb_shapes.specs.Heads.{heads_text}
+use Rattle.qolb_draw.specs.Heads.{heads_text}
 use Rattle.qolb_draw.specs.Pictures.{label_room}
 use Rattle.qolb_draw.specs.Grids.{row_out_of}
-use Rattle.qolb_shapes.proofs.Rows.{element_pushed}
+use Rattle.qolb_draw.proofs.Pushing.{element_pushed}
 use Rattle.qolb_draw.proofs.text.push_block.Goals as goal
 
 pub loop-node-preserved : goal.loop-node-preserved

@@ -1,9 +1,9 @@
 use Rattle.std.proofs.Common.{◌≡◌, ◌++◌, ◌*◌, sym, ap, ◌∙◌, arith}
 use Rattle.std.specs.List.{flat_map, range_with_len}
-use Rattle.qolb_shapes.specs.declared.svg.TheConstants.{NAMED_EVERY}
-use Rattle.qolb_shapes.specs.Svg.{name_begin, name_end, name_text}
-use Rattle.qolb_shapes.specs.Shapes.{Name, name_count}
-use Rattle.qolb_shapes.proofs.Rows.{piece_pushed}
+use Rattle.qolb_draw.specs.declared.svg.TheConstants.{NAMED_EVERY}
+use Rattle.qolb_draw.specs.Svg.{name_begin, name_end, name_text}
+use Rattle.qolb_draw.specs.Shapes.{Name, name_count}
+use Rattle.qolb_draw.proofs.Pushing.{piece_pushed}
 use Rattle.qolb_draw.proofs.Shapes.{ends_are, texts-map}
 use Rattle.qolb_draw.proofs.timeline.push_names.Goals as goal
 

@@ -1,7 +1,7 @@
 use Rattle.std.proofs.Common.{◌≡◌, ◌++◌, ◌*◌}
 use Rattle.std.specs.List.{flat_map, range_with_len}
-use Rattle.qolb_shapes.specs.declared.svg.TheConstants.{NAMED_EVERY}
-use Rattle.qolb_shapes.specs.Svg.{name_text}
+use Rattle.qolb_draw.specs.declared.svg.TheConstants.{NAMED_EVERY}
+use Rattle.qolb_draw.specs.Svg.{name_text}
 use Rattle.qolb_draw.proofs.timeline.push_names.Given as goal
 
 abbrev pub invariant-loop-count : goal.invariant-loop-count

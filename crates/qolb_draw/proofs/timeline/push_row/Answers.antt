@@ -1,7 +1,7 @@
 use Rattle.std.proofs.Common.{◌≡◌, ℕ, length, ap, ◌∙◌, ◌++◌, arith}
 use Rattle.qolb_draw.specs.Grids.{bars_out_of}
-use Rattle.qolb_shapes.specs.Svg.{lane_text, texts}
-use Rattle.qolb_shapes.specs.Shapes.{Lane}
+use Rattle.qolb_draw.specs.Svg.{lane_text, texts}
+use Rattle.qolb_draw.specs.Shapes.{Lane}
 use Rattle.qolb_draw.specs.Timelines.{names_of, row_of}
 use Rattle.qolb_draw.proofs.Shapes.{row_whole}
 use Rattle.qolb_draw.proofs.timeline.push_row.Goals as goal

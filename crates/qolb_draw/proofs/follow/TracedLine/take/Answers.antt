@@ -4,7 +4,7 @@ use Rattle.qolb_script.specs.Commands.{node_of}
 use Rattle.qolb_script.specs.Reply as reply
 use Rattle.qolb_script.specs.Reply.{said_of, after_command}
 use Rattle.qolb_draw.specs.declared.follow.TracedLine.{TracedLine}
-use Rattle.qolb_shapes.specs.declared.symbol.Symbol.{Symbol}
+use Rattle.qolb_draw.specs.declared.symbol.Symbol.{Symbol}
 use Rattle.qolb_draw.specs.Following.{has_asked, has_stayed, differs, Rests, AreLookedAt}
 use Rattle.qolb_draw.proofs.Resting.{command_rests}
 use Rattle.qolb_draw.proofs.Turns.{command_followed, asked_behind, none_behind, same_change}
