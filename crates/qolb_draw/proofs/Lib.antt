@@ -4,7 +4,6 @@ pub mod Drawn
 pub mod Lines
 pub mod Outs
 pub mod Pushing
-pub mod Resting
 pub mod Rows
 pub mod SameRuns
 pub mod Shapes

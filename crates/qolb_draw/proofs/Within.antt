@@ -27,7 +27,7 @@ use Rattle.qolb_draw.specs.declared.svg.TheConstants.{NAMED_EVERY}
 use Rattle.qolb_draw.specs.Following.{has_asked}
 use Rattle.qolb_draw.specs.Laws.{IsWithin, ShapesLieWithin, foot_of, right_of}
 use Rattle.qolb_draw.specs.LineRuns.{LineRun, Step, callers, event_of, run_of, run_start, run_step, steps_on}
-use Rattle.qolb_draw.specs.Changes.{turn_node, waiting_nodes}
+use Rattle.qolb_draw.specs.LineRuns.{turn_node, waiting_nodes}
 use Rattle.qolb_draw.specs.Timelines.{top_of, widest}
 use Rattle.qolb_draw.specs.Svg.{height_of, name_y, width_of, y_of}
 use Rattle.qolb_draw.specs.Shapes.{Arrow, Bar, Bytes, Call, Lane, Name, Number, Shape, is_same, name_count, places_in}

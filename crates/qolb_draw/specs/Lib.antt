@@ -1,4 +1,3 @@
-pub mod Changes
 pub mod Following
 pub mod Grids
 pub mod Heads

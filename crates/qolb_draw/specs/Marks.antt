@@ -46,23 +46,3 @@ effect_of change state n =
 -- the same; or misuse, if it made the command, and that is misuse
 abbrev pub mark_of : Change → PortState → ℕ → Symbol
 mark_of change state n = unless_misuse change (effect_of change state n) n
-
--- the mark of a node by its state alone, as if it were not at its turn; the mark of a node at its turn that has this one at rest
-abbrev pub at_rest : PortState → Symbol
-at_rest state = mark_of_state state false
-
-abbrev pub at_turn : Symbol → Symbol
-at_turn symbol.Waits = symbol.AtTurn
-at_turn mark = mark
-
--- the mark of node n, which has this mark at rest
-abbrev pub effect_by : Change → Symbol → ℕ → Symbol
-effect_by change resting n =
-    if (change.node == n) && change.told then symbol.Told
-    else if is_handed_on change.before change.after n then symbol.Gives
-    else if is_handed_on change.after change.before n then symbol.Takes
-    else if is_node change.after n then at_turn resting
-    else resting
-
-abbrev pub mark_by : Change → Symbol → ℕ → Symbol
-mark_by change resting n = unless_misuse change (effect_by change resting n) n

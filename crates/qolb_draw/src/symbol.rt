@@ -32,26 +32,17 @@ pub enum Symbol {
 }
 
 impl Symbol {
-    /// Returns the mark at rest of a node in this state: if no command has just changed it, and it is not at its turn.
-    pub fn at_rest(state: PortState) -> Symbol
-        ensures { result ≡ spec.at_rest state }
+    /// Returns the mark of a node in this state that no command has just changed. The node may be at its turn.
+    fn of(state: PortState, at_turn: bool) -> Symbol
+        ensures { result ≡ spec.mark_of_state state at_turn }
     {
         match state {
             PortState::Idle | PortState::Left => Symbol::Idle,
+            PortState::Queued if at_turn => Symbol::AtTurn,
             PortState::Queued | PortState::Linking => Symbol::Waits,
             PortState::Holding => Symbol::Holds,
             PortState::Rolled => Symbol::Withdrawn,
             PortState::Shut => Symbol::Shut,
-        }
-    }
-
-    /// Returns the mark at its turn of a node that has this mark at rest.
-    fn at_turn(self) -> Symbol
-        ensures { result ≡ spec.at_turn self }
-    {
-        match self {
-            Symbol::Waits => Symbol::AtTurn,
-            other => other,
         }
     }
 }
@@ -72,11 +63,11 @@ pub struct Change {
 }
 
 impl Change {
-    /// Returns the mark of a node that has this mark at rest after the command.
-    pub fn mark(&self, resting: Symbol, node: u64) -> Symbol
-        ensures { result ≡ spec.mark_by self.now resting node }
+    /// Returns the mark of a node that is in this state after the command.
+    pub fn mark(&self, state: PortState, node: u64) -> Symbol
+        ensures { result ≡ spec.mark_of self.now state node }
     {
-        let mark = self.effect(resting, node);
+        let mark = self.effect(state, node);
         if self.node == node && matches!(self.said, Said::Misuse) {
             Symbol::Misuse(Stand::of(mark))
         } else {
@@ -84,9 +75,9 @@ impl Change {
         }
     }
 
-    /// Returns the mark of a node that has this mark at rest, as if the command were no misuse.
-    fn effect(&self, resting: Symbol, node: u64) -> Symbol
-        ensures { result ≡ spec.effect_by self.now resting node }
+    /// Returns the mark of a node in this state, as if the command were no misuse.
+    fn effect(&self, state: PortState, node: u64) -> Symbol
+        ensures { result ≡ spec.effect_of self.now state node }
     {
         if self.node == node && self.told {
             Symbol::Told
@@ -94,10 +85,8 @@ impl Change {
             Symbol::Gives
         } else if is_handed_on(self.after, self.before, node) {
             Symbol::Takes
-        } else if is_node(self.after, node) {
-            resting.at_turn()
         } else {
-            resting
+            Symbol::of(state, is_node(self.after, node))
         }
     }
 }
