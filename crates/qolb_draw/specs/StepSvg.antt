@@ -1,4 +1,4 @@
--- The picture of a step script as an SVG. A column is 72 pixels wide and a row 48 high. (Of this project.)
+-- The shapes of a step script as an SVG. (Of this project.)
 use Rattle.std.specs.Prelude.{ℕ, ◌+◌, ◌-◌, ◌*◌, ◌==◌, min, Bool, if◌then◌else◌, List, [], ◌++◌, flat_map, codes, Option, Some, None}
 use Rattle.link_core.specs.declared.entry.Entry.{Entry}
 use Rattle.link_core.specs.declared.event.Event.{Event}
@@ -15,24 +15,21 @@ use Rattle.qolb_script.specs.declared.command.Command.TheVariants.{Write}
 use Rattle.qolb_script.specs.Said.{said_words}
 use Rattle.qolb_script.specs.StepReply.{step_said}
 use Rattle.qolb_words.specs.Words.{named, point_words}
-use Rattle.qolb_draw.specs.Svg.{verb_text, written_words}
+use Rattle.qolb_draw.specs.declared.svg.Scale.TheVariants as scale
+use Rattle.qolb_draw.specs.Svg.{bar_begin, lane_text, name_text, name_y_at, number_text, sign_begin, sign_end, written_words, x_at, y_at}
 use Rattle.qolb_words.specs.Words.{field}
 use Rattle.qolb_words.specs.Words.{step_verb}
 use Rattle.qolb_draw.specs.StepShapes.{StepShape, Lane, Name, Number, At, Lies, Home, Word, Act}
 
--- the place of an event, from the left; the middle of a row, from the top
+-- the place of an event, from the left; the middle of a row, from the top; the height of a row's name
 abbrev pub step_x : ℕ → ℕ
-step_x column = 96 + 72 * column
+step_x column = x_at scale.Steps column
 
 abbrev pub step_y : ℕ → ℕ
-step_y row = 68 + 48 * row
+step_y row = y_at scale.Steps row
 
--- the height of a row's name: beside the row at its beginning, and below its bars further on
 abbrev pub row_name_y : ℕ → ℕ → ℕ
-row_name_y row column = if column == 0 then step_y row + 4 else step_y row + 26
-
-abbrev pub row_name : ℕ → List ℕ
-row_name row = if row == 0 then codes "home" else field (codes "node ") row
+row_name_y row column = name_y_at scale.Steps row column
 
 -- the class of a point's bar: the node asks or waits, holds, releases, has withdrawn, or is in no call
 abbrev pub class_at : Point → List ℕ
@@ -103,20 +100,8 @@ sign_at None = codes "misuse"
 sign_at what = codes "call"
 
 -- the text of each shape
-abbrev pub step_lane_text : ℕ → ℕ → List ℕ
-step_lane_text row columns = field (codes "<path class='lane' d='M96 ") (step_y row) ++ field (codes "H") (step_x columns) ++ codes "'/>\n"
-
-abbrev pub row_name_text : ℕ → ℕ → List ℕ
-row_name_text row column =
-    field (codes "<text class='name' x='") (step_x column - 88) ++ field (codes "' y='") (row_name_y row column) ++ codes "'>" ++ row_name row ++ codes "</text>\n"
-
-abbrev pub step_number_text : ℕ → List ℕ
-step_number_text column = field (codes "<text class='small' x='") (step_x column) ++ field (codes "' y='36'>") (column + 1) ++ codes "</text>\n"
-
 abbrev pub at_bar_text : ℕ → ℕ → ℕ → Point → List ℕ
-at_bar_text node start end p =
-    codes "<rect class='" ++ class_at p ++ field (codes "' x='") (step_x start) ++ field (codes "' y='") (step_y node - 8)
-    ++ field (codes "' width='") (72 * (end - start)) ++ field (codes "' height='16'><title>node ") node ++ codes ": " ++ point_words p ++ codes "</title></rect>\n"
+at_bar_text node start end p = bar_begin scale.Steps node start end (class_at p) node ++ codes ": " ++ point_words p ++ codes "</title></rect>\n"
 
 abbrev pub at_name_text : ℕ → ℕ → Point → List ℕ
 at_name_text node start p =
@@ -140,15 +125,12 @@ word_text column node e =
     ++ codes " is " ++ entry_words e ++ codes "</title>" ++ entry_words e ++ codes "</text>\n"
 
 abbrev pub act_text : ℕ → Event → Option Told → List ℕ
-act_text column e what =
-    codes "<use href='#" ++ sign_at what ++ field (codes "' x='") (step_x column) ++ field (codes "' y='") (step_y (node_of e))
-    ++ codes "'><title>" ++ told_words column e what ++ codes "</title></use>\n"
-    ++ verb_text (step_x column) (step_verb e)
+act_text column e what = sign_begin scale.Steps (node_of e) column (sign_at what) ++ told_words column e what ++ sign_end scale.Steps column (step_verb e)
 
 abbrev pub step_shape_text : StepShape → List ℕ
-step_shape_text (Lane row columns) = step_lane_text row columns
-step_shape_text (Name row column) = row_name_text row column
-step_shape_text (Number column) = step_number_text column
+step_shape_text (Lane row columns) = lane_text scale.Steps row columns
+step_shape_text (Name row column) = name_text scale.Steps row column row
+step_shape_text (Number column) = number_text scale.Steps column (column + 1)
 step_shape_text (At node start end p) = at_text node start end p
 step_shape_text (Lies column p) = lies_text column p
 step_shape_text (Home column word) = home_text column word

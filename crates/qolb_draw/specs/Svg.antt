@@ -1,5 +1,6 @@
--- The shapes of an SVG as text. A column is 32 pixels wide and a row 40 high. (Of this project.)
+-- The shapes of an SVG as text. In a schedule a column is 32 pixels wide and a row 40 high, and in a step script 72 and 48. (Of this project.)
 use Rattle.std.specs.Prelude.{ℕ, ◌+◌, ◌-◌, ◌*◌, ◌/◌, ◌%◌, ◌==◌, nat_lt, if◌then◌else◌, List, [], ◌∷◌, ◌++◌, length, flat_map, take, codes, decimal, slice_index}
+use Rattle.std.specs.List.{range_with_len}
 use Rattle.qolb_model.specs.declared.answer.Out.TheVariants as out
 use Rattle.qolb_script.specs.declared.command.Command.{Command}
 use Rattle.qolb_script.specs.declared.command.Command.TheVariants.{Write}
@@ -11,20 +12,43 @@ use Rattle.qolb_script.specs.Reply.{is_told}
 use Rattle.qolb_draw.specs.declared.bar.Stand.{Stand}
 use Rattle.qolb_draw.specs.declared.bar.Stand.TheVariants as stand
 use Rattle.qolb_draw.specs.declared.event.Event.{Event}
-use Rattle.qolb_draw.specs.declared.svg.TheConstants.{STYLE}
-use Rattle.qolb_draw.specs.Shapes.{Shape, Lane, Bar, Name, Number, Arrow, Bytes, Call, places_in}
+use Rattle.qolb_draw.specs.declared.svg.TheConstants.{NAMED_EVERY, STYLE}
+use Rattle.qolb_draw.specs.declared.svg.Scale.{Scale}
+use Rattle.qolb_draw.specs.declared.svg.Scale.TheVariants as scale
+use Rattle.qolb_draw.specs.Shapes.{Shape, Lane, Bar, Name, Number, Arrow, Bytes, Call, name_count, places_in}
 use Rattle.qolb_words.specs.Words.{verb_of}
 
--- the place of a column's command, from the left; the middle of a row, from the top of its line
+-- the place of a column's command or event, from the left; the middle of a row, from the top of its line
+abbrev pub x_at : Scale → ℕ → ℕ
+x_at scale.Schedule column = 96 + 32 * column
+x_at scale.Steps column = 96 + 72 * column
+
+abbrev pub y_at : Scale → ℕ → ℕ
+y_at scale.Schedule row = 68 + 40 * row
+y_at scale.Steps row = 68 + 48 * row
+
+-- the width of some columns
+abbrev pub width_at : Scale → ℕ → ℕ
+width_at scale.Schedule columns = 32 * columns
+width_at scale.Steps columns = 72 * columns
+
+-- the height of a row's name: beside its row at the beginning, and below its bars further on
+abbrev pub below : Scale → ℕ
+below scale.Schedule = 19
+below scale.Steps = 26
+
+abbrev pub name_y_at : Scale → ℕ → ℕ → ℕ
+name_y_at s row column = if column == 0 then y_at s row + 4 else y_at s row + below s
+
+-- the same in a schedule
 abbrev pub x_of : ℕ → ℕ
-x_of column = 96 + 32 * column
+x_of column = x_at scale.Schedule column
 
 abbrev pub y_of : ℕ → ℕ
-y_of row = 68 + 40 * row
+y_of row = y_at scale.Schedule row
 
--- the height of a node's name: beside its row at the beginning, and below its bars further on
 abbrev pub name_y : ℕ → ℕ → ℕ
-name_y row column = if column == 0 then y_of row + 4 else y_of row + 19
+name_y row column = name_y_at scale.Schedule row column
 
 -- the class of a bar, by which it has its colour
 abbrev pub class_of : Stand → List ℕ
@@ -69,26 +93,32 @@ abbrev pub command_words : Command → List ℕ
 command_words c = verb_of c ++ field (codes " ") (node_of c) ++ field (codes " ") (line_of c) ++ written_words c
 
 -- the text of each shape
-abbrev pub lane_text : ℕ → ℕ → List ℕ
-lane_text row columns = field (codes "<path class='lane' d='M96 ") (y_of row) ++ field (codes "H") (x_of columns) ++ codes "'/>\n"
+abbrev pub lane_text : Scale → ℕ → ℕ → List ℕ
+lane_text s row columns = field (codes "<path class='lane' d='M96 ") (y_at s row) ++ field (codes "H") (x_at s columns) ++ codes "'/>\n"
+
+-- a bar, before the words of its state
+abbrev pub bar_begin : Scale → ℕ → ℕ → ℕ → List ℕ → ℕ → List ℕ
+bar_begin s row start end class node =
+    codes "<rect class='" ++ class ++ field (codes "' x='") (x_at s start) ++ field (codes "' y='") (y_at s row - 8)
+    ++ field (codes "' width='") (width_at s (end - start)) ++ field (codes "' height='16'><title>node ") node
 
 abbrev pub bar_text : ℕ → ℕ → ℕ → Stand → ℕ → List ℕ
-bar_text row start end s node =
-    codes "<rect class='" ++ class_of s ++ field (codes "' x='") (x_of start) ++ field (codes "' y='") (y_of row - 8)
-    ++ field (codes "' width='") (32 * (end - start)) ++ field (codes "' height='16'><title>node ") node ++ words_of s ++ codes "</title></rect>\n"
+bar_text row start end s node = bar_begin scale.Schedule row start end (class_of s) node ++ words_of s ++ codes "</title></rect>\n"
 
--- a name: its place from the left, and what is behind that
-abbrev pub name_begin : ℕ → List ℕ
-name_begin column = field (codes "<text class='name' x='") (x_of column - 88)
+-- the name of a row: of a node, or of the home word, which is 0
+abbrev pub row_name : ℕ → List ℕ
+row_name node = if node == 0 then codes "home" else field (codes "node ") node
 
-abbrev pub name_end : ℕ → ℕ → ℕ → List ℕ
-name_end row column node = field (codes "' y='") (name_y row column) ++ field (codes "'>node ") node ++ codes "</text>\n"
+-- a name, and all names of a row
+abbrev pub name_text : Scale → ℕ → ℕ → ℕ → List ℕ
+name_text s row column node =
+    field (codes "<text class='name' x='") (x_at s column - 88) ++ field (codes "' y='") (name_y_at s row column) ++ codes "'>" ++ row_name node ++ codes "</text>\n"
 
-abbrev pub name_text : ℕ → ℕ → ℕ → List ℕ
-name_text row column node = name_begin column ++ name_end row column node
+abbrev pub names_text : Scale → ℕ → ℕ → ℕ → List ℕ
+names_text s row columns node = flat_map (λ k. name_text s row (NAMED_EVERY * k) node) (range_with_len 0 (name_count columns))
 
-abbrev pub number_text : ℕ → ℕ → List ℕ
-number_text column number = field (codes "<text class='small' x='") (x_of column) ++ field (codes "' y='36'>") number ++ codes "</text>\n"
+abbrev pub number_text : Scale → ℕ → ℕ → List ℕ
+number_text s column number = field (codes "<text class='small' x='") (x_at s column) ++ field (codes "' y='36'>") number ++ codes "</text>\n"
 
 abbrev pub arrow_text : ℕ → ℕ → ℕ → ℕ → ℕ → ℕ → List ℕ
 arrow_text column number giver from taker to =
@@ -99,21 +129,24 @@ abbrev pub bytes_text : ℕ → ℕ → List ℕ → List ℕ → List ℕ
 bytes_text row column bytes places =
     field (codes "<text class='small' x='") (x_of column) ++ field (codes "' y='") (y_of row - 11) ++ codes "'>" ++ shortened bytes places ++ codes "</text>\n"
 
--- the first word of a command or an event, at this place from the left: above the column, below its number
-abbrev pub verb_text : ℕ → List ℕ → List ℕ
-verb_text x verb = field (codes "<text class='small' x='") x ++ codes "' y='47'>" ++ verb ++ codes "</text>\n"
+-- a sign: before its words, and behind them, with the first word of its command or event above the column
+abbrev pub sign_begin : Scale → ℕ → ℕ → List ℕ → List ℕ
+sign_begin s row column sign = codes "<use href='#" ++ sign ++ field (codes "' x='") (x_at s column) ++ field (codes "' y='") (y_at s row) ++ codes "'><title>"
+
+abbrev pub sign_end : Scale → ℕ → List ℕ → List ℕ
+sign_end s column verb =
+    codes "</title></use>\n" ++ field (codes "<text class='small' x='") (x_at s column) ++ codes "' y='47'>" ++ verb ++ codes "</text>\n"
 
 abbrev pub call_text : ℕ → ℕ → Event → List ℕ
 call_text row column event =
-    codes "<use href='#" ++ sign_of event.change.said ++ field (codes "' x='") (x_of column) ++ field (codes "' y='") (y_of row)
-    ++ field (codes "'><title>") event.number ++ codes ": " ++ command_words event.command ++ codes ": " ++ said_words event.change.said ++ codes "</title></use>\n"
-    ++ verb_text (x_of column) (verb_of event.command)
+    sign_begin scale.Schedule row column (sign_of event.change.said) ++ field [] event.number ++ codes ": " ++ command_words event.command
+    ++ codes ": " ++ said_words event.change.said ++ sign_end scale.Schedule column (verb_of event.command)
 
 abbrev pub shape_text : Shape → List ℕ
-shape_text (Lane row columns) = lane_text row columns
+shape_text (Lane row columns) = lane_text scale.Schedule row columns
 shape_text (Bar row start end s node) = bar_text row start end s node
-shape_text (Name row column node) = name_text row column node
-shape_text (Number column number) = number_text column number
+shape_text (Name row column node) = name_text scale.Schedule row column node
+shape_text (Number column number) = number_text scale.Schedule column number
 shape_text (Arrow column number giver from taker to) = arrow_text column number giver from taker to
 shape_text (Bytes row column bytes places) = bytes_text row column bytes places
 shape_text (Call row column event) = call_text row column event

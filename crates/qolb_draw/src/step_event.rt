@@ -9,7 +9,8 @@ ghost use Rattle.qolb_draw.specs.StepShapes.{Seen};
 ghost use Rattle.qolb_draw.specs.StepShapes as spec;
 ghost use Rattle.qolb_draw.specs.StepSvg.{step_texts};
 
-use crate::step_svg::{push_act, push_at, push_home, push_lies, push_step_number, push_word};
+use crate::step_svg::{push_act, push_at, push_home, push_lies, push_word};
+use crate::svg::{Scale, push_number};
 use link_core::{Core, Entry, Event, Told};
 use std::alloc::{AllocError, Allocator};
 
@@ -143,7 +144,7 @@ pub fn push_event_shapes<A: Allocator>(
 {
     let node = event.node();
     let end = column + (until(node, rest) + 1);
-    push_step_number(svg, column)?;
+    push_number(svg, Scale::Steps, column, u64::from(column) + 1)?;
     push_at(svg, node, column, end, core.point(node))?;
     push_lies(svg, column, core.place())?;
     push_other_home(svg, column, words.home, core.home())?;

@@ -1,4 +1,4 @@
-//! The shapes of a step script's picture as an SVG. A column is 72 pixels wide and a row 48 high.
+//! The shapes of a step script's picture as an SVG.
 ghost use Rattle.std.specs.Prelude.{◌≡◌, ◌++◌, ◌≤◌, OnOk};
 ghost use Rattle.qolb_model.specs.declared.config.TheConstants.{MAX_NODES};
 ghost use Rattle.qolb_script.specs.declared.schedule.TheConstants.{MAX_COMMANDS};
@@ -11,7 +11,7 @@ use crate::step_words::{
     class_at, class_of_place, push_entry, push_place, push_told, row_of_place, sign_at,
 };
 use link_core::{Entry, Event, Place, Point, Told};
-use crate::svg::{NAMED_EVERY, push_verb};
+use crate::svg::{Scale, push_bar_begin, push_lane, push_names, push_sign_begin, push_sign_end};
 use qolb_words::push_field;
 use qolb_words::{push_point, step_verb};
 use std::alloc::{AllocError, Allocator};
@@ -48,26 +48,11 @@ pub const STEPS_LEGEND: &[u8] = b"<style>
 <g transform='translate(0,64)'><text x='8' y='16'>Above a row: what its word has become: g granted, r rolled, d done, f freed, and the link</text>
 ";
 
-/// Returns the place of a column's event, from the left.
-fn step_x(column: u32) -> u64
-    ensures { result ≡ spec.step_x column }
-{
-    96 + 72 * u64::from(column)
-}
-
-/// Returns the middle of a row, from the top.
-fn step_y(row: u64) -> u64
-    requires { row ≤ MAX_NODES }
-    ensures { result ≡ spec.step_y row }
-{
-    68 + 48 * row
-}
-
 /// Returns the width of a picture of `columns` events.
 pub fn step_width(columns: u32) -> u64
     ensures { result ≡ pictures.step_width columns }
 {
-    let width = step_x(columns) + 32;
+    let width = Scale::Steps.x(columns) + 32;
     if width < 800 { 800 } else { width }
 }
 
@@ -76,76 +61,17 @@ pub fn step_height(nodes: u64) -> u64
     requires { nodes ≤ MAX_NODES }
     ensures { result ≡ pictures.step_height nodes }
 {
-    64 + step_y(nodes) + 36
-}
-
-/// Returns the height of a row's name: beside the row at its beginning, and below its bars further on.
-fn row_name_y(row: u64, column: u32) -> u64
-    requires { row ≤ MAX_NODES }
-    ensures { result ≡ spec.row_name_y row column }
-{
-    if column == 0 {
-        step_y(row) + 4
-    } else {
-        step_y(row) + 26
-    }
-}
-
-/// Appends the words of a row's name.
-fn push_row_words<A: Allocator>(svg: &mut Vec<u8, A>, row: u64) -> Result<(), AllocError>
-    ensures { OnOk result (svg.new.items ≡ svg.old.items ++ spec.row_name row) }
-{
-    if row == 0 {
-        svg.extend_from_slice(b"home")?;
-    } else {
-        push_field(svg, b"node ", row)?;
-    }
-    Ok(())
-}
-
-/// Appends the thin line of a row, through `columns` columns.
-fn push_step_lane<A: Allocator>(
-    svg: &mut Vec<u8, A>,
-    row: u64,
-    columns: u32,
-) -> Result<(), AllocError>
-    requires { row ≤ MAX_NODES }
-    ensures { OnOk result (svg.new.items ≡ svg.old.items ++ spec.step_lane_text row columns) }
-{
-    push_field(svg, b"<path class='lane' d='M96 ", step_y(row))?;
-    push_field(svg, b"H", step_x(columns))?;
-    svg.extend_from_slice(b"'/>\n")?;
-    Ok(())
-}
-
-/// Appends the name of a row, at a column.
-fn push_row_name<A: Allocator>(
-    svg: &mut Vec<u8, A>,
-    row: u64,
-    column: u32,
-) -> Result<(), AllocError>
-    requires { row ≤ MAX_NODES }
-    ensures { OnOk result (svg.new.items ≡ svg.old.items ++ spec.row_name_text row column) }
-{
-    push_field(svg, b"<text class='name' x='", step_x(column) - 88)?;
-    push_field(svg, b"' y='", row_name_y(row, column))?;
-    svg.extend_from_slice(b"'>")?;
-    push_row_words(svg, row)?;
-    svg.extend_from_slice(b"</text>\n")?;
-    Ok(())
+    64 + Scale::Steps.y(nodes as u8) + 36
 }
 
 /// Appends a row through `columns` columns, with its name repeated.
-fn push_row<A: Allocator>(svg: &mut Vec<u8, A>, row: u64, columns: usize) -> Result<(), AllocError>
-    requires row { row ≤ MAX_NODES }
-    requires columns { columns ≤ MAX_COMMANDS }
+fn push_row<A: Allocator>(svg: &mut Vec<u8, A>, row: u8, columns: usize) -> Result<(), AllocError>
+    requires { columns ≤ MAX_COMMANDS }
     ensures { OnOk result (svg.new.items ≡ svg.old.items
         ++ spec.step_texts (lane_shapes columns row)) }
 {
-    push_step_lane(svg, row, columns as u32)?;
-    for count in 0..(columns + (NAMED_EVERY - 1)) / NAMED_EVERY {
-        push_row_name(svg, row, (NAMED_EVERY * count) as u32)?;
-    }
+    push_lane(svg, Scale::Steps, row, columns as u32)?;
+    push_names(svg, Scale::Steps, row, columns, u64::from(row))?;
     Ok(())
 }
 
@@ -161,18 +87,8 @@ pub fn push_lanes<A: Allocator>(
         ++ spec.step_texts (rows_shapes nodes columns)) }
 {
     for row in 0..nodes + 1 {
-        push_row(svg, row, columns)?;
+        push_row(svg, row as u8, columns)?;
     }
-    Ok(())
-}
-
-/// Appends the number of an event, above its column.
-pub fn push_step_number<A: Allocator>(svg: &mut Vec<u8, A>, column: u32) -> Result<(), AllocError>
-    ensures { OnOk result (svg.new.items ≡ svg.old.items ++ spec.step_number_text column) }
-{
-    push_field(svg, b"<text class='small' x='", step_x(column))?;
-    push_field(svg, b"' y='36'>", u64::from(column) + 1)?;
-    svg.extend_from_slice(b"</text>\n")?;
     Ok(())
 }
 
@@ -188,12 +104,7 @@ fn push_at_bar<A: Allocator>(
     requires ordered { start ≤ end }
     ensures { OnOk result (svg.new.items ≡ svg.old.items ++ spec.at_bar_text node start end point) }
 {
-    svg.extend_from_slice(b"<rect class='")?;
-    svg.extend_from_slice(class_at(point))?;
-    push_field(svg, b"' x='", step_x(start))?;
-    push_field(svg, b"' y='", step_y(node) - 8)?;
-    push_field(svg, b"' width='", 72 * u64::from(end - start))?;
-    push_field(svg, b"' height='16'><title>node ", node)?;
+    push_bar_begin(svg, Scale::Steps, node as u8, start, end, class_at(point), node)?;
     svg.extend_from_slice(b": ")?;
     push_point(svg, point)?;
     svg.extend_from_slice(b"</title></rect>\n")?;
@@ -210,8 +121,8 @@ fn push_at_name<A: Allocator>(
     requires { node ≤ MAX_NODES }
     ensures { OnOk result (svg.new.items ≡ svg.old.items ++ spec.at_name_text node start point) }
 {
-    push_field(svg, b"<text class='at' x='", step_x(start) + 8)?;
-    push_field(svg, b"' y='", step_y(node) + 3)?;
+    push_field(svg, b"<text class='at' x='", Scale::Steps.x(start) + 8)?;
+    push_field(svg, b"' y='", Scale::Steps.y(node as u8) + 3)?;
     svg.extend_from_slice(b"'>")?;
     push_point(svg, point)?;
     svg.extend_from_slice(b"</text>\n")?;
@@ -245,8 +156,8 @@ pub fn push_lies<A: Allocator>(
 {
     svg.extend_from_slice(b"<rect class='")?;
     svg.extend_from_slice(class_of_place(place))?;
-    push_field(svg, b"' x='", step_x(column))?;
-    push_field(svg, b"' y='", step_y(row_of_place(place)) + 10)?;
+    push_field(svg, b"' x='", Scale::Steps.x(column))?;
+    push_field(svg, b"' y='", Scale::Steps.y(row_of_place(place)) + 10)?;
     svg.extend_from_slice(b"' width='72' height='5'><title>")?;
     push_place(svg, place)?;
     svg.extend_from_slice(b"</title></rect>\n")?;
@@ -261,7 +172,7 @@ pub fn push_home<A: Allocator>(
 ) -> Result<(), AllocError>
     ensures { OnOk result (svg.new.items ≡ svg.old.items ++ spec.home_text column word) }
 {
-    push_field(svg, b"<text class='small' x='", step_x(column))?;
+    push_field(svg, b"<text class='small' x='", Scale::Steps.x(column))?;
     push_field(svg, b"' y='57'><title>the home word is ", word)?;
     push_field(svg, b"</title>", word)?;
     svg.extend_from_slice(b"</text>\n")?;
@@ -278,8 +189,8 @@ pub fn push_word<A: Allocator>(
     requires { node ≤ MAX_NODES }
     ensures { OnOk result (svg.new.items ≡ svg.old.items ++ spec.word_text column node entry.now) }
 {
-    push_field(svg, b"<text class='small' x='", step_x(column))?;
-    push_field(svg, b"' y='", step_y(node) - 11)?;
+    push_field(svg, b"<text class='small' x='", Scale::Steps.x(column))?;
+    push_field(svg, b"' y='", Scale::Steps.y(node as u8) - 11)?;
     push_field(svg, b"'><title>the entry of node ", node)?;
     svg.extend_from_slice(b" is ")?;
     push_entry(svg, entry)?;
@@ -300,13 +211,8 @@ pub fn push_act<A: Allocator>(
     requires { node_of event.now ≤ MAX_NODES }
     ensures { OnOk result (svg.new.items ≡ svg.old.items ++ spec.act_text column event.now told) }
 {
-    svg.extend_from_slice(b"<use href='#")?;
-    svg.extend_from_slice(sign_at(told))?;
-    push_field(svg, b"' x='", step_x(column))?;
-    push_field(svg, b"' y='", step_y(event.node()))?;
-    svg.extend_from_slice(b"'><title>")?;
+    push_sign_begin(svg, Scale::Steps, event.node() as u8, column, sign_at(told))?;
     push_told(alloc, svg, column, event, told)?;
-    svg.extend_from_slice(b"</title></use>\n")?;
-    push_verb(svg, step_x(column), step_verb(event))?;
+    push_sign_end(svg, Scale::Steps, column, step_verb(event))?;
     Ok(())
 }

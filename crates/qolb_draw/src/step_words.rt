@@ -1,5 +1,5 @@
 //! The words of an event of a step script, a place and an entry.
-ghost use Rattle.std.specs.Prelude.{◌≡◌, ◌++◌, ◌≤◌, OnOk};
+ghost use Rattle.std.specs.Prelude.{◌≡◌, ◌++◌, OnOk};
 ghost use Rattle.qolb_script.specs.StepReply.{step_said};
 ghost use Rattle.qolb_draw.specs.StepSvg as spec;
 
@@ -55,14 +55,13 @@ pub fn push_place<A: Allocator>(text: &mut Vec<u8, A>, place: Place) -> Result<(
 }
 
 /// Returns the row that shows a place: that of its node, or of the home word.
-pub fn row_of_place(place: Place) -> u64
-    ensures matches { result ≡ spec.row_of_place place }
-    ensures in_range { result ≤ MAX_NODES }
+pub fn row_of_place(place: Place) -> u8
+    ensures { result ≡ spec.row_of_place place }
 {
     match place {
         Place::Home => 0,
-        Place::Mailbox(node) => node.min(MAX_NODES),
-        Place::Hand(node) => node.min(MAX_NODES),
+        Place::Mailbox(node) => node.min(MAX_NODES) as u8,
+        Place::Hand(node) => node.min(MAX_NODES) as u8,
     }
 }
 

@@ -1,5 +1,5 @@
-//! The shapes of a timeline as an SVG. A column is 32 pixels wide and a row 40 high.
-ghost use Rattle.std.specs.Prelude.{◌≡◌, ◌++◌, ◌<◌, ◌≤◌, ◌-◌, ◌*◌, decimal, OnOk, IfOk, length};
+//! The shapes of an SVG: those that both kinds of pictures have, and those of schedules.
+ghost use Rattle.std.specs.Prelude.{◌≡◌, ◌++◌, ◌≤◌, OnOk, IfOk};
 ghost use Rattle.qolb_script.specs.declared.schedule.TheConstants.{MAX_COMMANDS};
 ghost use Rattle.qolb_draw.specs.Svg as spec;
 
@@ -69,42 +69,96 @@ pub const TAIL: &[u8] = b"</svg>\n";
 /// The number of columns after which the name of a node is repeated.
 pub const NAMED_EVERY: usize = 20;
 
-/// Returns the place of a column's command, from the left.
-fn x_of(column: u32) -> u64
-    ensures { result ≡ spec.x_of column }
-{
-    96 + 32 * u64::from(column)
+/// The size of a picture's columns and rows.
+#[derive(Clone, Copy)]
+pub enum Scale {
+    /// A schedule: a column is 32 pixels wide, and a row 40 high.
+    Schedule,
+    /// A step script: a column is 72 pixels wide, and a row 48 high.
+    Steps,
 }
 
-/// Returns the middle of a row, from the top of its line.
-fn y_of(row: u8) -> u64
-    ensures { result ≡ spec.y_of row }
-{
-    68 + 40 * u64::from(row)
-}
+impl Scale {
+    /// Returns the place of a column's command or event, from the left.
+    pub fn x(self, column: u32) -> u64
+        ensures place { result ≡ spec.x_at self column }
+        ensures low { 96 ≤ result }
+    {
+        match self {
+            Scale::Schedule => 96 + 32 * u64::from(column),
+            Scale::Steps => 96 + 72 * u64::from(column),
+        }
+    }
 
-/// Returns the height of a node's name: beside its row at the beginning, and below its bars further on.
-fn name_y(row: u8, column: u32) -> u64
-    ensures { result ≡ spec.name_y row column }
-{
-    if column == 0 {
-        y_of(row) + 4
-    } else {
-        y_of(row) + 19
+    /// Returns the middle of a row, from the top of its line.
+    pub fn y(self, row: u8) -> u64
+        ensures place { result ≡ spec.y_at self row }
+        ensures low { 68 ≤ result }
+        ensures high { result ≤ 12308 }
+    {
+        match self {
+            Scale::Schedule => 68 + 40 * u64::from(row),
+            Scale::Steps => 68 + 48 * u64::from(row),
+        }
+    }
+
+    /// Returns the height of a row's name: beside the row at the beginning, and below its bars further on.
+    fn name_y(self, row: u8, column: u32) -> u64
+        ensures { result ≡ spec.name_y_at self row column }
+    {
+        match self {
+            _ if column == 0 => self.y(row) + 4,
+            Scale::Schedule => self.y(row) + 19,
+            Scale::Steps => self.y(row) + 26,
+        }
+    }
+
+    /// Returns the width of these columns.
+    fn width(self, columns: u32) -> u64
+        ensures { result ≡ spec.width_at self columns }
+    {
+        match self {
+            Scale::Schedule => 32 * u64::from(columns),
+            Scale::Steps => 72 * u64::from(columns),
+        }
     }
 }
 
 /// Appends the thin line of a row, through `columns` columns.
 pub fn push_lane<A: Allocator>(
     svg: &mut Vec<u8, A>,
+    scale: Scale,
     row: u8,
     columns: u32,
 ) -> Result<(), AllocError>
-    ensures { OnOk result (svg.new.items ≡ svg.old.items ++ spec.lane_text row columns) }
+    ensures { OnOk result (svg.new.items ≡ svg.old.items ++ spec.lane_text scale row columns) }
 {
-    push_field(svg, b"<path class='lane' d='M96 ", y_of(row))?;
-    push_field(svg, b"H", x_of(columns))?;
+    push_field(svg, b"<path class='lane' d='M96 ", scale.y(row))?;
+    push_field(svg, b"H", scale.x(columns))?;
     svg.extend_from_slice(b"'/>\n")?;
+    Ok(())
+}
+
+/// Appends the beginning of a bar, from one column to another: all before the words of its node's state.
+pub fn push_bar_begin<A: Allocator>(
+    svg: &mut Vec<u8, A>,
+    scale: Scale,
+    row: u8,
+    start: u32,
+    end: u32,
+    class: &[u8],
+    node: u64,
+) -> Result<(), AllocError>
+    requires { start ≤ end }
+    ensures { OnOk result (svg.new.items ≡ svg.old.items
+        ++ spec.bar_begin scale row start end class.now node) }
+{
+    svg.extend_from_slice(b"<rect class='")?;
+    svg.extend_from_slice(class)?;
+    push_field(svg, b"' x='", scale.x(start))?;
+    push_field(svg, b"' y='", scale.y(row) - 8)?;
+    push_field(svg, b"' width='", scale.width(end - start))?;
+    push_field(svg, b"' height='16'><title>node ", node)?;
     Ok(())
 }
 
@@ -121,55 +175,72 @@ pub fn push_bar<A: Allocator>(
     ensures { OnOk result (svg.new.items ≡ svg.old.items
         ++ spec.bar_text row start end stand node) }
 {
-    svg.extend_from_slice(b"<rect class='")?;
-    svg.extend_from_slice(stand.class())?;
-    push_field(svg, b"' x='", x_of(start))?;
-    push_field(svg, b"' y='", y_of(row) - 8)?;
-    push_field(svg, b"' width='", 32 * u64::from(end - start))?;
-    push_field(svg, b"' height='16'><title>node ", node)?;
+    push_bar_begin(svg, Scale::Schedule, row, start, end, stand.class(), node)?;
     svg.extend_from_slice(stand.words())?;
     svg.extend_from_slice(b"</title></rect>\n")?;
     Ok(())
 }
 
-/// Appends what a node's name at a column has behind its place from the left. It is the same for all columns but the first.
-pub fn push_name_end<A: Allocator>(
+/// Appends the name of a row: that of a node, or of the home word, which is 0.
+fn push_row_words<A: Allocator>(svg: &mut Vec<u8, A>, node: u64) -> Result<(), AllocError>
+    ensures { OnOk result (svg.new.items ≡ svg.old.items ++ spec.row_name node) }
+{
+    if node == 0 {
+        svg.extend_from_slice(b"home")?;
+    } else {
+        push_field(svg, b"node ", node)?;
+    }
+    Ok(())
+}
+
+/// Appends the name of a row, at a column.
+fn push_name<A: Allocator>(
     svg: &mut Vec<u8, A>,
+    scale: Scale,
     row: u8,
     column: u32,
     node: u64,
 ) -> Result<(), AllocError>
-    ensures { OnOk result (svg.new.items ≡ svg.old.items ++ spec.name_end row column node) }
+    ensures { OnOk result (svg.new.items ≡ svg.old.items
+        ++ spec.name_text scale row column node) }
 {
-    push_field(svg, b"' y='", name_y(row, column))?;
-    push_field(svg, b"'>node ", node)?;
+    push_field(svg, b"<text class='name' x='", scale.x(column) - 88)?;
+    push_field(svg, b"' y='", scale.name_y(row, column))?;
+    svg.extend_from_slice(b"'>")?;
+    push_row_words(svg, node)?;
     svg.extend_from_slice(b"</text>\n")?;
     Ok(())
 }
 
-/// Appends the name of a node at a column, with this end.
-pub fn push_name<A: Allocator>(
+/// Appends the name of a row, repeated.
+pub fn push_names<A: Allocator>(
     svg: &mut Vec<u8, A>,
-    column: u32,
-    end: &[u8],
+    scale: Scale,
+    row: u8,
+    columns: usize,
+    node: u64,
 ) -> Result<(), AllocError>
+    requires { columns ≤ MAX_COMMANDS }
     ensures { OnOk result (svg.new.items ≡ svg.old.items
-        ++ (spec.name_begin column ++ end.now)) }
+        ++ spec.names_text scale row columns node) }
 {
-    push_field(svg, b"<text class='name' x='", x_of(column) - 88)?;
-    svg.extend_from_slice(end)?;
+    for count in 0..(columns + (NAMED_EVERY - 1)) / NAMED_EVERY {
+        push_name(svg, scale, row, (NAMED_EVERY * count) as u32, node)?;
+    }
     Ok(())
 }
 
-/// Appends the number of a command, above its column.
+/// Appends the number of a command or an event, above its column.
 pub fn push_number<A: Allocator>(
     svg: &mut Vec<u8, A>,
+    scale: Scale,
     column: u32,
     number: u64,
 ) -> Result<(), AllocError>
-    ensures { OnOk result (svg.new.items ≡ svg.old.items ++ spec.number_text column number) }
+    ensures { OnOk result (svg.new.items ≡ svg.old.items
+        ++ spec.number_text scale column number) }
 {
-    push_field(svg, b"<text class='small' x='", x_of(column))?;
+    push_field(svg, b"<text class='small' x='", scale.x(column))?;
     push_field(svg, b"' y='36'>", number)?;
     svg.extend_from_slice(b"</text>\n")?;
     Ok(())
@@ -188,9 +259,9 @@ pub fn push_arrow<A: Allocator>(
     ensures { OnOk result (svg.new.items ≡ svg.old.items
         ++ spec.arrow_text column number giver from taker to) }
 {
-    push_field(svg, b"<path class='arrow' d='M", x_of(column))?;
-    push_field(svg, b" ", y_of(giver))?;
-    push_field(svg, b"V", y_of(taker))?;
+    push_field(svg, b"<path class='arrow' d='M", Scale::Schedule.x(column))?;
+    push_field(svg, b" ", Scale::Schedule.y(giver))?;
+    push_field(svg, b"V", Scale::Schedule.y(taker))?;
     push_field(svg, b"'><title>", number)?;
     push_field(svg, b": node ", from)?;
     push_field(svg, b" hands over to node ", to)?;
@@ -209,19 +280,44 @@ pub fn push_bytes<A: Allocator>(
     ensures { OnOk result (svg.new.items ≡ svg.old.items
         ++ spec.bytes_text row column bytes.now places.now) }
 {
-    push_field(svg, b"<text class='small' x='", x_of(column))?;
-    push_field(svg, b"' y='", y_of(row) - 11)?;
+    push_field(svg, b"<text class='small' x='", Scale::Schedule.x(column))?;
+    push_field(svg, b"' y='", Scale::Schedule.y(row) - 11)?;
     svg.extend_from_slice(b"'>")?;
     push_shortened(svg, bytes, places)?;
     svg.extend_from_slice(b"</text>\n")?;
     Ok(())
 }
 
-/// Appends the first word of a command or an event, at this place from the left: above the column, below its number.
-pub fn push_verb<A: Allocator>(svg: &mut Vec<u8, A>, x: u64, verb: &[u8]) -> Result<(), AllocError>
-    ensures { OnOk result (svg.new.items ≡ svg.old.items ++ spec.verb_text x verb.now) }
+/// Appends the beginning of a sign, in a row at a column: all before its words.
+pub fn push_sign_begin<A: Allocator>(
+    svg: &mut Vec<u8, A>,
+    scale: Scale,
+    row: u8,
+    column: u32,
+    sign: &[u8],
+) -> Result<(), AllocError>
+    ensures { OnOk result (svg.new.items ≡ svg.old.items
+        ++ spec.sign_begin scale row column sign.now) }
 {
-    push_field(svg, b"<text class='small' x='", x)?;
+    svg.extend_from_slice(b"<use href='#")?;
+    svg.extend_from_slice(sign)?;
+    push_field(svg, b"' x='", scale.x(column))?;
+    push_field(svg, b"' y='", scale.y(row))?;
+    svg.extend_from_slice(b"'><title>")?;
+    Ok(())
+}
+
+/// Appends the end of a sign, and the first word of its command or event: above the column, below its number.
+pub fn push_sign_end<A: Allocator>(
+    svg: &mut Vec<u8, A>,
+    scale: Scale,
+    column: u32,
+    verb: &[u8],
+) -> Result<(), AllocError>
+    ensures { OnOk result (svg.new.items ≡ svg.old.items ++ spec.sign_end scale column verb.now) }
+{
+    svg.extend_from_slice(b"</title></use>\n")?;
+    push_field(svg, b"<text class='small' x='", scale.x(column))?;
     svg.extend_from_slice(b"' y='47'>")?;
     svg.extend_from_slice(verb)?;
     svg.extend_from_slice(b"</text>\n")?;
@@ -238,17 +334,13 @@ pub fn push_call<A: Allocator + Copy>(
 ) -> Result<(), AllocError>
     ensures { OnOk result (svg.new.items ≡ svg.old.items ++ spec.call_text row column event.now) }
 {
-    svg.extend_from_slice(b"<use href='#")?;
-    svg.extend_from_slice(sign(&event.change.said))?;
-    push_field(svg, b"' x='", x_of(column))?;
-    push_field(svg, b"' y='", y_of(row))?;
-    push_field(svg, b"'><title>", event.number)?;
+    push_sign_begin(svg, Scale::Schedule, row, column, sign(&event.change.said))?;
+    push_field(svg, b"", event.number)?;
     svg.extend_from_slice(b": ")?;
     push_command(alloc, svg, &event.command)?;
     svg.extend_from_slice(b": ")?;
     push_answer(svg, &event.change.said)?;
-    svg.extend_from_slice(b"</title></use>\n")?;
-    push_verb(svg, x_of(column), verb(&event.command))?;
+    push_sign_end(svg, Scale::Schedule, column, verb(&event.command))?;
     Ok(())
 }
 

@@ -10,7 +10,7 @@ returns-clause-svg g c = λ s h e.
     let node : ℕ = node_of c.args.event.now in
     event_whole c.args.svg.now.items (Number c.args.column) (At node c.args.column (c.args.column + (until node c.args.rest.now + 1)) (point c.args.core.now node)) (Lies c.args.column c.args.core.now.place)
     (home_shapes c.args.column s.home c.args.core.now.home) (words_shapes c.args.column (entries_of s) c.args.core.now) (Act c.args.column c.args.event.now c.args.told) _ _ _ _ _ _
-    c.in_ok-push_step_number.ensures
+    (rw c.from.ensures at c.in_ok-push_number.ensures)
     (rw (c.until.ensures.matches, c.point.ensures, c.node-node.ensures) at c.in_ok-push_at.ensures)
     (rw c.place.ensures at c.in_ok-push_lies.ensures)
     (rw (c.home.ensures, h) at c.in_ok-push_other_home.ensures)

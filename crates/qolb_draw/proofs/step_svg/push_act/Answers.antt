@@ -1,19 +1,13 @@
-use Rattle.std.specs.Prelude.{codes}
 use Rattle.link_core.specs.Steps.{node_of}
-use Rattle.qolb_draw.specs.Svg.{verb_text}
-use Rattle.qolb_words.specs.Words.{field}
 use Rattle.qolb_words.specs.Words.{step_verb}
-use Rattle.qolb_draw.specs.StepSvg.{sign_at, step_x, step_y, told_words}
+use Rattle.qolb_draw.specs.declared.svg.Scale.TheVariants as scale
+use Rattle.qolb_draw.specs.Svg.{sign_begin, sign_end}
+use Rattle.qolb_draw.specs.StepSvg.{sign_at, told_words}
 use Rattle.qolb_words.proofs.Pieces.{begins, piece, ◌▸◌}
 use Rattle.qolb_draw.proofs.step_svg.push_act.Goals as goal
 
 pub returns : goal.returns
 returns g c =
-    (begins c.args.svg.now.items (codes "<use href='#") c.in_ok-extend_from_slice.ensures.items
-    ▸ piece (sign_at c.args.told) (rw c.sign_at.ensures at c.in_ok-extend_from_slice-2.ensures.items)
-    ▸ piece (field (codes "' x='") (step_x c.args.column)) (rw c.step_x.ensures at c.in_ok-push_field.ensures)
-    ▸ piece (field (codes "' y='") (step_y (node_of c.args.event.now))) (rw (c.step_y.ensures, c.node.ensures) at c.in_ok-push_field-2.ensures)
-    ▸ piece (codes "'><title>") c.in_ok-extend_from_slice-3.ensures.items
+    (begins c.args.svg.now.items (sign_begin scale.Steps (node_of c.args.event.now) c.args.column (sign_at c.args.told)) (rw (c.sign_at.ensures, c.node.ensures) at c.in_ok-push_sign_begin.ensures)
     ▸ piece (told_words c.args.column c.args.event.now c.args.told) c.in_ok-push_told.ensures
-    ▸ piece (codes "</title></use>\n") c.in_ok-extend_from_slice-4.ensures.items
-    ▸ piece (verb_text (step_x c.args.column) (step_verb c.args.event.now)) (rw (c.step_x-2.ensures, c.step_verb.ensures) at c.in_ok-push_verb.ensures)).is
+    ▸ piece (sign_end scale.Steps c.args.column (step_verb c.args.event.now)) (rw c.step_verb.ensures at c.in_ok-push_sign_end.ensures)).is

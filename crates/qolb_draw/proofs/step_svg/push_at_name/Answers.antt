@@ -8,8 +8,8 @@ use Rattle.qolb_draw.proofs.step_svg.push_at_name.Goals as goal
 
 pub returns : goal.returns
 returns g c =
-    (begins c.args.svg.now.items (field (codes "<text class='at' x='") (step_x c.args.start + 8)) (rw c.step_x.ensures at c.in_ok-push_field.ensures)
-    ▸ piece (field (codes "' y='") (step_y c.args.node + 3)) (rw c.step_y.ensures at c.in_ok-push_field-2.ensures)
+    (begins c.args.svg.now.items (field (codes "<text class='at' x='") (step_x c.args.start + 8)) (rw c.x.ensures.place at c.in_ok-push_field.ensures)
+    ▸ piece (field (codes "' y='") (step_y c.args.node + 3)) (rw c.y.ensures.place at c.in_ok-push_field-2.ensures)
     ▸ piece (codes "'>") c.in_ok-extend_from_slice.ensures.items
     ▸ piece (point_words c.args.point) c.in_ok-push_point.ensures
     ▸ piece (codes "</text>\n") c.in_ok-extend_from_slice-2.ensures.items).is

@@ -7,8 +7,8 @@ use Rattle.qolb_draw.proofs.step_svg.push_word.Goals as goal
 
 pub returns : goal.returns
 returns g c =
-    (begins c.args.svg.now.items (field (codes "<text class='small' x='") (step_x c.args.column)) (rw c.step_x.ensures at c.in_ok-push_field.ensures)
-    ▸ piece (field (codes "' y='") (step_y c.args.node - 11)) (rw c.step_y.ensures at c.in_ok-push_field-2.ensures)
+    (begins c.args.svg.now.items (field (codes "<text class='small' x='") (step_x c.args.column)) (rw c.x.ensures.place at c.in_ok-push_field.ensures)
+    ▸ piece (field (codes "' y='") (step_y c.args.node - 11)) (rw c.y.ensures.place at c.in_ok-push_field-2.ensures)
     ▸ piece (field (codes "'><title>the entry of node ") c.args.node) c.in_ok-push_field-3.ensures
     ▸ piece (codes " is ") c.in_ok-extend_from_slice.ensures.items
     ▸ piece (entry_words c.args.entry.now) c.in_ok-push_entry.ensures
