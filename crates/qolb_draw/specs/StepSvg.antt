@@ -1,5 +1,5 @@
 -- The shapes of a step script as an SVG. (Of this project.)
-use Rattle.std.specs.Prelude.{ℕ, ◌+◌, ◌-◌, ◌*◌, ◌==◌, min, Bool, if◌then◌else◌, List, [], ◌++◌, flat_map, codes, Option, Some, None}
+use Rattle.std.specs.Prelude.{ℕ, ◌+◌, ◌-◌, ◌*◌, ◌==◌, min, Bool, if◌then◌else◌, List, [], ◌++◌, flat_map, codes, Option, Some, None, decimal, ◌∷◌}
 use Rattle.link_core.specs.declared.entry.Entry.{Entry}
 use Rattle.link_core.specs.declared.event.Event.{Event}
 use Rattle.link_core.specs.declared.event.Event.TheVariants as event
@@ -14,11 +14,9 @@ use Rattle.qolb_model.specs.declared.config.TheConstants.{MAX_NODES}
 use Rattle.qolb_script.specs.declared.command.Command.TheVariants.{Write}
 use Rattle.qolb_script.specs.Said.{said_words}
 use Rattle.qolb_script.specs.StepReply.{step_said}
-use Rattle.qolb_words.specs.Words.{named, point_words}
 use Rattle.qolb_draw.specs.declared.svg.Scale.TheVariants as scale
-use Rattle.qolb_draw.specs.Svg.{bar_begin, lane_text, name_text, name_y_at, number_text, sign_begin, sign_end, written_words, x_at, y_at}
-use Rattle.qolb_words.specs.Words.{field}
-use Rattle.qolb_words.specs.Words.{step_verb}
+use Rattle.qolb_words.specs.Words.{joined, named_by, number_if, point_name, step_verb}
+use Rattle.qolb_draw.specs.Svg.{lane_text, name_text, name_y_at, number_text, sign_begin, sign_end, span_text, written_words, x_at, y_at}
 use Rattle.qolb_draw.specs.StepShapes.{StepShape, Lane, Name, Number, At, Lies, Home, Word, Act}
 
 -- the place of an event, from the left; the middle of a row, from the top; the height of a row's name
@@ -58,7 +56,7 @@ whose (place.Mailbox n) = Some n
 whose (place.Hand n) = Some n
 
 abbrev pub place_words : Place → List ℕ
-place_words p = named (place_name p) (whose p)
+place_words p = joined (place_name p ∷ number_if (whose p) ∷ [])
 
 abbrev pub row_of_place : Place → ℕ
 row_of_place place.Home = 0
@@ -75,7 +73,7 @@ abbrev pub letter_if : Bool → List ℕ → List ℕ
 letter_if flag letter = if flag then letter else []
 
 abbrev pub entry_words : Entry → List ℕ
-entry_words e = letter_if e.granted (codes "g") ++ letter_if e.rolled (codes "r") ++ letter_if e.done (codes "d") ++ field (letter_if e.freed (codes "f")) e.link
+entry_words e = joined (letter_if e.granted (codes "g") ∷ letter_if e.rolled (codes "r") ∷ letter_if e.done (codes "d") ∷ letter_if e.freed (codes "f") ∷ decimal e.link ∷ [])
 
 -- the words of a write behind its node; the whole event as a script has it
 abbrev pub placed_words : Event → List ℕ
@@ -83,14 +81,14 @@ placed_words (event.Write n mask bytes) = written_words (Write n 0 mask bytes)
 placed_words e = []
 
 abbrev pub event_words : Event → List ℕ
-event_words e = step_verb e ++ field (codes " ") (node_of e) ++ placed_words e
+event_words e = joined (step_verb e ∷ codes " " ∷ decimal (node_of e) ∷ []) ++ placed_words e
 
 -- the words of an event and of what it told; the same with the number of its column before them
 abbrev pub heard_words : Event → Option Told → List ℕ
 heard_words e what = event_words e ++ codes ": " ++ said_words (step_said what)
 
 abbrev pub told_words : ℕ → Event → Option Told → List ℕ
-told_words column e what = field [] (column + 1) ++ codes ": " ++ heard_words e what
+told_words column e what = joined (decimal (column + 1) ∷ codes ": " ∷ []) ++ heard_words e what
 
 -- the sign of an event that told this
 abbrev pub sign_at : Option Told → List ℕ
@@ -101,28 +99,27 @@ sign_at what = codes "call"
 
 -- the text of each shape
 abbrev pub at_bar_text : ℕ → ℕ → ℕ → Point → List ℕ
-at_bar_text node start end p = bar_begin scale.Steps node start end (class_at p) node ++ codes ": " ++ point_words p ++ codes "</title></rect>\n"
+at_bar_text node start end p = span_text scale.Steps node start end (class_at p) node (joined (codes ": " ∷ point_name p ∷ number_if (named_by p) ∷ []))
 
 abbrev pub at_name_text : ℕ → ℕ → Point → List ℕ
 at_name_text node start p =
-    field (codes "<text class='at' x='") (step_x start + 8) ++ field (codes "' y='") (step_y node + 3) ++ codes "'>" ++ point_words p ++ codes "</text>\n"
+    joined (codes "<text class='at' x='" ∷ decimal (step_x start + 8) ∷ codes "' y='" ∷ decimal (step_y node + 3) ∷ codes "'>" ∷ point_name p ∷ number_if (named_by p) ∷ codes "</text>\n" ∷ [])
 
 abbrev pub at_text : ℕ → ℕ → ℕ → Point → List ℕ
 at_text node start end p = at_bar_text node start end p ++ at_name_text node start p
 
 abbrev pub lies_text : ℕ → Place → List ℕ
 lies_text column p =
-    codes "<rect class='" ++ class_of_place p ++ field (codes "' x='") (step_x column) ++ field (codes "' y='") (step_y (row_of_place p) + 10)
-    ++ codes "' width='72' height='5'><title>" ++ place_words p ++ codes "</title></rect>\n"
+    joined (codes "<rect class='" ∷ class_of_place p ∷ codes "' x='" ∷ decimal (step_x column) ∷ codes "' y='" ∷ decimal (step_y (row_of_place p) + 10) ∷ codes "' width='72' height='5'><title>" ∷ place_name p ∷ number_if (whose p) ∷ codes "</title></rect>\n" ∷ [])
 
 abbrev pub home_text : ℕ → ℕ → List ℕ
 home_text column word =
-    field (codes "<text class='small' x='") (step_x column) ++ field (codes "' y='57'><title>the home word is ") word ++ field (codes "</title>") word ++ codes "</text>\n"
+    joined (codes "<text class='small' x='" ∷ decimal (step_x column) ∷ codes "' y='57'><title>the home word is " ∷ decimal word ∷ codes "</title>" ∷ decimal word ∷ codes "</text>\n" ∷ [])
 
 abbrev pub word_text : ℕ → ℕ → Entry → List ℕ
 word_text column node e =
-    field (codes "<text class='small' x='") (step_x column) ++ field (codes "' y='") (step_y node - 11) ++ field (codes "'><title>the entry of node ") node
-    ++ codes " is " ++ entry_words e ++ codes "</title>" ++ entry_words e ++ codes "</text>\n"
+    joined (codes "<text class='small' x='" ∷ decimal (step_x column) ∷ codes "' y='" ∷ decimal (step_y node - 11) ∷ codes "'><title>the entry of node " ∷ decimal node ∷ codes " is " ∷ [])
+    ++ entry_words e ++ codes "</title>" ++ entry_words e ++ codes "</text>\n"
 
 abbrev pub act_text : ℕ → Event → Option Told → List ℕ
 act_text column e what = sign_begin scale.Steps (node_of e) column (sign_at what) ++ told_words column e what ++ sign_end scale.Steps column (step_verb e)

@@ -1,5 +1,5 @@
 -- The shapes of an SVG as text. In a schedule a column is 32 pixels wide and a row 40 high, and in a step script 72 and 48. (Of this project.)
-use Rattle.std.specs.Prelude.{ℕ, ◌+◌, ◌-◌, ◌*◌, ◌/◌, ◌%◌, ◌==◌, nat_lt, if◌then◌else◌, List, [], ◌∷◌, ◌++◌, length, flat_map, take, codes, decimal, slice_index}
+use Rattle.std.specs.Prelude.{ℕ, ◌+◌, ◌-◌, ◌*◌, ◌/◌, ◌%◌, ◌==◌, nat_lt, if◌then◌else◌, List, [], ◌∷◌, ◌++◌, length, flat_map, take, codes, decimal, slice_index, Option, Some, None}
 use Rattle.std.specs.List.{range_with_len}
 use Rattle.qolb_model.specs.declared.answer.Out.TheVariants as out
 use Rattle.qolb_script.specs.declared.command.Command.{Command}
@@ -16,7 +16,7 @@ use Rattle.qolb_draw.specs.declared.svg.TheConstants.{NAMED_EVERY, STYLE}
 use Rattle.qolb_draw.specs.declared.svg.Scale.{Scale}
 use Rattle.qolb_draw.specs.declared.svg.Scale.TheVariants as scale
 use Rattle.qolb_draw.specs.Shapes.{Shape, Lane, Bar, Name, Number, Arrow, Bytes, Call, name_count, places_in}
-use Rattle.qolb_words.specs.Words.{verb_of}
+use Rattle.qolb_words.specs.Words.{field, joined, number_if, verb_of}
 
 -- the place of a column's command or event, from the left; the middle of a row, from the top of its line
 abbrev pub x_at : Scale → ℕ → ℕ
@@ -94,36 +94,38 @@ command_words c = verb_of c ++ field (codes " ") (node_of c) ++ field (codes " "
 
 -- the text of each shape
 abbrev pub lane_text : Scale → ℕ → ℕ → List ℕ
-lane_text s row columns = field (codes "<path class='lane' d='M96 ") (y_at s row) ++ field (codes "H") (x_at s columns) ++ codes "'/>\n"
+lane_text s row columns = joined (codes "<path class='lane' d='M96 " ∷ decimal (y_at s row) ∷ codes "H" ∷ decimal (x_at s columns) ∷ codes "'/>\n" ∷ [])
 
--- a bar, before the words of its state
-abbrev pub bar_begin : Scale → ℕ → ℕ → ℕ → List ℕ → ℕ → List ℕ
-bar_begin s row start end class node =
-    codes "<rect class='" ++ class ++ field (codes "' x='") (x_at s start) ++ field (codes "' y='") (y_at s row - 8)
-    ++ field (codes "' width='") (width_at s (end - start)) ++ field (codes "' height='16'><title>node ") node
+-- a bar of this class, with these words
+abbrev pub span_text : Scale → ℕ → ℕ → ℕ → List ℕ → ℕ → List ℕ → List ℕ
+span_text s row start end class node says =
+    joined (codes "<rect class='" ∷ class ∷ codes "' x='" ∷ decimal (x_at s start) ∷ codes "' y='" ∷ decimal (y_at s row - 8) ∷ codes "' width='" ∷ decimal (width_at s (end - start)) ∷ codes "' height='16'><title>node " ∷ decimal node ∷ [])
+    ++ says ++ codes "</title></rect>\n"
 
 abbrev pub bar_text : ℕ → ℕ → ℕ → Stand → ℕ → List ℕ
-bar_text row start end s node = bar_begin scale.Schedule row start end (class_of s) node ++ words_of s ++ codes "</title></rect>\n"
+bar_text row start end s node = span_text scale.Schedule row start end (class_of s) node (joined (words_of s ∷ []))
 
--- the name of a row: of a node, or of the home word, which is 0
-abbrev pub row_name : ℕ → List ℕ
-row_name node = if node == 0 then codes "home" else field (codes "node ") node
+-- the name of a row, and the number behind it: of a node, or of the home word, which is 0
+abbrev pub row_words : ℕ → List ℕ
+row_words node = if node == 0 then codes "home" else codes "node "
+
+abbrev pub row_number : ℕ → Option ℕ
+row_number node = if node == 0 then None else Some node
 
 -- a name, and all names of a row
 abbrev pub name_text : Scale → ℕ → ℕ → ℕ → List ℕ
 name_text s row column node =
-    field (codes "<text class='name' x='") (x_at s column - 88) ++ field (codes "' y='") (name_y_at s row column) ++ codes "'>" ++ row_name node ++ codes "</text>\n"
+    joined (codes "<text class='name' x='" ∷ decimal (x_at s column - 88) ∷ codes "' y='" ∷ decimal (name_y_at s row column) ∷ codes "'>" ∷ row_words node ∷ number_if (row_number node) ∷ codes "</text>\n" ∷ [])
 
 abbrev pub names_text : Scale → ℕ → ℕ → ℕ → List ℕ
 names_text s row columns node = flat_map (λ k. name_text s row (NAMED_EVERY * k) node) (range_with_len 0 (name_count columns))
 
 abbrev pub number_text : Scale → ℕ → ℕ → List ℕ
-number_text s column number = field (codes "<text class='small' x='") (x_at s column) ++ field (codes "' y='36'>") number ++ codes "</text>\n"
+number_text s column number = joined (codes "<text class='small' x='" ∷ decimal (x_at s column) ∷ codes "' y='36'>" ∷ decimal number ∷ codes "</text>\n" ∷ [])
 
 abbrev pub arrow_text : ℕ → ℕ → ℕ → ℕ → ℕ → ℕ → List ℕ
 arrow_text column number giver from taker to =
-    field (codes "<path class='arrow' d='M") (x_of column) ++ field (codes " ") (y_of giver) ++ field (codes "V") (y_of taker)
-    ++ field (codes "'><title>") number ++ field (codes ": node ") from ++ field (codes " hands over to node ") to ++ codes "</title></path>\n"
+    joined (codes "<path class='arrow' d='M" ∷ decimal (x_of column) ∷ codes " " ∷ decimal (y_of giver) ∷ codes "V" ∷ decimal (y_of taker) ∷ codes "'><title>" ∷ decimal number ∷ codes ": node " ∷ decimal from ∷ codes " hands over to node " ∷ decimal to ∷ codes "</title></path>\n" ∷ [])
 
 abbrev pub bytes_text : ℕ → ℕ → List ℕ → List ℕ → List ℕ
 bytes_text row column bytes places =
@@ -131,15 +133,14 @@ bytes_text row column bytes places =
 
 -- a sign: before its words, and behind them, with the first word of its command or event above the column
 abbrev pub sign_begin : Scale → ℕ → ℕ → List ℕ → List ℕ
-sign_begin s row column sign = codes "<use href='#" ++ sign ++ field (codes "' x='") (x_at s column) ++ field (codes "' y='") (y_at s row) ++ codes "'><title>"
+sign_begin s row column sign = joined (codes "<use href='#" ∷ sign ∷ codes "' x='" ∷ decimal (x_at s column) ∷ codes "' y='" ∷ decimal (y_at s row) ∷ codes "'><title>" ∷ [])
 
 abbrev pub sign_end : Scale → ℕ → List ℕ → List ℕ
-sign_end s column verb =
-    codes "</title></use>\n" ++ field (codes "<text class='small' x='") (x_at s column) ++ codes "' y='47'>" ++ verb ++ codes "</text>\n"
+sign_end s column verb = joined (codes "</title></use>\n<text class='small' x='" ∷ decimal (x_at s column) ∷ codes "' y='47'>" ∷ verb ∷ codes "</text>\n" ∷ [])
 
 abbrev pub call_text : ℕ → ℕ → Event → List ℕ
 call_text row column event =
-    sign_begin scale.Schedule row column (sign_of event.change.said) ++ field [] event.number ++ codes ": " ++ command_words event.command
+    sign_begin scale.Schedule row column (sign_of event.change.said) ++ joined (decimal event.number ∷ codes ": " ∷ []) ++ command_words event.command
     ++ codes ": " ++ said_words event.change.said ++ sign_end scale.Schedule column (verb_of event.command)
 
 abbrev pub shape_text : Shape → List ℕ

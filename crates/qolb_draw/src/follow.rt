@@ -5,7 +5,7 @@ ghost use Rattle.qolb_draw.specs.Following as spec;
 
 use crate::symbol::Change;
 use link_core::Told;
-use qolb_model::{Enq, Out, PlainLine, PortState};
+use qolb_model::{Enq, Out, PlainLine, Poll, PortState};
 use qolb_replay::ReplayLine;
 use qolb_script::{Command, Said};
 use std::alloc::{AllocError, Allocator};

@@ -8,12 +8,11 @@ ghost use Rattle.qolb_draw.specs.StepShapes.{lane_shapes, rows_shapes};
 ghost use Rattle.qolb_draw.specs.StepSvg as spec;
 
 use crate::step_words::{
-    class_at, class_of_place, push_entry, push_place, push_told, row_of_place, sign_at,
+    class_at, class_of_place, place_name, push_entry, push_told, row_of_place, sign_at, whose,
 };
 use link_core::{Entry, Event, Place, Point, Told};
-use crate::svg::{Scale, push_bar_begin, push_lane, push_names, push_sign_begin, push_sign_end};
-use qolb_words::push_field;
-use qolb_words::{push_point, step_verb};
+use qolb_words::{Piece, named_by, point_name, push_all, step_verb};
+use crate::svg::{Scale, push_lane, push_names, push_sign_begin, push_sign_end, push_span};
 use std::alloc::{AllocError, Allocator};
 
 /// The text before the shapes: the colours that a timeline does not have, and the legend.
@@ -104,10 +103,12 @@ fn push_at_bar<A: Allocator>(
     requires ordered { start ≤ end }
     ensures { OnOk result (svg.new.items ≡ svg.old.items ++ spec.at_bar_text node start end point) }
 {
-    push_bar_begin(svg, Scale::Steps, node as u8, start, end, class_at(point), node)?;
-    svg.extend_from_slice(b": ")?;
-    push_point(svg, point)?;
-    svg.extend_from_slice(b"</title></rect>\n")?;
+    let says = [
+        Piece::Words(b": "),
+        Piece::Words(point_name(point)),
+        Piece::Maybe(named_by(point)),
+    ];
+    push_span(svg, Scale::Steps, node as u8, start, end, class_at(point), node, &says)?;
     Ok(())
 }
 
@@ -121,11 +122,16 @@ fn push_at_name<A: Allocator>(
     requires { node ≤ MAX_NODES }
     ensures { OnOk result (svg.new.items ≡ svg.old.items ++ spec.at_name_text node start point) }
 {
-    push_field(svg, b"<text class='at' x='", Scale::Steps.x(start) + 8)?;
-    push_field(svg, b"' y='", Scale::Steps.y(node as u8) + 3)?;
-    svg.extend_from_slice(b"'>")?;
-    push_point(svg, point)?;
-    svg.extend_from_slice(b"</text>\n")?;
+    push_all(svg, &[
+        Piece::Words(b"<text class='at' x='"),
+        Piece::Number(Scale::Steps.x(start) + 8),
+        Piece::Words(b"' y='"),
+        Piece::Number(Scale::Steps.y(node as u8) + 3),
+        Piece::Words(b"'>"),
+        Piece::Words(point_name(point)),
+        Piece::Maybe(named_by(point)),
+        Piece::Words(b"</text>\n"),
+    ])?;
     Ok(())
 }
 
@@ -154,13 +160,18 @@ pub fn push_lies<A: Allocator>(
 ) -> Result<(), AllocError>
     ensures { OnOk result (svg.new.items ≡ svg.old.items ++ spec.lies_text column place) }
 {
-    svg.extend_from_slice(b"<rect class='")?;
-    svg.extend_from_slice(class_of_place(place))?;
-    push_field(svg, b"' x='", Scale::Steps.x(column))?;
-    push_field(svg, b"' y='", Scale::Steps.y(row_of_place(place)) + 10)?;
-    svg.extend_from_slice(b"' width='72' height='5'><title>")?;
-    push_place(svg, place)?;
-    svg.extend_from_slice(b"</title></rect>\n")?;
+    push_all(svg, &[
+        Piece::Words(b"<rect class='"),
+        Piece::Words(class_of_place(place)),
+        Piece::Words(b"' x='"),
+        Piece::Number(Scale::Steps.x(column)),
+        Piece::Words(b"' y='"),
+        Piece::Number(Scale::Steps.y(row_of_place(place)) + 10),
+        Piece::Words(b"' width='72' height='5'><title>"),
+        Piece::Words(place_name(place)),
+        Piece::Maybe(whose(place)),
+        Piece::Words(b"</title></rect>\n"),
+    ])?;
     Ok(())
 }
 
@@ -172,10 +183,15 @@ pub fn push_home<A: Allocator>(
 ) -> Result<(), AllocError>
     ensures { OnOk result (svg.new.items ≡ svg.old.items ++ spec.home_text column word) }
 {
-    push_field(svg, b"<text class='small' x='", Scale::Steps.x(column))?;
-    push_field(svg, b"' y='57'><title>the home word is ", word)?;
-    push_field(svg, b"</title>", word)?;
-    svg.extend_from_slice(b"</text>\n")?;
+    push_all(svg, &[
+        Piece::Words(b"<text class='small' x='"),
+        Piece::Number(Scale::Steps.x(column)),
+        Piece::Words(b"' y='57'><title>the home word is "),
+        Piece::Number(word),
+        Piece::Words(b"</title>"),
+        Piece::Number(word),
+        Piece::Words(b"</text>\n"),
+    ])?;
     Ok(())
 }
 
@@ -189,10 +205,15 @@ pub fn push_word<A: Allocator>(
     requires { node ≤ MAX_NODES }
     ensures { OnOk result (svg.new.items ≡ svg.old.items ++ spec.word_text column node entry.now) }
 {
-    push_field(svg, b"<text class='small' x='", Scale::Steps.x(column))?;
-    push_field(svg, b"' y='", Scale::Steps.y(node as u8) - 11)?;
-    push_field(svg, b"'><title>the entry of node ", node)?;
-    svg.extend_from_slice(b" is ")?;
+    push_all(svg, &[
+        Piece::Words(b"<text class='small' x='"),
+        Piece::Number(Scale::Steps.x(column)),
+        Piece::Words(b"' y='"),
+        Piece::Number(Scale::Steps.y(node as u8) - 11),
+        Piece::Words(b"'><title>the entry of node "),
+        Piece::Number(node),
+        Piece::Words(b" is "),
+    ])?;
     push_entry(svg, entry)?;
     svg.extend_from_slice(b"</title>")?;
     push_entry(svg, entry)?;

@@ -6,9 +6,8 @@ ghost use Rattle.qolb_draw.specs.StepSvg as spec;
 use link_core::{Entry, Event, Place, Point, Told};
 use qolb_model::MAX_NODES;
 use qolb_script::{Command, Said};
-use qolb_words::push_field;
+use qolb_words::{Piece, push_all, step_verb};
 use crate::call::{push_answer, push_written};
-use qolb_words::{push_named, step_verb};
 use std::alloc::{AllocError, Allocator};
 
 /// Returns the class of the bar of a node at this point.
@@ -24,8 +23,8 @@ pub fn class_at(point: Point) -> &'static [u8]
     }
 }
 
-/// Returns the words of a place.
-fn place_name(place: Place) -> &'static [u8]
+/// Returns the words of a place, without its node.
+pub fn place_name(place: Place) -> &'static [u8]
     ensures { result.now ≡ spec.place_name place }
 {
     match place {
@@ -36,7 +35,7 @@ fn place_name(place: Place) -> &'static [u8]
 }
 
 /// Returns the node whose place it is, if it is a node's.
-fn whose(place: Place) -> Option<u64>
+pub fn whose(place: Place) -> Option<u64>
     ensures { result ≡ spec.whose place }
 {
     match place {
@@ -50,7 +49,7 @@ fn whose(place: Place) -> Option<u64>
 pub fn push_place<A: Allocator>(text: &mut Vec<u8, A>, place: Place) -> Result<(), AllocError>
     ensures { OnOk result (text.new.items ≡ text.old.items ++ spec.place_words place) }
 {
-    push_named(text, place_name(place), whose(place))?;
+    push_all(text, &[Piece::Words(place_name(place)), Piece::Maybe(whose(place))])?;
     Ok(())
 }
 
@@ -87,10 +86,13 @@ fn letter_if(flag: bool, letter: &'static [u8]) -> &'static [u8]
 pub fn push_entry<A: Allocator>(text: &mut Vec<u8, A>, entry: &Entry) -> Result<(), AllocError>
     ensures { OnOk result (text.new.items ≡ text.old.items ++ spec.entry_words entry.now) }
 {
-    text.extend_from_slice(letter_if(entry.granted, b"g"))?;
-    text.extend_from_slice(letter_if(entry.rolled, b"r"))?;
-    text.extend_from_slice(letter_if(entry.done, b"d"))?;
-    push_field(text, letter_if(entry.freed, b"f"), entry.link)?;
+    push_all(text, &[
+        Piece::Words(letter_if(entry.granted, b"g")),
+        Piece::Words(letter_if(entry.rolled, b"r")),
+        Piece::Words(letter_if(entry.done, b"d")),
+        Piece::Words(letter_if(entry.freed, b"f")),
+        Piece::Number(entry.link),
+    ])?;
     Ok(())
 }
 
@@ -122,8 +124,11 @@ fn push_event_words<A: Allocator>(
 ) -> Result<(), AllocError>
     ensures { OnOk result (text.new.items ≡ text.old.items ++ spec.event_words event.now) }
 {
-    text.extend_from_slice(step_verb(event))?;
-    push_field(text, b" ", event.node())?;
+    push_all(text, &[
+        Piece::Words(step_verb(event)),
+        Piece::Words(b" "),
+        Piece::Number(event.node()),
+    ])?;
     push_placed(alloc, text, event)?;
     Ok(())
 }
@@ -164,8 +169,7 @@ pub fn push_told<A: Allocator>(
     ensures { OnOk result (text.new.items ≡ text.old.items
         ++ spec.told_words column event.now told) }
 {
-    push_field(text, b"", u64::from(column) + 1)?;
-    text.extend_from_slice(b": ")?;
+    push_all(text, &[Piece::Number(u64::from(column) + 1), Piece::Words(b": ")])?;
     push_heard(alloc, text, event, told)?;
     Ok(())
 }

@@ -1,12 +1,13 @@
 //! The shapes of an SVG: those that both kinds of pictures have, and those of schedules.
-ghost use Rattle.std.specs.Prelude.{◌≡◌, ◌++◌, ◌≤◌, OnOk, IfOk};
+ghost use Rattle.std.specs.Prelude.{◌≡◌, ◌++◌, ◌≤◌, OnOk, IfOk, flat_map};
 ghost use Rattle.qolb_script.specs.declared.schedule.TheConstants.{MAX_COMMANDS};
+ghost use Rattle.qolb_words.specs.Words.{piece_text};
 ghost use Rattle.qolb_draw.specs.Svg as spec;
 
 use crate::bar::Stand;
 use crate::call::{push_answer, push_command, push_shortened, sign};
 use crate::event::Event;
-use qolb_words::verb;
+use qolb_words::{Piece, push_all, push_field, verb};
 use std::alloc::{AllocError, Allocator};
 
 /// The text between the picture's height and its legend: the colours on a light page, those that differ on a dark one, and the signs of
@@ -133,14 +134,18 @@ pub fn push_lane<A: Allocator>(
 ) -> Result<(), AllocError>
     ensures { OnOk result (svg.new.items ≡ svg.old.items ++ spec.lane_text scale row columns) }
 {
-    push_field(svg, b"<path class='lane' d='M96 ", scale.y(row))?;
-    push_field(svg, b"H", scale.x(columns))?;
-    svg.extend_from_slice(b"'/>\n")?;
+    push_all(svg, &[
+        Piece::Words(b"<path class='lane' d='M96 "),
+        Piece::Number(scale.y(row)),
+        Piece::Words(b"H"),
+        Piece::Number(scale.x(columns)),
+        Piece::Words(b"'/>\n"),
+    ])?;
     Ok(())
 }
 
-/// Appends the beginning of a bar, from one column to another: all before the words of its node's state.
-pub fn push_bar_begin<A: Allocator>(
+/// Appends a bar of this class, from one column to another, with the words that say its node's state.
+pub fn push_span<A: Allocator>(
     svg: &mut Vec<u8, A>,
     scale: Scale,
     row: u8,
@@ -148,17 +153,26 @@ pub fn push_bar_begin<A: Allocator>(
     end: u32,
     class: &[u8],
     node: u64,
+    says: &[Piece],
 ) -> Result<(), AllocError>
     requires { start ≤ end }
     ensures { OnOk result (svg.new.items ≡ svg.old.items
-        ++ spec.bar_begin scale row start end class.now node) }
+        ++ spec.span_text scale row start end class.now node (flat_map piece_text says.now)) }
 {
-    svg.extend_from_slice(b"<rect class='")?;
-    svg.extend_from_slice(class)?;
-    push_field(svg, b"' x='", scale.x(start))?;
-    push_field(svg, b"' y='", scale.y(row) - 8)?;
-    push_field(svg, b"' width='", scale.width(end - start))?;
-    push_field(svg, b"' height='16'><title>node ", node)?;
+    push_all(svg, &[
+        Piece::Words(b"<rect class='"),
+        Piece::Words(class),
+        Piece::Words(b"' x='"),
+        Piece::Number(scale.x(start)),
+        Piece::Words(b"' y='"),
+        Piece::Number(scale.y(row) - 8),
+        Piece::Words(b"' width='"),
+        Piece::Number(scale.width(end - start)),
+        Piece::Words(b"' height='16'><title>node "),
+        Piece::Number(node),
+    ])?;
+    push_all(svg, says)?;
+    svg.extend_from_slice(b"</title></rect>\n")?;
     Ok(())
 }
 
@@ -175,22 +189,23 @@ pub fn push_bar<A: Allocator>(
     ensures { OnOk result (svg.new.items ≡ svg.old.items
         ++ spec.bar_text row start end stand node) }
 {
-    push_bar_begin(svg, Scale::Schedule, row, start, end, stand.class(), node)?;
-    svg.extend_from_slice(stand.words())?;
-    svg.extend_from_slice(b"</title></rect>\n")?;
+    let says = [Piece::Words(stand.words())];
+    push_span(svg, Scale::Schedule, row, start, end, stand.class(), node, &says)?;
     Ok(())
 }
 
-/// Appends the name of a row: that of a node, or of the home word, which is 0.
-fn push_row_words<A: Allocator>(svg: &mut Vec<u8, A>, node: u64) -> Result<(), AllocError>
-    ensures { OnOk result (svg.new.items ≡ svg.old.items ++ spec.row_name node) }
+/// Returns the name of a row: that of a node, whose number follows it, or of the home word, which is 0.
+fn row_words(node: u64) -> &'static [u8]
+    ensures { result.now ≡ spec.row_words node }
 {
-    if node == 0 {
-        svg.extend_from_slice(b"home")?;
-    } else {
-        push_field(svg, b"node ", node)?;
-    }
-    Ok(())
+    if node == 0 { b"home" } else { b"node " }
+}
+
+/// Returns the number that follows the name of a row, if one does.
+fn row_number(node: u64) -> Option<u64>
+    ensures { result ≡ spec.row_number node }
+{
+    if node == 0 { None } else { Some(node) }
 }
 
 /// Appends the name of a row, at a column.
@@ -204,11 +219,16 @@ fn push_name<A: Allocator>(
     ensures { OnOk result (svg.new.items ≡ svg.old.items
         ++ spec.name_text scale row column node) }
 {
-    push_field(svg, b"<text class='name' x='", scale.x(column) - 88)?;
-    push_field(svg, b"' y='", scale.name_y(row, column))?;
-    svg.extend_from_slice(b"'>")?;
-    push_row_words(svg, node)?;
-    svg.extend_from_slice(b"</text>\n")?;
+    push_all(svg, &[
+        Piece::Words(b"<text class='name' x='"),
+        Piece::Number(scale.x(column) - 88),
+        Piece::Words(b"' y='"),
+        Piece::Number(scale.name_y(row, column)),
+        Piece::Words(b"'>"),
+        Piece::Words(row_words(node)),
+        Piece::Maybe(row_number(node)),
+        Piece::Words(b"</text>\n"),
+    ])?;
     Ok(())
 }
 
@@ -240,9 +260,13 @@ pub fn push_number<A: Allocator>(
     ensures { OnOk result (svg.new.items ≡ svg.old.items
         ++ spec.number_text scale column number) }
 {
-    push_field(svg, b"<text class='small' x='", scale.x(column))?;
-    push_field(svg, b"' y='36'>", number)?;
-    svg.extend_from_slice(b"</text>\n")?;
+    push_all(svg, &[
+        Piece::Words(b"<text class='small' x='"),
+        Piece::Number(scale.x(column)),
+        Piece::Words(b"' y='36'>"),
+        Piece::Number(number),
+        Piece::Words(b"</text>\n"),
+    ])?;
     Ok(())
 }
 
@@ -259,13 +283,22 @@ pub fn push_arrow<A: Allocator>(
     ensures { OnOk result (svg.new.items ≡ svg.old.items
         ++ spec.arrow_text column number giver from taker to) }
 {
-    push_field(svg, b"<path class='arrow' d='M", Scale::Schedule.x(column))?;
-    push_field(svg, b" ", Scale::Schedule.y(giver))?;
-    push_field(svg, b"V", Scale::Schedule.y(taker))?;
-    push_field(svg, b"'><title>", number)?;
-    push_field(svg, b": node ", from)?;
-    push_field(svg, b" hands over to node ", to)?;
-    svg.extend_from_slice(b"</title></path>\n")?;
+    let scale = Scale::Schedule;
+    push_all(svg, &[
+        Piece::Words(b"<path class='arrow' d='M"),
+        Piece::Number(scale.x(column)),
+        Piece::Words(b" "),
+        Piece::Number(scale.y(giver)),
+        Piece::Words(b"V"),
+        Piece::Number(scale.y(taker)),
+        Piece::Words(b"'><title>"),
+        Piece::Number(number),
+        Piece::Words(b": node "),
+        Piece::Number(from),
+        Piece::Words(b" hands over to node "),
+        Piece::Number(to),
+        Piece::Words(b"</title></path>\n"),
+    ])?;
     Ok(())
 }
 
@@ -299,11 +332,15 @@ pub fn push_sign_begin<A: Allocator>(
     ensures { OnOk result (svg.new.items ≡ svg.old.items
         ++ spec.sign_begin scale row column sign.now) }
 {
-    svg.extend_from_slice(b"<use href='#")?;
-    svg.extend_from_slice(sign)?;
-    push_field(svg, b"' x='", scale.x(column))?;
-    push_field(svg, b"' y='", scale.y(row))?;
-    svg.extend_from_slice(b"'><title>")?;
+    push_all(svg, &[
+        Piece::Words(b"<use href='#"),
+        Piece::Words(sign),
+        Piece::Words(b"' x='"),
+        Piece::Number(scale.x(column)),
+        Piece::Words(b"' y='"),
+        Piece::Number(scale.y(row)),
+        Piece::Words(b"'><title>"),
+    ])?;
     Ok(())
 }
 
@@ -316,11 +353,13 @@ pub fn push_sign_end<A: Allocator>(
 ) -> Result<(), AllocError>
     ensures { OnOk result (svg.new.items ≡ svg.old.items ++ spec.sign_end scale column verb.now) }
 {
-    svg.extend_from_slice(b"</title></use>\n")?;
-    push_field(svg, b"<text class='small' x='", scale.x(column))?;
-    svg.extend_from_slice(b"' y='47'>")?;
-    svg.extend_from_slice(verb)?;
-    svg.extend_from_slice(b"</text>\n")?;
+    push_all(svg, &[
+        Piece::Words(b"</title></use>\n<text class='small' x='"),
+        Piece::Number(scale.x(column)),
+        Piece::Words(b"' y='47'>"),
+        Piece::Words(verb),
+        Piece::Words(b"</text>\n"),
+    ])?;
     Ok(())
 }
 
@@ -335,8 +374,7 @@ pub fn push_call<A: Allocator + Copy>(
     ensures { OnOk result (svg.new.items ≡ svg.old.items ++ spec.call_text row column event.now) }
 {
     push_sign_begin(svg, Scale::Schedule, row, column, sign(&event.change.said))?;
-    push_field(svg, b"", event.number)?;
-    svg.extend_from_slice(b": ")?;
+    push_all(svg, &[Piece::Number(event.number), Piece::Words(b": ")])?;
     push_command(alloc, svg, &event.command)?;
     svg.extend_from_slice(b": ")?;
     push_answer(svg, &event.change.said)?;

@@ -1,5 +1,7 @@
 -- Words of scripts: the first words of commands and events, and the points of a step script's nodes. (Of this project.)
-use Rattle.std.specs.Prelude.{ℕ, ◌++◌, Bool, true, false, List, codes, decimal, Option, Some, None}
+use Rattle.std.specs.Prelude.{ℕ, ◌++◌, Bool, true, false, List, [], codes, decimal, flat_map, Option, Some, None}
+use Rattle.qolb_words.specs.declared.Piece.{Piece}
+use Rattle.qolb_words.specs.declared.Piece.TheVariants.{Words, Number, Maybe}
 use Rattle.link_core.specs.declared.event.Event.{Event}
 use Rattle.link_core.specs.declared.event.Event.TheVariants as event
 use Rattle.link_core.specs.declared.point.Point.{Point}
@@ -8,6 +10,20 @@ use Rattle.qolb_script.specs.declared.command.Command.{Command}
 use Rattle.qolb_script.specs.declared.command.Command.TheVariants.{Enq, Poll, Show, Deq, Out, Shut, Write}
 use Rattle.qolb_script.specs.declared.reply_text.Said.{Said}
 use Rattle.qolb_script.specs.declared.reply_text.Said.TheVariants as said
+
+-- a number, or nothing
+abbrev pub number_if : Option ℕ → List ℕ
+number_if None = []
+number_if (Some n) = decimal n
+
+-- a piece of a text; and some texts, one behind another
+abbrev pub piece_text : Piece → List ℕ
+piece_text (Words words) = words.now
+piece_text (Number n) = decimal n
+piece_text (Maybe o) = number_if o
+
+abbrev pub joined : List (List ℕ) → List ℕ
+joined parts = flat_map (λ (part : List ℕ). part) parts
 
 -- a text, and a number after it
 abbrev pub field : List ℕ → ℕ → List ℕ

@@ -1,12 +1,56 @@
 //! Words of scripts, for notes and for pictures: of commands, of events, and of points.
 #![tactic(auto)]
-ghost use Rattle.std.specs.Prelude.{◌≡◌, ◌++◌, OnOk};
+ghost use Rattle.std.specs.Prelude.{◌≡◌, ◌++◌, OnOk, decimal, flat_map};
 ghost use Rattle.qolb_words.specs.Words as spec;
 
 use itoa::Buffer;
 use link_core::{Event, Point};
 use qolb_script::Command;
 use std::alloc::{AllocError, Allocator};
+
+/// A piece of a text.
+#[derive(Clone, Copy)]
+pub enum Piece<'a> {
+    /// Some words.
+    Words(&'a [u8]),
+    /// A number, in decimal digits.
+    Number(u64),
+    /// A number, or nothing.
+    Maybe(Option<u64>),
+}
+
+/// Appends a number, in decimal digits.
+fn push_number<A: Allocator>(text: &mut Vec<u8, A>, number: u64) -> Result<(), AllocError>
+    ensures { OnOk result (text.new.items ≡ text.old.items ++ decimal number) }
+{
+    let mut buffer = Buffer::new();
+    let digits = buffer.format(number);
+    text.extend_from_slice(digits.as_bytes())?;
+    Ok(())
+}
+
+/// Appends a piece.
+fn push_piece<A: Allocator>(text: &mut Vec<u8, A>, piece: &Piece) -> Result<(), AllocError>
+    ensures { OnOk result (text.new.items ≡ text.old.items ++ spec.piece_text piece.now) }
+{
+    match *piece {
+        Piece::Words(words) => text.extend_from_slice(words)?,
+        Piece::Number(number) | Piece::Maybe(Some(number)) => push_number(text, number)?,
+        Piece::Maybe(None) => {}
+    }
+    Ok(())
+}
+
+/// Appends some pieces, one behind another.
+pub fn push_all<A: Allocator>(text: &mut Vec<u8, A>, pieces: &[Piece]) -> Result<(), AllocError>
+    ensures { OnOk result (text.new.items ≡ text.old.items
+        ++ flat_map spec.piece_text pieces.now) }
+{
+    for piece in pieces {
+        push_piece(text, piece)?;
+    }
+    Ok(())
+}
 
 /// Appends some words and a number.
 pub fn push_field<A: Allocator>(
@@ -16,10 +60,8 @@ pub fn push_field<A: Allocator>(
 ) -> Result<(), AllocError>
     ensures { OnOk result (text.new.items ≡ text.old.items ++ spec.field words.now number) }
 {
-    let mut buffer = Buffer::new();
-    let digits = buffer.format(number);
     text.extend_from_slice(words)?;
-    text.extend_from_slice(digits.as_bytes())?;
+    push_number(text, number)?;
     Ok(())
 }
 
@@ -72,8 +114,8 @@ pub fn push_named<A: Allocator>(
     Ok(())
 }
 
-/// Returns the words of a point.
-fn point_name(point: Point) -> &'static [u8]
+/// Returns the words of a point, without the node that it names.
+pub fn point_name(point: Point) -> &'static [u8]
     ensures { result.now ≡ spec.point_name point }
 {
     match point {
@@ -93,7 +135,7 @@ fn point_name(point: Point) -> &'static [u8]
 }
 
 /// Returns the node that a point names, if it names one.
-fn named_by(point: Point) -> Option<u64>
+pub fn named_by(point: Point) -> Option<u64>
     ensures { result ≡ spec.named_by point }
 {
     match point {
