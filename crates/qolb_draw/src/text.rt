@@ -9,7 +9,8 @@ ghost use Rattle.qolb_draw.specs.Grids.{mark_out_of, row_out_of, block_out_of, b
 
 use crate::grid::Grid;
 use qolb_model::MAX_NODES;
-use qolb_shapes::{Symbol, digit_at, push_heads};
+use crate::heads::{digit_at, push_heads};
+use crate::symbol::Symbol;
 use std::alloc::{AllocError, Allocator};
 
 /// The largest number of commands of a block.

@@ -10,8 +10,8 @@ use Rattle.qolb_script.specs.declared.job.WorkKind.TheVariants.{Board, Bank}
 use Rattle.line_kinds.specs.Locks.{lock_named, lock_names}
 use Rattle.line_kinds.specs.declared.Lock.{Lock}
 use Rattle.line_kinds.specs.declared.Lock.TheVariants as lock
-use Rattle.qolb_shapes.specs.declared.form.Form.{Form}
-use Rattle.qolb_shapes.specs.declared.form.Form.TheVariants as form
+use Rattle.qolb_draw.specs.declared.form.Form.{Form}
+use Rattle.qolb_draw.specs.declared.form.Form.TheVariants as form
 use Rattle.qolb_serve.specs.declared.command_line.Subcommand.{Subcommand}
 use Rattle.qolb_serve.specs.declared.command_line.Subcommand.TheVariants.{Answer, Draw, DrawSteps}
 use Rattle.qolb_replay.specs.declared.steps.Detail.{Detail}

@@ -14,7 +14,7 @@ use Rattle.qolb_run.specs.declared.task.Task.TheVariants.{Replay, Steps, Work}
 use Rattle.qolb_run.specs.declared.task.TaskError.{TaskError}
 use Rattle.qolb_run.specs.Outcome.{Answers, HasBegunFor, IsRefused, MayEnd}
 use Rattle.qolb_draw.specs.Pictures.{IsPicture}
-use Rattle.qolb_draw_steps.specs.StepPictures.{IsStepPicture}
+use Rattle.qolb_draw.specs.StepPictures.{IsStepPicture}
 use Rattle.qolb_serve.specs.declared.command_line.Subcommand.{Subcommand}
 use Rattle.qolb_serve.specs.declared.command_line.Subcommand.TheVariants.{Answer, Draw, DrawSteps}
 

@@ -7,9 +7,9 @@ ghost use Rattle.qolb_serve.specs.CommandLine.{KindNames, NamesFlag, NamesWish, 
 use clap::error::ErrorKind;
 use clap::{Arg, ArgAction, ArgMatches, Command, Error};
 use line_kinds::{LOCKS, Lock, NAMES, lock_names};
+use qolb_draw::Form;
 use qolb_run::{Detail, Task, WaitMode};
 use qolb_script::WorkKind;
-use qolb_shapes::Form;
 use std::alloc::{AllocError, Global};
 
 /// The names of the kinds of lines that replay a schedule.
@@ -397,11 +397,7 @@ fn draw<'a>(alloc: Global) -> Result<Command<'a>, AllocError>
         )
         .after_help(DRAW)
         .arg(flag(alloc, "svg", "Draws an SVG instead of plain text"))?
-        .arg(flag(
-            alloc,
-            "steps",
-            "Draws a step script instead of a schedule",
-        ))?
+        .arg(flag(alloc, "steps", "Draws a step script instead of a schedule"))?
         .arg(explain(alloc, LINE_EXPLAINED))
 }
 

@@ -12,8 +12,7 @@ ghost use Rattle.qolb_serve.specs.Status.{status_of};
 
 use crate::command_line::{Args, Subcommand, parse_args};
 use clap::error::ErrorKind;
-use qolb_draw::draw_schedule;
-use qolb_draw_steps::draw_steps;
+use qolb_draw::{draw_schedule, draw_steps};
 use qolb_explain::{complaint, notes_of_schedule, notes_of_steps};
 use qolb_replay::MAX_BYTES;
 use qolb_run::{

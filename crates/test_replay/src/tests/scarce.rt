@@ -2,9 +2,7 @@
 use crate::tests::rows::expect_at;
 use line_kinds::{Lock, TicketLine};
 use qolb_model::Free;
-use qolb_run::{
-    Kind, REPLAYED, ReplayError, run_schedule, run_schedule_over, run_schedule_with,
-};
+use qolb_run::{Kind, REPLAYED, ReplayError, run_schedule, run_schedule_over, run_schedule_with};
 use qolb_script::Watched;
 use std::alloc::Global;
 use std::process::Abort;
@@ -13,6 +11,10 @@ use test_support::{GRAIN, MemoryLimit};
 
 /// Eight lines for 200 nodes, and no command.
 const MANY_NODES: &str = "nodes 200 lines 8\n";
+
+/// The reply to `MANY_NODES`.
+const EIGHT_LINES: &str =
+    "line 0 served 0 withdrawn 0 told 0 left 0\nline 1 served 0 withdrawn 0 told 0 left 0\nline 2 served 0 withdrawn 0 told 0 left 0\nline 3 served 0 withdrawn 0 told 0 left 0\nline 4 served 0 withdrawn 0 told 0 left 0\nline 5 served 0 withdrawn 0 told 0 left 0\nline 6 served 0 withdrawn 0 told 0 left 0\nline 7 served 0 withdrawn 0 told 0 left 0\n";
 
 /// Rooms in KB, each of which holds eight lines of one kind more: with 200 nodes a plain line takes 3.3 KB, a list 26 KB of words, a ring 33 KB
 /// of words, a ticket line as much and 33 KB of slots; the last three also take 25 KB of ports each.
@@ -52,15 +54,6 @@ fn replayed(
     Ok((done.err(), text))
 }
 
-/// The error of a room that may be too small.
-fn error_if(is_small: bool) -> Option<ReplayError> {
-    if is_small {
-        Some(ReplayError::Memory)
-    } else {
-        None
-    }
-}
-
 /// Calls, each with the place of the first room that holds its lines.
 static CALLS: [(Call, usize); 8] = [
     (Call::With(None), 0),
@@ -78,8 +71,13 @@ fn run_schedule_takes_lines_of_its_kind(rt: HostRuntime) -> Result<(), Fail> {
     let limit = MemoryLimit::begin(rt.alloc(), 1 << 23)?;
     for (at, room) in ROOMS.iter().enumerate() {
         for (call, first) in &CALLS {
-            let (found, _) = replayed(rt.alloc(), &limit, MANY_NODES, *room << 10, *call)?;
-            expect_at(&rt, &(*call, *room), found, error_if(at < *first));
+            let (error, text) = replayed(rt.alloc(), &limit, MANY_NODES, *room << 10, *call)?;
+            let wanted = if at < *first {
+                (Some(ReplayError::Memory), b"".as_slice())
+            } else {
+                (None, EIGHT_LINES.as_bytes())
+            };
+            expect_at(&rt, &(*call, *room), (error, text.as_slice()), wanted);
         }
     }
     Ok(())
