@@ -24,8 +24,7 @@ import tempfile
 import threading
 import time
 
-from definitions import Core, answer_to, event, is_right, read_script, step_header
-from program import LOCKS, SECONDS, run, the_program
+from definitions import LOCKS, SECONDS, Core, answer_to, event, is_right, read_script, run, step_header, the_program
 
 SCRIPT = b"nodes 2 lines 1\nenq 1 0\nwrite 1 0 0 a1b2\nenq 2 0\npoll 2 0\ndeq 1 0\npoll 2 0\nshow 2 0\ndeq 2 0\n"
 STEPS = b"nodes 1\nreset 1\nprepend 1\nhome 1\n"

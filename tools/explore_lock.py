@@ -2,7 +2,7 @@
 """Explores runs of the lock (c/src/lock), with two and three threads, over the stand-in for its proved calls (tools/explorer/core.c), on the model
 of the processor's memory that tools/explore_nodes.py says.
 
-tools/explore_lock.py [MOST] [--scene BEGINNING ..] [--fault WORDS | --no-faults] [--seconds S] [--jobs 2]
+tools/explore_lock.py [MOST] [--scene BEGINNING ..] [--fault WORDS | --no-faults] [--seconds S] [--jobs 2] | --anchors
     all runs of at most MOST turns of the schedule, 2, of the library as it is, where four tickets and where one ticket are in a round; and of each library
     with a fault those of few turns first, up to as many as it says. With --seconds each scene takes at most so long a time of the processor, and those that
     did not end by then are named. It needs GCC
@@ -12,13 +12,12 @@ be entered, an entry of the registry stay, or a thread that has a ticket be over
 a task sleeps as the first of those that wait. Each library with a fault must fail in some run, and after each change that is harmless none may fail. It ends with 1 if this
 is not so, or if a scene did not end.
 
-A fault is an edit of one function, or of a file's other text: where that does not have the edit's text once, the program says what it has and where the text
-is now, and ends.
+A fault is a change of one function, or of a file's other text, which tools/mutants.py finds. With --anchors nothing is explored: the program names each
+change that can't be made, and where its text is now.
 """
 
 import argparse
 import concurrent.futures
-import difflib
 import hashlib
 import os
 import pathlib
@@ -28,6 +27,8 @@ import subprocess
 import sys
 import tempfile
 import time
+
+import mutants
 
 sys.path.insert(0, str(pathlib.Path(__file__).resolve().parent / "explorer"))
 from lock_faults import FAULTS, HARMLESS, HOOKED  # noqa: E402
@@ -44,33 +45,13 @@ RENAMED = [f"-D{name}=model_{short}" for name, short in (("malloc", "malloc"), (
 BY_MODEL = ["-w", "-O1", "-DOF_LOCKS", "-DWITHOUT_NODES", "-DEXPLORED", "-fsanitize=thread", "-U__SANITIZE_THREAD__", "-DQOLB_NO_PROBES", *RENAMED]
 
 
-def functions(text):
-    """The functions of a C file: name, and where its text begins and ends."""
-    for found in re.finditer(r"^[a-zA-Z_][^\n;={}]*?\b([a-z_][a-z0-9_]*)\([^;{}]*\) \{", text, re.M):
-        end = text.find("\n", found.start()) if re.match(r"[^\n]*\}\n", text[found.start():]) else text.find("\n}\n", found.start()) + 2
-        yield found.group(1), found.start(), end
-
-
-def moved(folder, name, where, old):
-    """Says what an edit does not find, and where that is now."""
-    places = [f"{path.relative_to(folder)}: {function}" for path in sorted(folder.rglob("*.[ch]")) for function, begin, end in functions(path.read_text()) if old in path.read_text()[begin:end]]
-    text = (folder / name).read_text()
-    inside = [text[begin:end] for function, begin, end in functions(text) if function == where]
-    lines = (inside[0] if inside else text).splitlines()
-    near = difflib.get_close_matches(old.strip().splitlines()[0], lines, 3, 0.3)
-    found = f"it is in {', '.join(places)}" if places else f"nearest there: {near}" if inside or not where else f"there is no function {where}"
-    sys.exit(f"{name}, {where or 'outside of functions'}: not once there: {old!r}; {found}")
-
-
-def edit(folder, name, where, old, new):
-    """Replaces text of one function, or of a file if `where` is empty, which must be there once."""
-    path = folder / name
-    text = path.read_text()
-    spans = [(begin, end) for function, begin, end in functions(text) if function == where] if where else [(0, len(text))]
-    if len(spans) != 1 or text[spans[0][0]:spans[0][1]].count(old) != 1:
-        moved(folder, name, where, old)
-    begin, end = spans[0]
-    path.write_text(text[:begin] + text[begin:end].replace(old, new) + text[end:])
+def edit(folder, changes):
+    """Makes these changes of files of the folder; ends with what has moved if one can't be made."""
+    bodies, why = mutants.changed(folder, [mutants.Change(*it, None) for it in changes])
+    if why:
+        sys.exit(why)
+    for path, body in bodies.items():
+        path.write_text(body)
 
 
 def compiled(folder, name, told):
@@ -84,13 +65,26 @@ def compiled(folder, name, told):
     return made
 
 
-def built(folder, edits, width):
-    """The explorer, built over the library with these edits, with `width` tickets in a round."""
+def laid_out(folder):
+    """Copies what is built to the folder."""
     shutil.copytree(SOURCE, folder, dirs_exist_ok=True)
     for name in (*SCENES, "lock_scenes.h", "explorer.h"):
         shutil.copy(MODEL / name, folder)
-    for change in (*edits, *HOOKED, ("core.c", "", "IN_ROUND = LAYOUT_CELLS", f"IN_ROUND = {width}"), ("lock/lock.h", "", "TICKETS_IN_ROUND = LAYOUT_CELLS", f"TICKETS_IN_ROUND = {width}")):
-        edit(folder, *change)
+
+
+def hooked(width):
+    """The changes for the scenes, with `width` tickets in a round."""
+    return [
+        *HOOKED,
+        ("core.c", "", "IN_ROUND = LAYOUT_CELLS", f"IN_ROUND = {width}"),
+        ("lock/lock.h", "", "TICKETS_IN_ROUND = LAYOUT_CELLS", f"TICKETS_IN_ROUND = {width}"),
+    ]
+
+
+def built(folder, edits, width):
+    """The explorer, built over the library with these edits, with `width` tickets in a round."""
+    laid_out(folder)
+    edit(folder, [*edits, *hooked(width)])
     objects = [compiled(folder, name, ["-O2", "-DOF_LOCKS"] if name == "explorer.c" else BY_MODEL) for name in (*LIBRARY, *SCENES)]
     subprocess.run(["cc", *objects, "-pthread", "-o", folder / "explorer"], check=True)
     return folder / "explorer"
@@ -148,6 +142,22 @@ def is_harmless(name, seconds):
     return True
 
 
+def compare_anchors():
+    """Prints each fault that can't be planted as the library is now, and why; returns the status."""
+    with tempfile.TemporaryDirectory() as name:
+        folder = pathlib.Path(name)
+        laid_out(folder)
+
+        def why_not(changes):
+            return mutants.changed(folder, [mutants.Change(*it, None) for it in changes])[1]
+
+        hooks = hooked(4) if not why_not(hooked(4)) else []
+        rows = {"the changes for the scenes": hooked(4), **{it: (*FAULTS[it][2:], *hooks) for it in FAULTS}, **{it: (*HARMLESS[it], *hooks) for it in HARMLESS}}
+        lost = [f"{fault}: {why_not(row)}" for fault, row in rows.items() if why_not(row)]
+    print(*lost, f"{len(rows) - 1} changes of the lock, {len(lost)} out of place", sep="\n")
+    return 1 if lost else 0
+
+
 def main():
     words = argparse.ArgumentParser()
     words.add_argument("most", type=int, nargs="?", default=2)
@@ -156,7 +166,10 @@ def main():
     words.add_argument("--no-faults", action="store_true")
     words.add_argument("--seconds", type=int, default=0)
     words.add_argument("--jobs", type=int, default=2)
+    words.add_argument("--anchors", action="store_true")
     asked = words.parse_args()
+    if asked.anchors:
+        sys.exit(compare_anchors())
     since = time.monotonic()
     faults = [name for name in FAULTS if asked.fault in name and not asked.no_faults]
     changes = [name for name in HARMLESS if asked.fault in name and not asked.no_faults]

@@ -2,8 +2,9 @@
 """Explores runs of the C library's files of nodes (c/src/calls.c, notify.c and bells.c), with two and three threads that have a node each, on a model of the
 processor's memory (tools/explorer).
 
-tools/explore_nodes.py [MOST] [--scene BEGINNING ..] [--fault WORDS | --no-faults] [--jobs 2]
-    runs of at most MOST turns of the schedule, 2, of the library as it is; and of each library with a fault, as many as it takes. It needs GCC
+tools/explore_nodes.py [MOST] [--scene BEGINNING ..] [--fault WORDS | --no-faults] [--jobs 2] | --anchors
+    runs of at most MOST turns of the schedule, 2, of the library as it is; and of each library with a fault, as many as it takes. It needs GCC.
+    With --anchors nothing is run: it names each change that can't be made, and where its text is now
 
 A turn of the schedule is one of these: another thread goes on although this one could; a thread's time ends; a plain store stays in its thread's
 buffer, unseen by the others, or is seen from there before it must be. All runs with at most MOST turns are made. Stores are seen as x86-64 has them: in
@@ -24,6 +25,8 @@ import subprocess
 import sys
 import tempfile
 import time
+
+import mutants
 
 ROOT = pathlib.Path(__file__).resolve().parent.parent
 BUILT = ("calls.c", "notify.c", "bells.c")
@@ -180,25 +183,34 @@ HARMLESS = {
 }
 
 
-def replaced(sources, old, new):
-    """The sources with `new` in place of `old`, which must occur once in all of them."""
-    times = sum(text.count(old) for text in sources.values())
-    if times != 1:
-        sys.exit(f"the library has this {times} times, and not once: {old!r}")
-    return {name: text.replace(old, new) for name, text in sources.items()}
+LIBRARY = ROOT / "c/src"
 
 
-def with_fault(texts):
+def change_of(sources, old, new):
+    """The change of these texts, in the one file that has the old one."""
+    files = [name for name, text in sources.items() if mutants.spots(text, mutants.Change(name, "", old, new, None))]
+    return (files[0] if len(files) == 1 else BUILT[0], "", old, new)
+
+
+def made(row, hooks=HOOKED):
+    """The sources with the changes of a row and those for the scenes; or why one can't be made. A change is a file, a function, the old text and the new
+    one; or a row has in turn an old text and the new one, of whichever file has it."""
+    pairs = row and isinstance(row[0], str)
     sources = SOURCES
-    for old, new in zip(texts[::2], texts[1::2], strict=True):
-        sources = replaced(sources, old, new)
-    return sources
+    for it in (*(zip(row[::2], row[1::2], strict=True) if pairs else row), *hooks):
+        change = mutants.Change(*(it if len(it) == 4 else change_of(sources, *it)), None)
+        bodies, why = mutants.changed(LIBRARY, [change], {LIBRARY / name: text for name, text in sources.items()})
+        if why:
+            return {}, why
+        sources = {name: bodies[LIBRARY / name] for name in sources}
+    return sources, None
 
 
-def built(folder, sources, base):
-    """The explorer, built over this library. Objects of sources that are as in the folder `base` are those there."""
-    for old, new in HOOKED:
-        sources = replaced(sources, old, new)
+def built(folder, row, base):
+    """The explorer, built over the library with the changes of a row. Objects of sources that are as in the folder `base` are those there."""
+    sources, why = made(row)
+    if why:
+        sys.exit(why)
     changed = {name for name, text in sources.items() if not (base / name).exists() or (base / name).read_text() != text}
     if not changed.isdisjoint(HEADERS):
         changed = {*sources, *OF_MODEL}
@@ -210,10 +222,19 @@ def built(folder, sources, base):
         if name in changed:
             source = (folder if name in sources else ROOT / "tools/explorer") / name
             told = OF_MODEL.get(name, BY_MODEL)
-            seen = ["-I", folder, "-I", base, "-I", ROOT / "c/src", "-I", ROOT / "c/include", "-I", ROOT / "tools/explorer"]
+            seen = ["-I", folder, "-I", base, "-I", LIBRARY, "-I", ROOT / "c/include", "-I", ROOT / "tools/explorer"]
             subprocess.run(["cc", "-std=c11", *seen, *told, "-c", source, "-o", objects[-1]], check=True)
     subprocess.run(["cc", *objects, "-o", folder / "explorer"], check=True)
     return folder / "explorer"
+
+
+def compare_anchors():
+    """Prints each fault that can't be planted as the library is now, and why; returns the status."""
+    hooks = HOOKED if not made(())[1] else ()
+    told = {"the changes for the scenes": made(())[1], **{name: made(row, hooks)[1] for name, row in (FAULTS | HARMLESS).items()}}
+    lost = [f"{name}: {why}" for name, why in told.items() if why]
+    print(*lost, f"{len(told) - 1} changes of the nodes, {len(lost)} out of place", sep="\n")
+    return 1 if lost else 0
 
 
 def run(explorer, most, scene):
@@ -247,7 +268,7 @@ def is_found(fault, base):
     turns = 3 if fault in IN_THREE_TURNS else 2 if fault in IN_TWO_TURNS else 1
     scene = (IN_TWO_TURNS | IN_THREE_TURNS).get(fault, fault.split(":")[0])
     with tempfile.TemporaryDirectory() as name:
-        told, well = run(built(pathlib.Path(name), with_fault(FAULTS[fault]), base), turns, scene)
+        told, well = run(built(pathlib.Path(name), FAULTS[fault], base), turns, scene)
     print(f"{fault}: all runs go well" if well else f"{fault}: at {turns}, {last_of(told)}", flush=True)
     return not well
 
@@ -255,7 +276,7 @@ def is_found(fault, base):
 def is_harmless(change, base):
     """Prints whether all runs of at most one turn of the schedule go well after this change."""
     with tempfile.TemporaryDirectory() as name:
-        told, well = run(built(pathlib.Path(name), with_fault(HARMLESS[change]), base), 1, "")
+        told, well = run(built(pathlib.Path(name), HARMLESS[change], base), 1, "")
     print(f"harmless: {change}: all runs go well" if well else f"harmless: {change}: {last_of(told)}", flush=True)
     return well
 
@@ -267,10 +288,13 @@ def main():
     words.add_argument("--fault", default="")
     words.add_argument("--no-faults", action="store_true")
     words.add_argument("--jobs", type=int, default=2)
+    words.add_argument("--anchors", action="store_true")
     asked = words.parse_args()
+    if asked.anchors:
+        sys.exit(compare_anchors())
     with tempfile.TemporaryDirectory() as name:
         base = pathlib.Path(name)
-        built(base, SOURCES, base)
+        built(base, (), base)
         explores(asked, base)
 
 

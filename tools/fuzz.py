@@ -17,8 +17,7 @@ import random
 import sys
 import time
 
-from definitions import EVENTS, Core, Line, answer_to, is_right
-from program import LOCKS, PROGRAM, run
+from definitions import EVENTS, LOCKS, PROGRAM, Core, Line, answer_to, is_right, run
 
 TASKS = ["replay", "steps", "board", "bank"]
 KINDS = {"replay": ["plain", *LOCKS], "board": LOCKS, "bank": LOCKS}

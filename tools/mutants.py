@@ -17,6 +17,9 @@ A `$name` that `old` does not have is the variable of exactly this name, and the
 the one that it replaces.
 
 A mutant of must-fail/ is a file in the form of the gate: `file: PATH` stands in place of `in:`, and the file has `old` exactly once, to the letter.
+
+The faults that the explorers plant in the C library (tools/explore_lock.py, tools/explore_nodes.py) are changes of the same kind, each of a function of
+C: a text that its function has once to the letter is that one, and else its words and signs count, with `$name` for a local variable.
 """
 
 import collections
@@ -34,9 +37,11 @@ Change = collections.namedtuple("Change", "file function old new harmless")
 Function = collections.namedtuple("Function", "name owner begin end")
 
 HEAD = re.compile(r'^( *)(?:pub(?:\(\w+\))? )?(?:extern "C" )?fn (\w+)', re.M)
+# The head of a function of C that begins a line, up to its brace.
+HEAD_IN_C = re.compile(r"^[a-zA-Z_][^\n;={}]*?\b([a-z_]\w*)\([^;{}]*\) \{", re.M)
 HOLE = re.compile(r"\$([a-z_]\w*)")
 # What a file may have between two words or signs of a pattern.
-GAP = r"(?:\s|//[^\n]*\n)*"
+GAP = r"(?:\s|//[^\n]*\n|/\*(?:[^*]|\*(?!/))*\*/)*"
 CLOSING = set(")]}")
 MACRO = re.compile(r"^macro_rules!.*?^\}", re.M | re.S)
 KEYS = {".edits": "in|old|new|harmless|shows|test", ".edit": "file|old|new|harmless|shows|test"}
@@ -105,10 +110,29 @@ def functions(text):
     return found
 
 
-def named(text, function):
-    """The functions of a file that a mutant's line `in:` means."""
-    owner, _, name = function.rpartition("::")
-    return [it for it in functions(text) if it.name == name and owner in it.owner]
+@functools.lru_cache(maxsize=None)
+def functions_in_c(text):
+    """The functions of a file of C, as clang-format formats them: each ends at a brace that begins a line, or in its first line."""
+    found = []
+    for head in HEAD_IN_C.finditer(text):
+        line = text.find("\n", head.start())
+        end = line if text[line - 1] == "}" else text.find("\n}\n", head.start()) + 2
+        found.append(Function(head[1], "", head.start(), end))
+    return found
+
+
+def is_in_c(file):
+    return str(file).endswith((".c", ".h"))
+
+
+def functions_of(file, text):
+    return functions_in_c(text) if is_in_c(file) else functions(text)
+
+
+def named(text, change):
+    """The functions of a file that a change means by its line `in:`."""
+    owner, _, name = change.function.rpartition("::")
+    return [it for it in functions_of(change.file, text) if it.name == name and owner in it.owner]
 
 
 @functools.lru_cache(maxsize=None)
@@ -119,9 +143,9 @@ def pattern(old):
     for it, behind in zip(tokens, [*tokens[1:], ""]):
         hole = HOLE.fullmatch(it)
         if hole:
-            # No field or method: no single dot before it.
+            # No field or method: no single dot and no arrow before it.
             again = f"(?P<{hole[1]}>" in "".join(parts)
-            parts.append(r"\b(?<![^.]\.)" + (f"(?P={hole[1]})" if again else rf"(?P<{hole[1]}>[a-z_]\w*)") + r"\b")
+            parts.append(r"\b(?<![^.]\.)(?<!->)" + (f"(?P={hole[1]})" if again else rf"(?P<{hole[1]}>[a-z_]\w*)") + r"\b")
         elif re.match(r"\w", it):
             parts.append(rf"\b{it}\b")
         elif it in CLOSING and parts:
@@ -133,13 +157,18 @@ def pattern(old):
 
 def within(text, change):
     """Where the functions that a change means begin and end, or the whole file."""
-    return [(it.begin, it.end) for it in named(text, change.function)] if change.function else [(0, len(text))]
+    return [(it.begin, it.end) for it in named(text, change)] if change.function else [(0, len(text))]
 
 
 def spots(text, change):
     """Where a file has the old text of a change."""
+    exact = re.compile(re.escape(change.old))
     if change.function is None:
-        return list(re.finditer(re.escape(change.old), text))
+        return list(exact.finditer(text))
+    if is_in_c(change.file):
+        to_the_letter = [spot for begin, end in within(text, change) for spot in exact.finditer(text, begin, end)]
+        if len(to_the_letter) == 1:
+            return to_the_letter
     return [spot for begin, end in within(text, change) for spot in pattern(change.old).finditer(text, begin, end)]
 
 
@@ -165,17 +194,18 @@ def lacking(text, change):
     if change.function is None:
         return []
     names = set(HOLE.findall(f"{change.new} {change.harmless}")) - set(HOLE.findall(change.old))
-    # No field: no single dot before it, and no colon behind it.
-    variables = re.compile(r"\b(?<![^.]\.)[a-z_]\w*\b(?! *:[^:])")
+    # No field: no single dot and no arrow before it, and, but in C, no colon behind it.
+    variables = re.compile(r"\b(?<![^.]\.)(?<!->)[a-z_]\w*\b" + ("" if is_in_c(change.file) else "(?! *:[^:])"))
     return sorted(names.difference(*(variables.findall(text, begin, end) for begin, end in within(text, change))))
 
 
 def elsewhere(folder, change):
     """Where the files of a crate have the old text of a change, each with the function round it."""
-    for file in (it for part in PARTS for it in sorted((folder / part).rglob("*")) if it.is_file()):
+    in_c = folder.rglob("*.[ch]") if is_in_c(change.file) else []
+    for file in [*(it for part in PARTS for it in sorted((folder / part).rglob("*")) if it.is_file()), *sorted(in_c)]:
         text = file.read_text()
         for spot in spots(text, change if change.function is None else change._replace(function="")):
-            around = [it.name for it in functions(text) if it.begin <= spot.start() and spot.end() <= it.end]
+            around = [it.name for it in functions_of(file, text) if it.begin <= spot.start() and spot.end() <= it.end]
             yield f"{file.relative_to(folder)}:{text.count(chr(10), 0, spot.start()) + 1}" + "".join(f" {it}" for it in around[-1:])
 
 
@@ -202,15 +232,17 @@ def filled(change, spot):
     """The new text of a change, with the variables and the indentation of the place where the old one was found."""
     if change.function is None:
         return change.new
+    new = HOLE.sub(lambda it: spot.groupdict().get(it[1], it[1]), change.new)
+    if is_in_c(change.file) and spot[0] == change.old:
+        return new
     text, lead = spot.string, re.match(" *", change.old)[0]
     indent = re.match(" *", text[text.rfind("\n", 0, spot.start()) + 1 :])[0].removeprefix(lead)
-    new = HOLE.sub(lambda it: spot.groupdict().get(it[1], it[1]), change.new)
     return re.sub(r"\n(?=.)", "\n" + indent, new.removeprefix(lead))
 
 
-def changed(folder, changes):
-    """The files in the folder of a crate as the changes make them; or why they can't be made."""
-    bodies = {}
+def changed(folder, changes, texts=()):
+    """The files in the folder of a crate as the changes make them, of these texts by their paths; or why they can't be made."""
+    bodies = dict(texts)
     for it in changes:
         path = folder / it.file
         body = bodies.get(path) or (path.read_text() if path.is_file() else "")

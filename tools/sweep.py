@@ -19,8 +19,7 @@ import tempfile
 import time
 
 from crates import ROOT
-from definitions import answer_to, is_right
-from program import LOCKS, run, the_program
+from definitions import LOCKS, answer_to, is_right, run, the_program
 
 HERE = os.path.dirname(os.path.abspath(__file__))
 
