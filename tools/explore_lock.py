@@ -31,6 +31,7 @@ import time
 import mutants
 
 sys.path.insert(0, str(pathlib.Path(__file__).resolve().parent / "explorer"))
+import lock_faults  # noqa: E402
 from lock_faults import FAULTS, HARMLESS, HOOKED  # noqa: E402
 
 ROOT = pathlib.Path(__file__).resolve().parent.parent
@@ -45,9 +46,9 @@ RENAMED = [f"-D{name}=model_{short}" for name, short in (("malloc", "malloc"), (
 BY_MODEL = ["-w", "-O1", "-DOF_LOCKS", "-DWITHOUT_NODES", "-DEXPLORED", "-fsanitize=thread", "-U__SANITIZE_THREAD__", "-DQOLB_NO_PROBES", *RENAMED]
 
 
-def edit(folder, changes):
-    """Makes these changes of files of the folder; ends with what has moved if one can't be made."""
-    bodies, why = mutants.changed(folder, [mutants.Change(*it, None) for it in changes])
+def edit(folder, name, where, old, new):
+    """Makes a change of one function, or of a file if `where` is empty; ends with what has moved if it can't be made."""
+    bodies, why = mutants.changed(folder, [mutants.Change(name, where, old, new, None)])
     if why:
         sys.exit(why)
     for path, body in bodies.items():
@@ -65,26 +66,13 @@ def compiled(folder, name, told):
     return made
 
 
-def laid_out(folder):
-    """Copies what is built to the folder."""
+def built(folder, edits, width):
+    """The explorer, built over the library with these edits, with `width` tickets in a round."""
     shutil.copytree(SOURCE, folder, dirs_exist_ok=True)
     for name in (*SCENES, "lock_scenes.h", "explorer.h"):
         shutil.copy(MODEL / name, folder)
-
-
-def hooked(width):
-    """The changes for the scenes, with `width` tickets in a round."""
-    return [
-        *HOOKED,
-        ("core.c", "", "IN_ROUND = LAYOUT_CELLS", f"IN_ROUND = {width}"),
-        ("lock/lock.h", "", "TICKETS_IN_ROUND = LAYOUT_CELLS", f"TICKETS_IN_ROUND = {width}"),
-    ]
-
-
-def built(folder, edits, width):
-    """The explorer, built over the library with these edits, with `width` tickets in a round."""
-    laid_out(folder)
-    edit(folder, [*edits, *hooked(width)])
+    for change in (*edits, *HOOKED, ("core.c", "", "IN_ROUND = LAYOUT_CELLS", f"IN_ROUND = {width}"), ("lock/lock.h", "", "TICKETS_IN_ROUND = LAYOUT_CELLS", f"TICKETS_IN_ROUND = {width}")):
+        edit(folder, *change)
     objects = [compiled(folder, name, ["-O2", "-DOF_LOCKS"] if name == "explorer.c" else BY_MODEL) for name in (*LIBRARY, *SCENES)]
     subprocess.run(["cc", *objects, "-pthread", "-o", folder / "explorer"], check=True)
     return folder / "explorer"
@@ -144,17 +132,22 @@ def is_harmless(name, seconds):
 
 def compare_anchors():
     """Prints each fault that can't be planted as the library is now, and why; returns the status."""
+    tables = [getattr(lock_faults, name, {}) for name in ("FAULTS", "INVARIANTS", "HARMLESS")]
+    # Of a row the changes are its tuples.
+    rows = {name: [it for it in row if isinstance(it, tuple)] for table in tables for name, row in table.items()}
     with tempfile.TemporaryDirectory() as name:
         folder = pathlib.Path(name)
-        laid_out(folder)
+        shutil.copytree(SOURCE, folder, dirs_exist_ok=True)
+        for path in MODEL.glob("*.[ch]"):
+            shutil.copy(path, folder)
 
         def why_not(changes):
             return mutants.changed(folder, [mutants.Change(*it, None) for it in changes])[1]
 
-        hooks = hooked(4) if not why_not(hooked(4)) else []
-        rows = {"the changes for the scenes": hooked(4), **{it: (*FAULTS[it][2:], *hooks) for it in FAULTS}, **{it: (*HARMLESS[it], *hooks) for it in HARMLESS}}
-        lost = [f"{fault}: {why_not(row)}" for fault, row in rows.items() if why_not(row)]
-    print(*lost, f"{len(rows) - 1} changes of the lock, {len(lost)} out of place", sep="\n")
+        hooks = HOOKED if not why_not(HOOKED) else []
+        told = {"the changes for the scenes": why_not(HOOKED), **{fault: why_not([*row, *hooks]) for fault, row in rows.items()}}
+    lost = [f"{fault}: {why}" for fault, why in told.items() if why]
+    print(*lost, f"{len(rows)} changes of the lock, {len(lost)} out of place", sep="\n")
     return 1 if lost else 0
 
 
