@@ -30,60 +30,6 @@ def table(heads, rows):
     return "\n".join("| " + " | ".join(row) + " |" for row in (heads, ["---"] * len(heads), *rows))
 
 
-def medians():
-    """Nanoseconds of a round, by lock and number of threads."""
-    return {(row["name"], row["threads"]): float(row["median"]) for row in rows_of("rounds.tsv")}
-
-
-# Of each machine on which rounds were timed: its file, and its name in the table.
-MACHINES = (("rounds.tsv", ""), ("rounds_cascade_lake.tsv", ", older"))
-
-
-def fastest():
-    """Of the three lines that with the least median of a round, and those whose quartiles reach below its upper one; by machine, caller and number of threads."""
-    rows = []
-    for file, machine in MACHINES:
-        found = {(row["name"], row["threads"]): row for row in rows_of(file)}
-        threads = sorted({count for _, count in found}, key=int)
-        for caller, behind in (("Rattle", ""), ("C", " from C")):
-            cells = []
-            for count in threads:
-                of = {line.split()[0]: found[line + behind, count] for line in LINES}
-                least = min(of, key=lambda line: float(of[line]["median"]))
-                near = [line for line in sorted(of, key=lambda line: float(of[line]["median"])) if float(of[line]["low"]) <= float(of[least]["high"])]
-                cells.append("any" if len(near) == len(LINES) else ", ".join(near))
-            rows.append([caller + machine, *cells])
-    return table(["Threads", *threads], rows)
-
-
-# Those of the table of rounds, as the page has them.
-OTHERS = {"MCS": "MCS", "CLH": "CLH", "ticket lock": "ticket lock",
-          "tbb::queuing_mutex": "`tbb::queuing_mutex`", "pthread_mutex": "`pthread_mutex`"}
-
-
-def rounds():
-    """Nanoseconds of a round of each lock that was timed, by the number of threads."""
-    found = medians()
-    names = {name: name for name in (*LINES, *(f"{line} from C" for line in LINES))} | OTHERS
-    threads = sorted({count for _, count in found}, key=int)
-    rows = [[title, *(short(found[name, count]) for count in threads)] for name, title in names.items() if (name, threads[0]) in found]
-    return table(["Threads", *threads], rows)
-
-
-WAITS = {"C, nodes": "node", "C, qolb_lock": "strict", "C, qolb_lock, bursts": "barging", "mutex": "`pthread_mutex`", "MCS": "MCS"}
-
-
-def waits():
-    """Thousands of critical sections a second, and the longest wait in milliseconds."""
-    found = {(row["turn_us"], row["threads"], row["name"]): row for row in rows_of("waits.tsv")}
-
-    def cell(*key):
-        return f"{short(float(found[key]['turns_a_second']) / 1000)}; {short(float(found[key]['longest_us']) / 1000)}"
-
-    rows = [[turn, count, *(cell(turn, count, name) for name in WAITS)] for turn, counts in (("0", "2 4 8 32"), ("10", "8 32"), ("1000", "8 32")) for count in counts.split()]
-    return table(["Critical section, us", "Threads", *WAITS.values()], rows)
-
-
 def c_memory():
     """The header's table of bytes by the number of nodes: by kind, and by number."""
     header = (ROOT / "c/include/qolb.h").read_text()
@@ -101,45 +47,6 @@ def memory():
     for line in LINES:
         rows.append([f"{line}, C", *in_c[line.split()[0]].values()])
     return table(["Nodes", *counts], rows)
-
-
-# The columns of a table about locks, with their names in the files of figures.
-OF_LOCKS = {"strict": "strict", "bursts": "barging", "mutex": "`pthread_mutex`", "MCS": "MCS"}
-
-
-def of_speed(part):
-    """Nanoseconds of a critical section in one part of speed.tsv, by number of threads, up to one thread for each of the four processors."""
-    found = {}
-    for row in rows_of("speed.tsv"):
-        if row["part"] == part and int(row["threads"]) <= 4:
-            found.setdefault(row["threads"], {})[row["lock"]] = row["median"]
-    return [[threads, *(short(float(of[lock])) for lock in OF_LOCKS)] for threads, of in found.items()]
-
-
-def empty():
-    """Nanoseconds of an empty critical section of a `qolb_lock`, a mutex and MCS."""
-    return table(["Threads", *OF_LOCKS.values()], of_speed("alone") + of_speed("quiet"))
-
-
-def speed():
-    """The same, and for critical sections of 10 us."""
-    parts = {"alone": "empty", "quiet": "empty", "long": "10 us"}
-    return table(["Critical section", "Threads", *OF_LOCKS.values()], [[title, *row] for part, title in parts.items() for row in of_speed(part)])
-
-
-def choice_of_archive():
-    """A table for the README of the archive, which is no page: in columns, indented."""
-    names = {"strict": "strict, QOLB_LOCK_INIT", "bursts": "barging, QOLB_LOCK_INIT_BURSTS(1024)", "mutex": "pthread_mutex"}
-    times = {(row["part"], row["threads"], row["lock"]): row["median"] for row in rows_of("speed.tsv")}
-    bytes_of = next(row["ratio"] for row in rows_of("speed.tsv") if row["part"] == "bytes")
-    rows = [
-        ["", *names.values()],
-        ["threads that may overtake a waiter", "none", "1,023 for it and for each waiter before it", "any number"],
-        ["bytes", bytes_of, bytes_of, "40"],
-        *([f"{title}, ns an empty critical section", *(short(float(times[*of, lock])) for lock in names)] for title, *of in (("1 thread", "alone", "1"), ("4 threads", "quiet", "4"))),
-    ]
-    widths = [max(map(len, column)) for column in zip(*rows)]
-    return "\n".join("    " + "   ".join(map(str.ljust, row, widths)).rstrip() for row in rows)
 
 
 # How long a waiter spins: the name in the table, and the knob and its value in waiting.tsv.
@@ -175,6 +82,7 @@ MEASURES = {
     "peers_cpu": ("cpu", 1, False, ("E 4 32", "T 4 8 32", "L 4 32")),
     "peers_fair": ("fair", 1, True, ("E 4 32", "T 8 32", "L 4 32")),
 }
+SOME = (1, 4, 8, 32)
 TOLD = {"E": "E: empty", "D": "D: 64 bytes", "T": "T: 1 us in, 3 us out", "L": "L: 10 us", "M": "M: mixed, 8 locks"}
 
 
@@ -226,13 +134,14 @@ def beside_peers(table_name, name=PEERS):
 
 
 def best_peers(name=PEERS):
-    """The best lock of all by each measure, for each workload and number of threads."""
+    """The best lock of all by each measure, for each workload and some numbers of threads."""
     of_all = {measure: peers_of(name, MEASURES[measure][0]) for measure in MEASURES}
     rows = []
-    for key in of_all["peers_time"]:
+    for key in (key for key in of_all["peers_time"] if key[1] in SOME):
         cells = []
         for measure, found in of_all.items():
-            best = best_of(found.get(key, {}), found.get(key, {}), MEASURES[measure][2])
+            of = found.get(key, {}) if measure != "peers_fair" or key[1] > 1 else {}
+            best = best_of(of, of, MEASURES[measure][2])
             cells.append(f"{best[1]} {short(best[0] / MEASURES[measure][1])}" if best else "-")
         rows.append([TOLD[key[0]], str(key[1]), *cells])
     rows.sort(key=lambda row: (list(TOLD.values()).index(row[0]), int(row[1])))
@@ -253,6 +162,33 @@ def to_before(name=PEERS):
     return table(["Workload", "Threads", "Lock", "time, ns", "99.9 %, us", "processor time, ns", "least to most"], rows) if rows else ""
 
 
+# The tables for who reads no further: in the page README, and in the archive's README, which is no page.
+FRONT = {"strict": "strict", "barging": "barging", "pthread_mutex": "`pthread_mutex`", "parking_lot": "parking_lot", "MCS": "MCS"}
+FRONT_ROWS = (("ns", "E", 1), ("ns", "E", 4), ("ns", "E", 8), ("ns", "T", 4), ("ns", "T", 8), ("ns", "L", 4))
+
+
+def front():
+    """Nanoseconds of a critical section of some locks."""
+    found = peers_of(PEERS, "ns")
+    rows = [[TOLD[workload], str(threads), *(short(found[workload, threads][lock]) for lock in FRONT)] for _, workload, threads in FRONT_ROWS]
+    return table(["Critical section", "Threads", *FRONT.values()], rows)
+
+
+def choice_of_archive():
+    """Who may overtake, bytes, and nanoseconds of a critical section: in columns, indented."""
+    names = {"strict": "strict, QOLB_LOCK_INIT", "barging": "barging, QOLB_LOCK_INIT_BURSTS(1024)", "pthread_mutex": "pthread_mutex"}
+    bytes_of = re.search(r"QOLB_LOCK_INIT +strict +(\d+)", (ROOT / "c/include/qolb.h").read_text())[1]
+    found = peers_of(PEERS, "ns")
+    rows = [
+        ["", *names.values()],
+        ["threads that may overtake a waiter", "none", "1,023 for it and for each waiter before it", "any number"],
+        ["bytes", bytes_of, bytes_of, "40"],
+        *([f"{threads} threads, ns, {TOLD[workload]}", *(short(found[workload, threads][lock]) for lock in names)] for _, workload, threads in FRONT_ROWS),
+    ]
+    widths = [max(map(len, column)) for column in zip(*rows)]
+    return "\n".join("    " + "   ".join(map(str.ljust, row, widths)).rstrip() for row in rows)
+
+
 PEER_TABLES = {name: functools.partial(beside_peers, name) for name in MEASURES} | {"peers_best": best_peers}
 
-TABLES = {"rounds": rounds, "fastest": fastest, "waits": waits, "memory": memory, "empty": empty, "speed": speed, "spins": spins}
+TABLES = {"memory": memory, "front": front, "spins": spins, **PEER_TABLES}

@@ -1,5 +1,5 @@
 /* Times ways of taking turns, all in one program, in short phases that take turns, and hand-overs between processors.
- * For nodes.c and speed.c, which phases.py runs: who includes it has an enum way that ends with WAYS, their names, and
+ * For nodes.c, which phases.py runs: it has an enum way that ends with WAYS, their names, and
  * the functions that are declared here.
  *
  * Places in memory matter: each way has PLACES lines or locks, and takes one after the other. */

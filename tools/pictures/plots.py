@@ -1,4 +1,4 @@
-"""Plots of figures in c/bench/figures: the time of a turn, busy processors, a line's bytes, and what a simulation says of larger machines."""
+"""Plots of figures in c/bench/figures: locks beside those that people use, a line's bytes, and what a simulation says of larger machines."""
 
 import math
 import pathlib
@@ -11,7 +11,10 @@ import figures
 from figures import LINES, rows_of
 
 WIDTH, LEFT, RIGHT, TOP = 760, 60, 540, 36
-COLOURS = {"ticket line": "#2da44e", "ring": "#d9730d", "link line": "#3b82f6", "MCS": "#768390", "mutex": "#a371f7", "strict": "#cf222e", "barging": "#8250df"}
+COLOURS = {"ticket line": "#2da44e", "ring": "#d9730d", "link line": "#3b82f6", "MCS": "#768390", "strict": "#cf222e", "barging": "#8250df",
+           "ticket node": "#2da44e", "pthread_mutex": "#bf8700", "absl::Mutex": "#0969da", "parking_lot": "#e85aad"}
+# The curves of the plot of locks beside each other.
+PEERS = ("strict", "barging", "ticket node", "pthread_mutex", "absl::Mutex", "parking_lot", "MCS")
 
 
 class Plot:
@@ -70,35 +73,17 @@ class Plot:
         self.picture.text(8, self.bottom + 58, words, "small", "start")
 
 
-def rounds():
-    """The time of a round as a ratio to that of MCS, by the number of threads."""
-    found = figures.medians()
-    threads = sorted({count for _, count in found}, key=int)
-    plot = Plot("time of a turn, as a ratio to MCS's: lower is better", "threads that share one line", threads, 260)
-    curves = [(name, of) for name in LINES for of in ("", " from C") if (name + of, threads[0]) in found]
-    ratios = {pair: [found["".join(pair), count] / found["MCS", count] for count in threads] for pair in curves}
-    high = math.ceil(max(map(max, ratios.values())) * 4) / 4
-    plot.scale(0, high, [k / 2 for k in range(int(high * 2) + 1)])
-    for (name, of), values in ratios.items():
-        plot.curve(name + (of or ", Rattle"), values, COLOURS[name], "2 4" if of else "")
-    plot.curve("MCS", [1] * len(threads), COLOURS["MCS"], "7 5")
-    plot.source("rounds.tsv")
-    return plot.picture
-
-
-WAITERS = {"ticket line": ("ticket line", "spinning"), "ticket line, asleep": ("ticket line", "asleep"), "mutex": ("mutex", ""), "MCS": ("MCS", "")}
-
-
-def processors():
-    """The processors that threads of one lock take, by how they wait, with turns of a millisecond."""
-    rows = [row for row in rows_of("waits.tsv") if row["turn_us"] == "1000"]
-    threads = sorted({int(row["threads"]) for row in rows})
-    plot = Plot("processors that they keep busy", "threads that share one lock, turns of 1 ms", threads, 220)
-    plot.scale(0, 4.2, range(5))
-    for place, (name, (of, how)) in enumerate(WAITERS.items()):
-        found = {int(row["threads"]): float(row["processors"]) for row in rows if row["name"] == name}
-        plot.bars(f"{of}, {how}" if how else of, [found[count] for count in threads], COLOURS[of], place, 0.45 if how == "asleep" else 1)
-    plot.source("waits.tsv")
+def peers():
+    """The time of a critical section of 1 us by threads that work for 3 us outside, by their number."""
+    found = {key: of for key, of in figures.peers_of(figures.PEERS, "ns").items() if key[0] == "T"}
+    threads = sorted(count for _, count in found)
+    plot = Plot("ns a critical section of 1 us, with 3 us outside: lower is better", "threads that use one lock", threads, 260)
+    most = max(found["T", count][name] for count in threads for name in PEERS if name in found["T", count])
+    plot.scale(900, max(most * 1.1, 5000), [mark for mark in (1000, 2000, 5000, 10000, 100000, 1000000) if mark < most * 1.1 or mark <= 5000], log=True)
+    for name in PEERS:
+        if all(name in found["T", count] for count in threads):
+            plot.curve(name, [found["T", count][name] for count in threads], COLOURS[name], "" if name in figures.OURS else "7 5")
+    plot.source(figures.PEERS)
     return plot.picture
 
 
@@ -130,4 +115,4 @@ def scale():
 
 def pictures():
     """The pictures by their names."""
-    return {"scale": scale(), "rounds": rounds(), "processors": processors(), "memory": memory()}
+    return {"peers": peers(), "scale": scale(), "memory": memory()}
