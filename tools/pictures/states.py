@@ -1,0 +1,79 @@
+"""The states of a node, and the calls that lead from one to another."""
+
+from svg import Picture
+
+WIDTH, HEIGHT = 900, 440
+BOX, TALL = 112, 36
+
+
+def state(picture, x, y, name, says, kind="box"):
+    """Draws a state as a box, with its meaning below its name."""
+    picture.box(x - BOX / 2, y - TALL / 2, BOX, TALL, kind)
+    inside = "" if kind == "box" else " inside"
+    picture.text(x, y - 1, name, f"strong{inside}")
+    picture.text(x, y + 13, says, f"small{inside}")
+
+
+def label(picture, x, y, call, answer, anchor="middle"):
+    """Draws a call, and the answer with which it leads on."""
+    picture.text(x, y, call, "code", anchor)
+    if answer:
+        picture.text(x, y + 15, answer, "small", anchor)
+
+
+def draw_states(picture):
+    """The seven states."""
+    picture.box(24, 70, 150, 250, "box", 8)
+    picture.text(99, 60, "may ask", "strong")
+    for y, name, says in ((102, "Idle", "nothing is open"), (164, "Rolled", "withdrawn"), (226, "Left", "link line: left here"), (288, "Shut", "knows: closed")):
+        picture.box(34, y - TALL / 2, 130, TALL)
+        picture.text(99, y - 1, name, "strong")
+        picture.text(99, y + 13, says, "small")
+    state(picture, 460, 164, "Queued", "its request waits", "waits")
+    state(picture, 800, 164, "Holding", "has the line", "holds")
+    state(picture, 460, 344, "Linking", "not linked yet")
+
+
+def draw_calls(picture):
+    """The calls, each from a state to a state."""
+    picture.line(174, 150, 402, 150, "line", "tip")
+    label(picture, 288, 142, "enqolb: Queued", "")
+    picture.line(402, 178, 168, 178, "line", "tip")
+    label(picture, 280, 195, "withdraw: Withdrawn", "to Rolled")
+    picture.path("M406,182 C400,262 340,276 176,276", "line", "tip")
+    label(picture, 276, 240, "poll, withdraw: Closed", "to Shut or Left")
+    picture.line(516, 164, 742, 164, "arrow", "hottip")
+    label(picture, 629, 156, "poll, withdraw: Granted", "")
+    picture.path("M440,146 C430,104 490,104 480,145", "line", "tip")
+    label(picture, 460, 106, "poll: Waiting", "")
+    picture.path("M174,88 C360,44 700,44 790,144", "arrow", "hottip")
+    label(picture, 470, 48, "enqolb: Granted", "")
+    picture.path("M800,182 C800,330 640,302 520,302 C400,302 300,302 176,302", "line", "tip")
+    label(picture, 640, 262, "deqolb: Idle or Left", "")
+    label(picture, 640, 280, "shut: Shut or Left", "")
+    picture.path("M99,320 C99,350 240,350 402,350", "line", "tip")
+    label(picture, 250, 366, "prepend: Linking", "")
+    picture.line(460, 326, 460, 184, "line", "tip")
+    label(picture, 468, 222, "link: Queued", "", "start")
+
+
+NOTES = (
+    "enqolb, answered Busy, changes nothing; answered Closed, it leads where poll does.",
+    "At the last turn of a lease, deqolb leads where shut does.",
+    "prepend and link are the two halves of a link line's enqolb, and may be answered Granted or Closed too.",
+)
+
+
+def states_of_a_node():
+    picture = Picture(WIDTH, HEIGHT, "The states of a node, and the calls that lead from one to another")
+    picture.text(WIDTH / 2, 20, picture.title, "strong")
+    draw_states(picture)
+    draw_calls(picture)
+    for k, words in enumerate(NOTES):
+        picture.text(24, 394 + 17 * k, words, "small", "start")
+    return picture
+
+
+def pictures():
+    """The picture by its name."""
+    return {"node_states": states_of_a_node()}
