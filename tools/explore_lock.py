@@ -31,7 +31,6 @@ import time
 import mutants
 
 sys.path.insert(0, str(pathlib.Path(__file__).resolve().parent / "explorer"))
-import lock_faults  # noqa: E402
 from lock_faults import FAULTS, HARMLESS, HOOKED  # noqa: E402
 
 ROOT = pathlib.Path(__file__).resolve().parent.parent
@@ -132,6 +131,8 @@ def is_harmless(name, seconds):
 
 def compare_anchors():
     """Prints each fault that can't be planted as the library is now, and why; returns the status."""
+    import lock_faults
+
     tables = [getattr(lock_faults, name, {}) for name in ("FAULTS", "INVARIANTS", "HARMLESS")]
     # Of a row the changes are its tuples.
     rows = {name: [it for it in row if isinstance(it, tuple)] for table in tables for name, row in table.items()}
