@@ -65,11 +65,10 @@ uint32_t qolb_await_turn_(struct request *my) {
     struct spin spin = {.yields = !has_bursts(my->lock)};
     uint32_t got = QOLB_WAITING;
     while (got == QOLB_WAITING) {
-        uint64_t before = turns_before(my);
         if (is_over(my->until)) {
             got = give_up(my);
-        } else if (qolb_spins_on_(&spin, before)) {
-            qolb_spin_for_(&spin, POLL_PAUSE + (unsigned)(before - 1) * POLL_FARTHER);
+        } else if (qolb_spins_on_(&spin, turns_before(my))) {
+            qolb_spin_for_(&spin, qolb_poll_pause_(&spin));
             got = qolb_core_poll_proved_(core_of(my), ticket_of(my));
         } else {
             make_spare(my);
