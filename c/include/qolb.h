@@ -182,8 +182,9 @@
  *
  * WAITING
  *
- * A thread with a ticket polls every 90 ns if it is next, and 250 ns later for each further thread before it. How long
- * it polls follows from the number of those threads, and from how many processors the process may use:
+ * A thread with a ticket polls every 90 ns if it is next, and more seldom the more threads are before it: 150 ns for
+ * each, or three quarters of the time that it has seen a hand-over take, up to 500 ns. How long it polls follows from
+ * the number of those threads, and from how many processors the process may use:
  *
  * - If there are fewer threads than processors, it polls for 50 us, or for 1 us for each thread if that is more.
  * - If there are fewer than twice the processors, it polls for 50 us, and in a strict lock it yields before each poll.

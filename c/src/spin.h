@@ -46,9 +46,11 @@ enum {
 
 /* Its pauses between two polls. */
 enum {
-    POLL_PAUSE = 90,   /* of a lock's waiter that is next */
-    NODE_PAUSE = 60,   /* of a node: nobody else polls its word */
-    POLL_FARTHER = 250 /* more for each other thread before it: a hand-over takes at least as long */
+    POLL_PAUSE = 90,     /* of a lock's waiter that is next */
+    NODE_PAUSE = 60,     /* of a node: nobody else polls its word */
+    POLL_FARTHER = 150,  /* more for each other thread before it, until it has seen how long hand-overs take */
+    POLL_FARTHEST = 500, /* the most for each, since critical sections differ */
+    POLL_PART = 75       /* of a hand-over, in hundredths: a waiter that looks late delays all behind it */
 };
 
 /* How fast a thread learns: by a part of what it knows. */
@@ -107,7 +109,8 @@ struct spin {
     unsigned spun, most; /* nanoseconds: so far, and when it is to end */
     int slept;           /* it has slept in this wait, or was told to */
     int yields;          /* it is to yield while it is far from its turn */
-    uint64_t before;     /* the number of threads before it at the last look */
+    /* The number of threads before it: when it began, and at the last look. */
+    uint64_t first, before;
 };
 
 enum { FIRST_SPIN, WOKEN_SPIN, HEAD_SPIN, SPINS };
@@ -147,11 +150,20 @@ static inline void end_spin(struct spin *spin, unsigned *learned) {
 static inline int qolb_spins_on_(struct spin *spin, uint64_t before) {
     unsigned *learned = &qolb_learned_[spin->slept ? WOKEN_SPIN : FIRST_SPIN];
     unsigned patience = spin->spun ? *learned : begin_spin(learned), may_spin = pauses_in_1024();
+    if (spin->spun == 0) spin->first = before;
     spin->before = before;
     spin->most = longest_spin(spin);
     if (patience < SPIN_NEAR && patience < spin->most) spin->most = patience;
     if (spin->spun + POLL_PAUSE <= spin->most && may_spin) return 1;
     return end_spin(spin, learned), 0;
+}
+
+/* How long a lock's waiter is to pause before it polls: by all threads before it, and by how fast they were so far. */
+static inline unsigned qolb_poll_pause_(const struct spin *spin) {
+    uint64_t ended = spin->first - spin->before, each = POLL_FARTHER;
+    if (ended) each = spin->spun * (uint64_t)POLL_PART / 100 / ended;
+    if (each > POLL_FARTHEST) each = POLL_FARTHEST;
+    return (unsigned)(POLL_PAUSE + (spin->before - 1) * each);
 }
 
 /* Pauses before a poll. A waiter that was woken yields first: it may have taken the processor from the holder. */

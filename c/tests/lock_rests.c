@@ -20,10 +20,10 @@ enum { MS = 1000000, KEPT = 8 };
 #define NEVER UINT64_MAX
 
 /* How often a waiter polls before it sleeps, as qolb.h says, with four processors: behind the holder alone every 90 ns,
- * for 50 us; 250 ns later for each further thread before it; with eight before it for 2 us. A spin that ends with a
+ * for 50 us; 150 ns later for each further thread before it; with eight before it for 2 us. A spin that ends with a
  * sleep halves the next one, which begins with an eighth more. */
 enum { PROCESSORS = 4, SOME_BEFORE = 5, MANY_BEFORE = 8 };
-#define PAUSE(before) (90 + 250 * ((before)-1))
+#define PAUSE(before) (90 + 150 * ((before)-1))
 enum {
     NEAR = 50000 / PAUSE(1),
     BEHIND_ONE = (50000 - 90) / PAUSE(2) + 1,

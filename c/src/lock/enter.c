@@ -259,12 +259,11 @@ static uint32_t wait_for_turn(struct request *my) {
     uint32_t got = QOLB_WAITING;
     begins_to_wait(my);
     while (got == QOLB_WAITING) {
-        uint64_t before = turns_before(my);
         INVARIANT(ticket_of(my)->state == QOLB_TICKET_WAITING_ && !my->is_counted);
         if (is_over(my->until)) {
             got = give_up(my);
-        } else if (qolb_spins_on_(&spin, before)) {
-            qolb_spin_for_(&spin, POLL_PAUSE + (unsigned)(before - 1) * POLL_FARTHER);
+        } else if (qolb_spins_on_(&spin, turns_before(my))) {
+            qolb_spin_for_(&spin, qolb_poll_pause_(&spin));
             got = qolb_core_poll_proved_(core_of(my), ticket_of(my));
         } else {
             make_spare(my);
