@@ -14,4 +14,4 @@ head_of b = record { tracked = true; key = 0; book = b }
 
 -- the turn was added to all that had been seen; or the history was longer, and was seen
 abbrev pub Adds : Step Turn → View Turn ℕ → ℕ → View Turn ℕ → Type 0
-Adds s v found w = MatchBool (found == s.old) ((w.0 ≡ v.0 ++ s.draw ∷ []) × IsChain w.0) ((length w.0 ≡ found) × IsChain w.0)
+Adds s v found w = MatchBool (found == s.old) ((w.0 ≡ v.0 ++ s.ask ∷ []) × IsChain w.0) ((length w.0 ≡ found) × IsChain w.0)

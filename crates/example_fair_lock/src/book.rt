@@ -26,7 +26,7 @@ impl Rule<Turn, u64> for BookInvariant {
 
     ghost keeps = { λ names log. ftrue };
 
-    ghost moves = { λ draw before after answer. Unit {0} };
+    ghost moves = { λ ask before after answer. Unit {0} };
 }
 
 /// Callers trade nothing.
@@ -51,7 +51,7 @@ impl Play<Turn, u64> for Add {
 impl Plain<Turn, Turn, u64> for Add {
     ghost use Rattle.std.specs.Prelude.{None};
 
-    ghost draw = { λ turn. turn };
+    ghost ask = { λ turn. turn };
 
     ghost state = { λ turn. None };
 }
