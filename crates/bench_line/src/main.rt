@@ -41,6 +41,10 @@ static STRESSED: [u64; 3] = [4, 8, 32];
 /// The barging limit of a barging lock.
 const BARGING_LIMIT: u16 = 1024;
 
+/// The columns of a timed row: those of `c/bench/peers`.
+const COLUMNS: &str =
+    "workload\tthreads\tlock\tphases\tns\tlow\thigh\tp99\tp999\tlongest\tfair\tcpu\twaits";
+
 /// The rounds of each thread if `--rounds` is not given: enough to show that no addition is lost.
 const FEW_ROUNDS: u64 = 100;
 
@@ -49,8 +53,8 @@ const FEW_ROUNDS: u64 = 100;
 enum Wanted {
     /// Runs a few rounds and prints the lane, to show that no addition is lost.
     Sums,
-    /// Times this many rounds of each thread.
-    Times(Way, u64),
+    /// Times this many rounds of each thread, of the lock with this name.
+    Times(Way, &'static str, u64),
     /// Puts the line under stress for this many seconds.
     Stress(u64),
 }
@@ -84,8 +88,11 @@ fn main(rt: HostRuntime) -> anyhow::Result<()> {
         words.push(word)?;
     }
     let matches = command(alloc)?.try_get_matches_from(words.as_slice())?;
-    let wanted = wanted_of(&matches);
     let kind = kind_of(&matches);
+    let wanted = wanted_of(&matches, kind);
+    if let Wanted::Times(..) = wanted {
+        println!(&rt; "{COLUMNS}")?;
+    }
     if let Some(threads) = matches.get_one::<u64>("threads") {
         return run_kind(&rt, alloc, kind, threads, wanted);
     }
@@ -210,14 +217,29 @@ fn way_of(matches: &ArgMatches) -> Way {
     }
 }
 
+/// Returns the name of what is timed, as a timed row has it.
+fn name_of(way: Way, kind: Kind) -> &'static str {
+    match (way, kind) {
+        (Way::Fair, _) => "FairLock, strict",
+        (Way::Barging, _) => "FairLock, barging",
+        (Way::Mutex, _) => "the toolchain's mutex",
+        (Way::Ports, Kind::AtOnce(Lock::Ring)) => "ring in Rattle",
+        (Way::Ports, Kind::AtOnce(Lock::Ticket)) => "ticket line in Rattle",
+        (Way::Ports, Kind::AtOnce(Lock::Link) | Kind::TwoCalls) => "link line in Rattle",
+    }
+}
+
 /// What the command line asks for.
-fn wanted_of(matches: &ArgMatches) -> Wanted {
+fn wanted_of(matches: &ArgMatches, kind: Kind) -> Wanted {
     match (
         matches.get_one::<u64>("stress"),
         matches.get_one::<u64>("rounds"),
     ) {
         (Some(seconds), _) => Wanted::Stress(seconds),
-        (None, Some(rounds)) => Wanted::Times(way_of(matches), rounds),
+        (None, Some(rounds)) => {
+            let way = way_of(matches);
+            Wanted::Times(way, name_of(way, kind), rounds)
+        }
         (None, None) => Wanted::Sums,
     }
 }
@@ -261,11 +283,15 @@ fn bench_at_once<
     Q: Discipline<NonDecreasing> + Send + Sync,
 >(rt: &R, alloc: Global, threads: u64, wanted: Wanted) -> anyhow::Result<()> {
     match wanted {
-        Wanted::Times(Way::Fair, rounds) => measure_fair(rt, alloc, threads, rounds, None),
-        Wanted::Times(Way::Barging, rounds) => {
-            measure_fair(rt, alloc, threads, rounds, Some(BARGING_LIMIT))
+        Wanted::Times(Way::Fair, name, rounds) => {
+            measure_fair(rt, alloc, threads, name, rounds, None)
         }
-        Wanted::Times(Way::Mutex, rounds) => measure_mutex(rt, alloc, threads, rounds),
+        Wanted::Times(Way::Barging, name, rounds) => {
+            measure_fair(rt, alloc, threads, name, rounds, Some(BARGING_LIMIT))
+        }
+        Wanted::Times(Way::Mutex, name, rounds) => {
+            measure_mutex(rt, alloc, threads, name, rounds)
+        }
         _ => bench::<R, AtOnce, Line<NonDecreasing, Q>>(rt, alloc, AtOnce, threads, wanted),
     }
 }
@@ -282,7 +308,7 @@ where
     let (line, ports) = open::<L>(alloc, threads)?;
     match wanted {
         Wanted::Sums => show(rt, alloc, line, ports, threads),
-        Wanted::Times(_, rounds) => measure(rt, alloc, line, ports, threads, rounds),
+        Wanted::Times(_, name, rounds) => { measure(rt, alloc, line, ports, threads, name, rounds) }
         Wanted::Stress(seconds) => {
             put_under_stress(rt, alloc, line, ports, asking, threads, seconds)
         }
@@ -315,6 +341,7 @@ fn measure<R: Threads + Wait + Clock + Print + Sync, L: LineSync<NonDecreasing> 
     line: L,
     ports: Vec<L::Port>,
     threads: u64,
+    name: &str,
     rounds: u64,
 ) -> anyhow::Result<()>
 where
@@ -324,7 +351,7 @@ where
 {
     let start = Instant::now(rt)?;
     let last = run_task(rt, alloc, line, ports, &Rounds { rounds })?;
-    show_pace(rt, threads, rounds, start.elapsed(rt)?, &last)
+    show_row(rt, threads, name, rounds, start.elapsed(rt)?, &last)
 }
 
 /// Runs and prints the time of `rounds` rounds of a fair lock.
@@ -332,12 +359,13 @@ fn measure_fair<R: Threads + Wait + Clock + Print + Sync>(
     rt: &R,
     alloc: Global,
     threads: u64,
+    name: &str,
     rounds: u64,
     barging_limit: Option<u16>,
 ) -> anyhow::Result<()> {
     let start = Instant::now(rt)?;
     let last = run_fair(rt, alloc, threads as usize, rounds, barging_limit)?;
-    show_pace(rt, threads, rounds, start.elapsed(rt)?, &last)
+    show_row(rt, threads, name, rounds, start.elapsed(rt)?, &last)
 }
 
 /// Runs and prints the time of `rounds` rounds of the toolchain's mutex.
@@ -345,30 +373,37 @@ fn measure_mutex<R: Threads + Wait + Clock + Print + Sync>(
     rt: &R,
     alloc: Global,
     threads: u64,
+    name: &str,
     rounds: u64,
 ) -> anyhow::Result<()> {
     let start = Instant::now(rt)?;
     let last = run_mutex(rt, alloc, threads as usize, rounds)?;
-    show_pace(rt, threads, rounds, start.elapsed(rt)?, &last)
+    show_row(rt, threads, name, rounds, start.elapsed(rt)?, &last)
 }
 
-/// Prints the first lane, and the time of `rounds` rounds by each thread.
-fn show_pace<R: Print>(
+/// Prints a row of the columns of `c/bench/peers`: A for a round that adds 1 to a lane, one phase, the time, and the rounds.
+///
+/// The other columns are not measured here. An addition that was lost is an error.
+fn show_row<R: Print>(
     rt: &R,
     threads: u64,
+    name: &str,
     rounds: u64,
     time: Duration,
     last: &Line64,
 ) -> anyhow::Result<()> {
     let pace = Pace::of(threads, rounds, time);
     println!(rt;
-        "threads {threads} rounds {} lane sum {} ns a round {}.{} rounds a second {}",
-        pace.rounds,
-        lane(last, 0),
+        "A\t{threads}\t{name}\t1\t{}.{}\t-\t-\t-\t-\t-\t-\t-\t{}",
         pace.tenths / 10,
         pace.tenths % 10,
-        pace.each_second
+        pace.rounds
     )?;
+    let missing = pace.rounds.abs_diff(u128::from(lane(last, 0)));
+    let lost = u64::try_from(missing).unwrap_or(u64::MAX);
+    if lost > 0 {
+        return Err(RunError::Lost(lost).into());
+    }
     Ok(())
 }
 

@@ -1,16 +1,15 @@
-//! The speed of rounds.
-ghost use Rattle.std.specs.Prelude.{◌≡◌, ◌*◌, ◌-◌, ◌/◌, ◌^◌, max, min};
+//! The time of a round.
+ghost use Rattle.std.specs.Prelude.{◌≡◌, ◌*◌, ◌/◌, max};
 ghost use Rattle.std.specs.Duration.{as_nanos};
 
 use std::time::Duration;
 
-/// The number of rounds, and their speed. Figures are rounded down.
+/// The number of rounds, and the time of each. The time is rounded down.
 #[derive(Clone, Copy)]
 pub struct Pace {
     pub rounds: u128,
     /// Tenths of a nanosecond a round.
     pub tenths: u128,
-    pub each_second: u128,
 }
 
 impl Pace {
@@ -18,15 +17,12 @@ impl Pace {
     pub fn of(threads: u64, rounds: u64, time: Duration) -> Pace
         ensures rounds { result.rounds ≡ threads * rounds }
         ensures tenths { result.tenths ≡ as_nanos time * 10 / max result.rounds 1 }
-        ensures each_second { result.each_second ≡ min (result.rounds * 1_000_000_000)
-            (2 ^ 128 - 1) / max (as_nanos time) 1 }
     {
         let all = u128::from(threads) * u128::from(rounds);
         let nanos = time.as_nanos();
         Pace {
             rounds: all,
             tenths: nanos * 10 / all.max(1),
-            each_second: all.saturating_mul(1_000_000_000) / nanos.max(1),
         }
     }
 }
