@@ -11,6 +11,7 @@ use Rattle.qolb_script.specs.declared.command.Command.TheVariants.{Write}
 use Rattle.qolb_draw.specs.Svg.{hex_of, written_words}
 use Rattle.qolb_words.specs.Words.{field}
 use Rattle.qolb_draw.specs.Shapes.{place_if, places_in}
+use Rattle.qolb_words.proofs.Pieces.{begins, piece, ◌▸◌}
 use Rattle.qolb_draw.proofs.Pushing.{piece_pushed}
 
 -- one place of a mask more, or not
