@@ -1,5 +1,6 @@
 //! Replays of schedules: what is said of each command, and then of each line.
 ghost use Rattle.std.specs.Prelude.{◌≡◌, ℕ, List, length, Ok, Err, IfOk, IfErr};
+ghost use Rattle.qolb_script.specs.Script.{IsBegun};
 ghost use Rattle.qolb_script.specs.Reply.{config_of, replay_start, reply_of, reply_to};
 ghost use Rattle.qolb_model.specs.Opening.{MayOpen};
 ghost use Rattle.qolb_model.specs.Plain.{PlainView, Agrees};
@@ -122,6 +123,7 @@ pub fn answered_plainly<A: Allocator + Copy>(
 ) -> Result<Vec<u8, A>, ReplayError>
     ensures ok { IfOk result (λ text. reply_to input.now ≡ Ok text.items) }
     ensures refused { IfErr result (HasNoReply input.now) }
+    ensures memory { result ≡ Err ReplayError.Memory → IsBegun input.now }
 {
     let schedule = read_schedule(alloc, input)?;
     let lines = open_lines(alloc, &config_for(&schedule), schedule.lines())?;
@@ -139,6 +141,7 @@ where
     L::Port: Drop,
     ensures ok { IfOk result (λ text. reply_to input.now ≡ Ok text.items) }
     ensures refused { IfErr result (HasNoReply input.now) }
+    ensures memory { result ≡ Err ReplayError.Memory → IsBegun input.now }
 {
     let schedule = read_schedule(alloc, input)?;
     let lines = open_ported::<A, L>(alloc, shared, &config_for(&schedule), schedule.lines())?;

@@ -1,7 +1,7 @@
 //! Runs of step scripts on the list's core: what each event tells, and then the line's counts.
 ghost use Rattle.std.specs.Prelude.{◌≡◌, ◌≤◌, ℕ, List, Option, length, Ok, Err, OnOk, OnErr, IfOk, IfErr, ◌++◌};
 ghost use Rattle.qolb_script.specs.StepReply.{step_said};
-ghost use Rattle.qolb_script.specs.StepScript.{StepScript, steps_of};
+ghost use Rattle.qolb_script.specs.StepScript.{AreBegun, StepScript, steps_of};
 ghost use Rattle.link_core.specs.Progress.{rank};
 ghost use Rattle.qolb_replay.specs.Outcome.{StepsMayFail, HasNoStepReply, Runs};
 ghost use Rattle.qolb_replay.specs.declared.input.TheConstants.{MAX_BYTES};
@@ -73,6 +73,7 @@ pub fn answer_steps<A: Allocator + Copy>(
     ensures any_length { IfOk result (λ text. (script : StepScript)
         × (steps_of input.now ≡ Ok script) × IsStepReply detail script text.items) }
     ensures refused { IfErr result (HasNoStepReply input.now) }
+    ensures memory { result ≡ Err ReplayError.Memory → AreBegun input.now }
 {
     let steps = read_steps(alloc, input)?;
     Ok(reply(alloc, &steps, detail)?)

@@ -1,6 +1,7 @@
 //! Replays of schedules by lines of each kind.
 ghost use Rattle.std.specs.Prelude.{◌≡◌, Ok, Err, IfOk, IfErr};
 ghost use Rattle.qolb_script.specs.Reply.{reply_to};
+ghost use Rattle.qolb_script.specs.Script.{IsBegun};
 ghost use Rattle.qolb_replay.specs.Outcome.{IsReply, ReplayMayFail, HasNoReply, Runs};
 
 use crate::each_lock::Kind;
@@ -56,6 +57,7 @@ pub fn answer_schedule(
 ) -> Result<Vec<u8>, ReplayError>
     ensures ok { IfOk result (λ text. reply_to script.now ≡ Ok text.items) }
     ensures refused { IfErr result (HasNoReply script.now) }
+    ensures memory { result ≡ Err ReplayError.Memory → IsBegun script.now }
 {
     match lock {
         None => answered_plainly(alloc, script),
@@ -67,6 +69,7 @@ pub fn answer_schedule(
 fn answered_with<Q: Discipline<Free>>(alloc: Global, input: &[u8]) -> Result<Vec<u8>, ReplayError>
     ensures ok { IfOk result (λ text. reply_to input.now ≡ Ok text.items) }
     ensures refused { IfErr result (HasNoReply input.now) }
+    ensures memory { result ≡ Err ReplayError.Memory → IsBegun input.now }
 {
     answered_over::<Global, Line<Free, Q>>(alloc, alloc, input)
 }

@@ -397,11 +397,7 @@ fn draw<'a>(alloc: Global) -> Result<Command<'a>, AllocError>
         )
         .after_help(DRAW)
         .arg(flag(alloc, "svg", "Draws an SVG instead of plain text"))?
-        .arg(flag(
-            alloc,
-            "steps",
-            "Draws a step script instead of a schedule",
-        ))?
+        .arg(flag(alloc, "steps", "Draws a step script instead of a schedule"))?
         .arg(explain(alloc, LINE_EXPLAINED))
 }
 

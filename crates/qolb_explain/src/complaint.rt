@@ -1,7 +1,10 @@
 //! Complaints as text: the refused line, and what may stand there.
+ghost use Rattle.std.specs.Prelude.{◌≡◌, ℕ, MatchOption};
+ghost use Rattle.qolb_script.specs.Text.{numbered_lines, worded};
+ghost use Rattle.qolb_explain.specs.Complaints.{IsAbout, line_at};
+
 use crate::near::near;
-use crate::reason::{Allowed, Complaint, Form, Reason, ScriptKind};
-use qolb_script::readers::Words;
+use qolb_script::{Allowed, Form, NumberedLines, Reason, Refusal, ScriptKind, Words};
 use std::fmt;
 
 /// The largest number of bytes of a line that are shown.
@@ -9,6 +12,39 @@ const MAX_SHOWN: usize = 200;
 
 /// The largest number of digits of a number.
 const MAX_DIGITS: usize = 20;
+
+/// A line that is refused, and the reason for it.
+#[derive(Clone, Copy, Debug)]
+pub struct Complaint<'a> {
+    pub line: &'a [u8],
+    pub reason: Reason,
+}
+
+/// Returns the complaint about a script that its reader refused, or `None` if memory was refused.
+pub fn complaint_about<'a>(script: &'a [u8], why: Refusal) -> Option<Complaint<'a>>
+    ensures { MatchOption result
+        (why ≡ Refusal.Memory) (λ it. IsAbout script.now it.line.now it.reason why) }
+{
+    match why {
+        Refusal::Memory => None,
+        Refusal::Line(number, reason) => Some(Complaint {
+            line: numbered(script, number),
+            reason,
+        }),
+    }
+}
+
+/// Returns the line of this number, if it has a word; else none of its bytes.
+fn numbered<'a>(script: &'a [u8], wanted: u64) -> &'a [u8]
+    ensures { result.now ≡ line_at wanted (worded (numbered_lines script.now)) }
+{
+    for (number, line) in NumberedLines::new(script) {
+        if number == wanted {
+            return line;
+        }
+    }
+    &[]
+}
 
 impl<'a> fmt::Display for Complaint<'a> {
     fn fmt<W: fmt::Write>(&self, f: &mut fmt::Formatter<W>) -> fmt::Result {
@@ -28,6 +64,7 @@ impl<'a> fmt::Display for Complaint<'a> {
             Reason::Byte => write_byte(f, self.line),
             Reason::Word { place, allowed } => write_word(f, self.line, place, allowed),
             Reason::Count(form) => write_form(f, self.line, form),
+            Reason::NoWorker(workers) => write_range(f, self.line, 1, 1, workers),
             Reason::Number { place, low, high } => write_range(f, self.line, place, low, high),
             Reason::Hex(place) => write!(f, "word {place} is not hex, of two digits a byte"),
             Reason::Fit(place) => {

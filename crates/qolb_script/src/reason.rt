@@ -1,8 +1,8 @@
-//! Faults of lines of scripts.
+//! Why bytes are no script: the line that is refused, the word of it that is wrong, and what may stand there.
 ghost use Rattle.std.specs.Prelude.{◌≡◌};
-ghost use Rattle.qolb_explain.specs.Reasons.{unless_begin, unless_number, unless_word};
+ghost use Rattle.qolb_script.specs.Refusals.{error_of, unless_same};
 
-use qolb_script::readers::number_within;
+use crate::error::ScriptError;
 
 /// The kind of a script, by its header.
 #[derive(Clone, Copy, Debug, PartialEq, Eq)]
@@ -54,7 +54,7 @@ pub enum Form {
     Move,
 }
 
-/// The fault of a line. Places of words count from 1.
+/// The reason why a line is refused. Places of words count from 1.
 #[derive(Clone, Copy, Debug, PartialEq, Eq)]
 pub enum Reason {
     /// No line has a word, and the script is to be of this kind.
@@ -73,6 +73,8 @@ pub enum Reason {
         place: u64,
         allowed: Allowed,
     },
+    /// The second word names no job, and the first word is none of this number of workers, as in a job without its worker.
+    NoWorker(u64),
     /// A line of this form has another number of words.
     Count(Form),
     /// The word at this place is no number, or is out of its range.
@@ -89,45 +91,36 @@ pub enum Reason {
     TooMany,
 }
 
-impl Reason {
-    /// Returns the fault of a word that is no number of this range, else `self`.
-    pub fn unless_number(self, place: u64, low: u64, high: u64, word: &[u8]) -> Reason
-        ensures { result ≡ unless_number place low high word.now self }
-    {
-        if number_within(low, high, word).is_err() {
-            Reason::Number { place, low, high }
-        } else {
-            self
-        }
-    }
-
-    /// Returns the fault of a word that is not `name`, which is all that is allowed there; else `self`.
-    pub fn unless_word(self, place: u64, allowed: Allowed, name: &[u8], word: &[u8]) -> Reason
-        ensures { result ≡ unless_word place allowed name.now word.now self }
-    {
-        if word == name {
-            self
-        } else {
-            Reason::Word { place, allowed }
-        }
-    }
-
-    /// Returns the fault of a script's first word that is not `name`, by which a script of this kind begins; else `self`.
-    pub fn unless_begin(self, kind: ScriptKind, name: &[u8], word: &[u8]) -> Reason
-        ensures { result ≡ unless_begin kind name.now word.now self }
-    {
-        if word == name {
-            self
-        } else {
-            Reason::Begin(kind)
-        }
+/// Checks that the word at a place of a header is `name`, which is all that is allowed there.
+pub fn same_word(place: u64, allowed: Allowed, name: &[u8], word: &[u8]) -> Result<(), Reason>
+    ensures { result ≡ unless_same place allowed name.now word.now }
+{
+    if word == name {
+        Ok(())
+    } else {
+        Err(Reason::Word { place, allowed })
     }
 }
 
-/// The first line that is refused, and its fault.
-#[derive(Clone, Copy, Debug)]
-pub struct Complaint<'a> {
-    pub number: u64,
-    pub line: &'a [u8],
-    pub reason: Reason,
+/// Why bytes are no script.
+#[derive(Clone, Copy, Debug, PartialEq, Eq)]
+pub enum Refusal {
+    /// A growth of memory was refused.
+    Memory,
+    /// The line of this number is refused, for this reason. Lines count from 1.
+    Line(u64, Reason),
+}
+
+impl Refusal {
+    /// Returns the error of a script that is refused so.
+    pub fn error(self) -> ScriptError
+        ensures { result ≡ error_of self }
+    {
+        match self {
+            Refusal::Memory => ScriptError::Memory,
+            Refusal::Line(line, Reason::Number { .. }) => ScriptError::Number(line),
+            Refusal::Line(line, Reason::TooMany) => ScriptError::TooMany(line),
+            Refusal::Line(line, _) => ScriptError::BadLine(line),
+        }
+    }
 }
