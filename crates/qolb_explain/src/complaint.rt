@@ -21,7 +21,7 @@ pub struct Complaint<'a> {
 }
 
 /// Returns the complaint about a script that its reader refused, or `None` if memory was refused.
-pub fn complaint<'a>(script: &'a [u8], why: Refusal) -> Option<Complaint<'a>>
+pub fn complaint_about<'a>(script: &'a [u8], why: Refusal) -> Option<Complaint<'a>>
     ensures { MatchOption result
         (why ≡ Refusal.Memory) (λ it. IsAbout script.now it.line.now it.reason why) }
 {

@@ -6,6 +6,6 @@ mod near;
 mod notes;
 mod step_notes;
 
-pub use complaint::{Complaint, complaint};
+pub use complaint::{Complaint, complaint_about};
 pub use notes::notes_of_schedule;
 pub use step_notes::notes_of_steps;

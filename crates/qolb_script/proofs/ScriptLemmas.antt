@@ -56,10 +56,10 @@ begun item_of (x ∷ xs) all left rest number line item first before next found 
 pub begun_under : {H A S : Type 0} (item_of : H → List (List ℕ) → Result A Reason) (make : H → List A → S) (header : H) (rest : List (ℕ × List ℕ)) → IsOk (items_of (item_of header) 0 (take 1 rest))
     → IsOk (script_under item_of make (Ok header) (take 1 rest))
 begun_under {A = A} {S = S} item_of make header rest ok = made (make header) (items_of (item_of header) 0 (take 1 rest)) ok
-    where
-      made : (make : List A → S) (r : Result (List A) Refusal) → IsOk r → IsOk (made_of make r)
-      made make (Ok items) ok = refl
-      made make (Err why) ok = cc
+  where
+    made : (make : List A → S) (r : Result (List A) Refusal) → IsOk r → IsOk (made_of make r)
+    made make (Ok items) ok = refl
+    made make (Err why) ok = cc
 
 first_of_all : {A S : Type 0} (make : List A → S) (r : Result A Refusal) (others : Result (List A) Refusal) → IsOk (made_of make (followed_by r others)) → IsOk (made_of make (followed_by r (Ok [])))
 first_of_all make (Ok item) (Ok items) ok = refl

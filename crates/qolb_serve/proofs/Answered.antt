@@ -33,16 +33,12 @@ denied (Answer task) e input h one = fault task e input h one
 denied (Draw form) e input h one = fault (Replay None) e input h one
 denied (DrawSteps form) e input h one = fault (Steps Words) e input h one
 
--- a script that was read is refused, if the status is 1
-pub status_pub denied : (subcommand : Subcommand) (e : TaskError) (input : List ℕ) → MayDeny subcommand input e → status_of e ≡ 1 → IsDenied subcommand input
-status_denied subcommand e input h one = denied subcommand e input h one
-
 -- what holds of a script that was read holds of the reader's bytes, if they are known
 known : (P : List ℕ → Type 0) (script slice : List ℕ) (bytes : Option (List ℕ)) → IfSome bytes (λ rest. script ≡ rest) → slice ≡ script → P slice → IfSome bytes P
 known P script slice None is same h = tt
 known P script slice (Some rest) is same h = subst P (same ∙ is) h
 
-pub known_pub denied : (subcommand : Subcommand) (script slice : List ℕ) (bytes : Option (List ℕ)) → IfSome bytes (λ rest. script ≡ rest) → slice ≡ script → IsDenied subcommand slice → IfSome bytes (IsDenied subcommand)
+pub known_denied : (subcommand : Subcommand) (script slice : List ℕ) (bytes : Option (List ℕ)) → IfSome bytes (λ rest. script ≡ rest) → slice ≡ script → IsDenied subcommand slice → IfSome bytes (IsDenied subcommand)
 known_denied subcommand script slice bytes is same h = known (IsDenied subcommand) script slice bytes is same h
 
 pub known_answer : (KindSpec : Lock → WorkScript → Report → Type 0) (subcommand : Subcommand) (script slice : List ℕ) (bytes : Option (List ℕ)) → IfSome bytes (λ rest. script ≡ rest) → slice ≡ script

@@ -13,7 +13,7 @@ ghost use Rattle.qolb_serve.specs.Status.{status_of};
 use crate::command_line::{Args, Subcommand, parse_args};
 use clap::error::ErrorKind;
 use qolb_draw::{draw_schedule, draw_steps};
-use qolb_explain::{complaint, notes_of_schedule, notes_of_steps};
+use qolb_explain::{complaint_about, notes_of_schedule, notes_of_steps};
 use qolb_replay::MAX_BYTES;
 use qolb_run::{
     AlwaysOpen, KindSpec, Lock, Locks, Progress, Task, TaskError, WaitMode, answer_schedule,
@@ -227,7 +227,7 @@ fn refuse<E: Write>(
     let status = fail(err, error);
     if status == 1 && request.explain {
         if let Some(why) = refusal_of(alloc, request.subcommand, script) {
-            if let Some(complaint) = complaint(script, why) {
+            if let Some(complaint) = complaint_about(script, why) {
                 let _ = writeln!(err, "{complaint}");
             }
         }

@@ -1,7 +1,7 @@
 //! What is said at the edges: of numbers just outside their ranges, words far from all that are known, and bytes on which a terminal acts.
 use crate::tests::reasons::refusal_of;
 use crate::tests::rows::expect;
-use qolb_explain::complaint;
+use qolb_explain::complaint_about;
 use qolb_script::{Refusal, ScriptKind};
 use std::alloc::Global;
 use std::process::Abort;
@@ -100,7 +100,7 @@ static EDGES: [(ScriptKind, &str, (u64, &str)); 13] = [
 /// Returns the number of the refused line of a script that is to be of this kind, and what is said of the line.
 fn complaint_of(alloc: Global, kind: ScriptKind, script: &[u8]) -> Result<(u64, String), Fail> {
     let why = refusal_of(alloc, kind, script).ok_or("a refusal")?;
-    let complaint = complaint(script, why).ok_or("a complaint")?;
+    let complaint = complaint_about(script, why).ok_or("a complaint")?;
     let text = format!(in alloc; "{complaint}")?;
     match why {
         Refusal::Memory => Ok((0, text)),

@@ -1,6 +1,6 @@
 //! The reasons for refusing a script: the line, and the first thing that is wrong with it.
 use crate::tests::rows::expect;
-use qolb_explain::complaint;
+use qolb_explain::complaint_about;
 use qolb_script::{
     Allowed, Form, Reason, Refusal, ScriptKind, WorkKind, parse_schedule, parse_steps, parse_work,
 };
@@ -445,7 +445,7 @@ fn tells_what_is_wrong(rt: HostRuntime) {
 /// The text of a complaint.
 fn shown(alloc: Global, script: &[u8]) -> Result<String, Fail> {
     let why = refusal_of(alloc, ScriptKind::Schedule, script).ok_or("a refusal")?;
-    let complaint = complaint(script, why).ok_or("a complaint")?;
+    let complaint = complaint_about(script, why).ok_or("a complaint")?;
     Ok(format!(in alloc; "{complaint}")?)
 }
 

@@ -58,10 +58,7 @@ static BOARDS: [(&str, Option<(u64, Reason)>); 16] = [
         "board workers 1\n2 give 3\n",
         Some((2, Reason::NoWorker(1))),
     ),
-    (
-        "board workers 7\nput 3\n",
-        Some((2, Reason::NoWorker(7))),
-    ),
+    ("board workers 7\nput 3\n", Some((2, Reason::NoWorker(7)))),
     (
         "board workers 1\n2 take 3\n",
         Some((2, Reason::Count(Form::Take))),
