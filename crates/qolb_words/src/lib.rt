@@ -1,5 +1,6 @@
 //! Words of scripts, for notes and for pictures: of commands, of events, and of points.
 #![tactic(auto)]
+
 ghost use Rattle.std.specs.Prelude.{◌≡◌, ◌++◌, OnOk, decimal, flat_map};
 ghost use Rattle.qolb_words.specs.Words as spec;
 
