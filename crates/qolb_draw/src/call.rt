@@ -5,12 +5,11 @@ ghost use Rattle.qolb_script.specs.Said.{said_words};
 ghost use Rattle.qolb_draw.specs.Svg as spec;
 ghost use Rattle.qolb_draw.specs.Shapes.{places_in};
 
-use qolb_words::push_field;
-use qolb_words::verb;
 use line_lanes::Mask;
 use link_core::Told;
 use qolb_model::{Enq, Out, Poll};
 use qolb_script::{Command, Said, push_said};
+use qolb_words::{push_field, verb};
 use std::alloc::{AllocError, Allocator};
 
 /// The digits of hex numbers.

@@ -5,12 +5,12 @@ ghost use Rattle.qolb_script.specs.declared.schedule.TheConstants.{MAX_COMMANDS}
 ghost use Rattle.qolb_draw.specs.LineRuns.{steps_on};
 ghost use Rattle.qolb_draw.specs.Grids.{IsGrid, column_out_of};
 
+use crate::event::Event;
 use crate::follow::TracedLine;
+use crate::symbol::{Change, Symbol};
 use line_lanes::Line64;
 use qolb_model::{LineConfig, PlainLine};
 use qolb_script::Schedule;
-use crate::event::Event;
-use crate::symbol::{Change, Symbol};
 use std::alloc::{AllocError, Allocator};
 
 /// The marks of a line's nodes after each command on it.

@@ -10,9 +10,9 @@ ghost use Rattle.qolb_draw.specs.StepSvg as spec;
 use crate::step_words::{
     class_at, class_of_place, place_name, push_entry, push_told, row_of_place, sign_at, whose,
 };
+use crate::svg::{Scale, push_lane, push_names, push_sign_begin, push_sign_end, push_span};
 use link_core::{Entry, Event, Place, Point, Told};
 use qolb_words::{Piece, named_by, point_name, push_all, step_verb};
-use crate::svg::{Scale, push_lane, push_names, push_sign_begin, push_sign_end, push_span};
 use std::alloc::{AllocError, Allocator};
 
 /// The text before the shapes: the colours that a timeline does not have, and the legend.
@@ -108,7 +108,16 @@ fn push_at_bar<A: Allocator>(
         Piece::Words(point_name(point)),
         Piece::Maybe(named_by(point)),
     ];
-    push_span(svg, Scale::Steps, node as u8, start, end, class_at(point), node, &says)?;
+    push_span(
+        svg,
+        Scale::Steps,
+        node as u8,
+        start,
+        end,
+        class_at(point),
+        node,
+        &says,
+    )?;
     Ok(())
 }
 
@@ -122,16 +131,19 @@ fn push_at_name<A: Allocator>(
     requires { node ≤ MAX_NODES }
     ensures { OnOk result (svg.new.items ≡ svg.old.items ++ spec.at_name_text node start point) }
 {
-    push_all(svg, &[
-        Piece::Words(b"<text class='at' x='"),
-        Piece::Number(Scale::Steps.x(start) + 8),
-        Piece::Words(b"' y='"),
-        Piece::Number(Scale::Steps.y(node as u8) + 3),
-        Piece::Words(b"'>"),
-        Piece::Words(point_name(point)),
-        Piece::Maybe(named_by(point)),
-        Piece::Words(b"</text>\n"),
-    ])?;
+    push_all(
+        svg,
+        &[
+            Piece::Words(b"<text class='at' x='"),
+            Piece::Number(Scale::Steps.x(start) + 8),
+            Piece::Words(b"' y='"),
+            Piece::Number(Scale::Steps.y(node as u8) + 3),
+            Piece::Words(b"'>"),
+            Piece::Words(point_name(point)),
+            Piece::Maybe(named_by(point)),
+            Piece::Words(b"</text>\n"),
+        ],
+    )?;
     Ok(())
 }
 
@@ -160,18 +172,21 @@ pub fn push_lies<A: Allocator>(
 ) -> Result<(), AllocError>
     ensures { OnOk result (svg.new.items ≡ svg.old.items ++ spec.lies_text column place) }
 {
-    push_all(svg, &[
-        Piece::Words(b"<rect class='"),
-        Piece::Words(class_of_place(place)),
-        Piece::Words(b"' x='"),
-        Piece::Number(Scale::Steps.x(column)),
-        Piece::Words(b"' y='"),
-        Piece::Number(Scale::Steps.y(row_of_place(place)) + 10),
-        Piece::Words(b"' width='72' height='5'><title>"),
-        Piece::Words(place_name(place)),
-        Piece::Maybe(whose(place)),
-        Piece::Words(b"</title></rect>\n"),
-    ])?;
+    push_all(
+        svg,
+        &[
+            Piece::Words(b"<rect class='"),
+            Piece::Words(class_of_place(place)),
+            Piece::Words(b"' x='"),
+            Piece::Number(Scale::Steps.x(column)),
+            Piece::Words(b"' y='"),
+            Piece::Number(Scale::Steps.y(row_of_place(place)) + 10),
+            Piece::Words(b"' width='72' height='5'><title>"),
+            Piece::Words(place_name(place)),
+            Piece::Maybe(whose(place)),
+            Piece::Words(b"</title></rect>\n"),
+        ],
+    )?;
     Ok(())
 }
 
@@ -183,15 +198,18 @@ pub fn push_home<A: Allocator>(
 ) -> Result<(), AllocError>
     ensures { OnOk result (svg.new.items ≡ svg.old.items ++ spec.home_text column word) }
 {
-    push_all(svg, &[
-        Piece::Words(b"<text class='small' x='"),
-        Piece::Number(Scale::Steps.x(column)),
-        Piece::Words(b"' y='57'><title>the home word is "),
-        Piece::Number(word),
-        Piece::Words(b"</title>"),
-        Piece::Number(word),
-        Piece::Words(b"</text>\n"),
-    ])?;
+    push_all(
+        svg,
+        &[
+            Piece::Words(b"<text class='small' x='"),
+            Piece::Number(Scale::Steps.x(column)),
+            Piece::Words(b"' y='57'><title>the home word is "),
+            Piece::Number(word),
+            Piece::Words(b"</title>"),
+            Piece::Number(word),
+            Piece::Words(b"</text>\n"),
+        ],
+    )?;
     Ok(())
 }
 
@@ -205,15 +223,18 @@ pub fn push_word<A: Allocator>(
     requires { node ≤ MAX_NODES }
     ensures { OnOk result (svg.new.items ≡ svg.old.items ++ spec.word_text column node entry.now) }
 {
-    push_all(svg, &[
-        Piece::Words(b"<text class='small' x='"),
-        Piece::Number(Scale::Steps.x(column)),
-        Piece::Words(b"' y='"),
-        Piece::Number(Scale::Steps.y(node as u8) - 11),
-        Piece::Words(b"'><title>the entry of node "),
-        Piece::Number(node),
-        Piece::Words(b" is "),
-    ])?;
+    push_all(
+        svg,
+        &[
+            Piece::Words(b"<text class='small' x='"),
+            Piece::Number(Scale::Steps.x(column)),
+            Piece::Words(b"' y='"),
+            Piece::Number(Scale::Steps.y(node as u8) - 11),
+            Piece::Words(b"'><title>the entry of node "),
+            Piece::Number(node),
+            Piece::Words(b" is "),
+        ],
+    )?;
     push_entry(svg, entry)?;
     svg.extend_from_slice(b"</title>")?;
     push_entry(svg, entry)?;

@@ -6,9 +6,9 @@ ghost use Rattle.link_core.specs.declared.state.State.{State};
 ghost use Rattle.qolb_draw.specs.StepPictures as spec;
 ghost use Rattle.qolb_draw.specs.StepShapes.{Seen};
 
+use crate::heads::{digit_at, push_heads};
 use crate::step_words::{push_heard, push_place};
 use link_core::{Core, Event, Point, Told};
-use crate::heads::{digit_at, push_heads};
 use std::alloc::{AllocError, Allocator};
 
 /// The legend of the letters.

@@ -3,11 +3,11 @@ ghost use Rattle.std.specs.Prelude.{◌≡◌, ◌++◌, OnOk};
 ghost use Rattle.qolb_script.specs.StepReply.{step_said};
 ghost use Rattle.qolb_draw.specs.StepSvg as spec;
 
+use crate::call::{push_answer, push_written};
 use link_core::{Entry, Event, Place, Point, Told};
 use qolb_model::MAX_NODES;
 use qolb_script::{Command, Said};
 use qolb_words::{Piece, push_all, step_verb};
-use crate::call::{push_answer, push_written};
 use std::alloc::{AllocError, Allocator};
 
 /// Returns the class of the bar of a node at this point.
@@ -49,7 +49,10 @@ pub fn whose(place: Place) -> Option<u64>
 pub fn push_place<A: Allocator>(text: &mut Vec<u8, A>, place: Place) -> Result<(), AllocError>
     ensures { OnOk result (text.new.items ≡ text.old.items ++ spec.place_words place) }
 {
-    push_all(text, &[Piece::Words(place_name(place)), Piece::Maybe(whose(place))])?;
+    push_all(
+        text,
+        &[Piece::Words(place_name(place)), Piece::Maybe(whose(place))],
+    )?;
     Ok(())
 }
 
@@ -86,13 +89,16 @@ fn letter_if(flag: bool, letter: &'static [u8]) -> &'static [u8]
 pub fn push_entry<A: Allocator>(text: &mut Vec<u8, A>, entry: &Entry) -> Result<(), AllocError>
     ensures { OnOk result (text.new.items ≡ text.old.items ++ spec.entry_words entry.now) }
 {
-    push_all(text, &[
-        Piece::Words(letter_if(entry.granted, b"g")),
-        Piece::Words(letter_if(entry.rolled, b"r")),
-        Piece::Words(letter_if(entry.done, b"d")),
-        Piece::Words(letter_if(entry.freed, b"f")),
-        Piece::Number(entry.link),
-    ])?;
+    push_all(
+        text,
+        &[
+            Piece::Words(letter_if(entry.granted, b"g")),
+            Piece::Words(letter_if(entry.rolled, b"r")),
+            Piece::Words(letter_if(entry.done, b"d")),
+            Piece::Words(letter_if(entry.freed, b"f")),
+            Piece::Number(entry.link),
+        ],
+    )?;
     Ok(())
 }
 
@@ -124,11 +130,14 @@ fn push_event_words<A: Allocator>(
 ) -> Result<(), AllocError>
     ensures { OnOk result (text.new.items ≡ text.old.items ++ spec.event_words event.now) }
 {
-    push_all(text, &[
-        Piece::Words(step_verb(event)),
-        Piece::Words(b" "),
-        Piece::Number(event.node()),
-    ])?;
+    push_all(
+        text,
+        &[
+            Piece::Words(step_verb(event)),
+            Piece::Words(b" "),
+            Piece::Number(event.node()),
+        ],
+    )?;
     push_placed(alloc, text, event)?;
     Ok(())
 }
@@ -169,7 +178,10 @@ pub fn push_told<A: Allocator>(
     ensures { OnOk result (text.new.items ≡ text.old.items
         ++ spec.told_words column event.now told) }
 {
-    push_all(text, &[Piece::Number(u64::from(column) + 1), Piece::Words(b": ")])?;
+    push_all(
+        text,
+        &[Piece::Number(u64::from(column) + 1), Piece::Words(b": ")],
+    )?;
     push_heard(alloc, text, event, told)?;
     Ok(())
 }

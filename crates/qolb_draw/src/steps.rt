@@ -11,16 +11,16 @@ ghost use Rattle.qolb_draw.specs.StepShapes.{Seen, Watches, seen_shapes};
 ghost use Rattle.qolb_draw.specs.StepSvg.{step_texts};
 ghost use Rattle.qolb_draw.specs.declared.form.Form.TheVariants as form;
 
+use crate::form::Form;
 use crate::step_event::{push_event_shapes, words_of};
 use crate::step_svg::{STEPS_LEGEND, push_lanes, step_height, step_width};
 use crate::step_text::{LETTERS, push_event_line, push_node_heads};
+use crate::svg::svg_of;
 use line_lanes::Line64;
 use link_core::Core;
 use qolb_model::LineConfig;
 use qolb_replay::ReplayError;
 use qolb_script::{Steps, read_steps};
-use crate::form::Form;
-use crate::svg::svg_of;
 use std::alloc::{AllocError, Allocator};
 
 /// Returns the picture of a step script in this form. The states are those of a run of the list's core. For each event the picture shows the

@@ -134,13 +134,16 @@ pub fn push_lane<A: Allocator>(
 ) -> Result<(), AllocError>
     ensures { OnOk result (svg.new.items ≡ svg.old.items ++ spec.lane_text scale row columns) }
 {
-    push_all(svg, &[
-        Piece::Words(b"<path class='lane' d='M96 "),
-        Piece::Number(scale.y(row)),
-        Piece::Words(b"H"),
-        Piece::Number(scale.x(columns)),
-        Piece::Words(b"'/>\n"),
-    ])?;
+    push_all(
+        svg,
+        &[
+            Piece::Words(b"<path class='lane' d='M96 "),
+            Piece::Number(scale.y(row)),
+            Piece::Words(b"H"),
+            Piece::Number(scale.x(columns)),
+            Piece::Words(b"'/>\n"),
+        ],
+    )?;
     Ok(())
 }
 
@@ -159,18 +162,21 @@ pub fn push_span<A: Allocator>(
     ensures { OnOk result (svg.new.items ≡ svg.old.items
         ++ spec.span_text scale row start end class.now node (flat_map piece_text says.now)) }
 {
-    push_all(svg, &[
-        Piece::Words(b"<rect class='"),
-        Piece::Words(class),
-        Piece::Words(b"' x='"),
-        Piece::Number(scale.x(start)),
-        Piece::Words(b"' y='"),
-        Piece::Number(scale.y(row) - 8),
-        Piece::Words(b"' width='"),
-        Piece::Number(scale.width(end - start)),
-        Piece::Words(b"' height='16'><title>node "),
-        Piece::Number(node),
-    ])?;
+    push_all(
+        svg,
+        &[
+            Piece::Words(b"<rect class='"),
+            Piece::Words(class),
+            Piece::Words(b"' x='"),
+            Piece::Number(scale.x(start)),
+            Piece::Words(b"' y='"),
+            Piece::Number(scale.y(row) - 8),
+            Piece::Words(b"' width='"),
+            Piece::Number(scale.width(end - start)),
+            Piece::Words(b"' height='16'><title>node "),
+            Piece::Number(node),
+        ],
+    )?;
     push_all(svg, says)?;
     svg.extend_from_slice(b"</title></rect>\n")?;
     Ok(())
@@ -190,7 +196,16 @@ pub fn push_bar<A: Allocator>(
         ++ spec.bar_text row start end stand node) }
 {
     let says = [Piece::Words(stand.words())];
-    push_span(svg, Scale::Schedule, row, start, end, stand.class(), node, &says)?;
+    push_span(
+        svg,
+        Scale::Schedule,
+        row,
+        start,
+        end,
+        stand.class(),
+        node,
+        &says,
+    )?;
     Ok(())
 }
 
@@ -219,16 +234,19 @@ fn push_name<A: Allocator>(
     ensures { OnOk result (svg.new.items ≡ svg.old.items
         ++ spec.name_text scale row column node) }
 {
-    push_all(svg, &[
-        Piece::Words(b"<text class='name' x='"),
-        Piece::Number(scale.x(column) - 88),
-        Piece::Words(b"' y='"),
-        Piece::Number(scale.name_y(row, column)),
-        Piece::Words(b"'>"),
-        Piece::Words(row_words(node)),
-        Piece::Maybe(row_number(node)),
-        Piece::Words(b"</text>\n"),
-    ])?;
+    push_all(
+        svg,
+        &[
+            Piece::Words(b"<text class='name' x='"),
+            Piece::Number(scale.x(column) - 88),
+            Piece::Words(b"' y='"),
+            Piece::Number(scale.name_y(row, column)),
+            Piece::Words(b"'>"),
+            Piece::Words(row_words(node)),
+            Piece::Maybe(row_number(node)),
+            Piece::Words(b"</text>\n"),
+        ],
+    )?;
     Ok(())
 }
 
@@ -260,13 +278,16 @@ pub fn push_number<A: Allocator>(
     ensures { OnOk result (svg.new.items ≡ svg.old.items
         ++ spec.number_text scale column number) }
 {
-    push_all(svg, &[
-        Piece::Words(b"<text class='small' x='"),
-        Piece::Number(scale.x(column)),
-        Piece::Words(b"' y='36'>"),
-        Piece::Number(number),
-        Piece::Words(b"</text>\n"),
-    ])?;
+    push_all(
+        svg,
+        &[
+            Piece::Words(b"<text class='small' x='"),
+            Piece::Number(scale.x(column)),
+            Piece::Words(b"' y='36'>"),
+            Piece::Number(number),
+            Piece::Words(b"</text>\n"),
+        ],
+    )?;
     Ok(())
 }
 
@@ -284,21 +305,24 @@ pub fn push_arrow<A: Allocator>(
         ++ spec.arrow_text column number giver from taker to) }
 {
     let scale = Scale::Schedule;
-    push_all(svg, &[
-        Piece::Words(b"<path class='arrow' d='M"),
-        Piece::Number(scale.x(column)),
-        Piece::Words(b" "),
-        Piece::Number(scale.y(giver)),
-        Piece::Words(b"V"),
-        Piece::Number(scale.y(taker)),
-        Piece::Words(b"'><title>"),
-        Piece::Number(number),
-        Piece::Words(b": node "),
-        Piece::Number(from),
-        Piece::Words(b" hands over to node "),
-        Piece::Number(to),
-        Piece::Words(b"</title></path>\n"),
-    ])?;
+    push_all(
+        svg,
+        &[
+            Piece::Words(b"<path class='arrow' d='M"),
+            Piece::Number(scale.x(column)),
+            Piece::Words(b" "),
+            Piece::Number(scale.y(giver)),
+            Piece::Words(b"V"),
+            Piece::Number(scale.y(taker)),
+            Piece::Words(b"'><title>"),
+            Piece::Number(number),
+            Piece::Words(b": node "),
+            Piece::Number(from),
+            Piece::Words(b" hands over to node "),
+            Piece::Number(to),
+            Piece::Words(b"</title></path>\n"),
+        ],
+    )?;
     Ok(())
 }
 
@@ -332,15 +356,18 @@ pub fn push_sign_begin<A: Allocator>(
     ensures { OnOk result (svg.new.items ≡ svg.old.items
         ++ spec.sign_begin scale row column sign.now) }
 {
-    push_all(svg, &[
-        Piece::Words(b"<use href='#"),
-        Piece::Words(sign),
-        Piece::Words(b"' x='"),
-        Piece::Number(scale.x(column)),
-        Piece::Words(b"' y='"),
-        Piece::Number(scale.y(row)),
-        Piece::Words(b"'><title>"),
-    ])?;
+    push_all(
+        svg,
+        &[
+            Piece::Words(b"<use href='#"),
+            Piece::Words(sign),
+            Piece::Words(b"' x='"),
+            Piece::Number(scale.x(column)),
+            Piece::Words(b"' y='"),
+            Piece::Number(scale.y(row)),
+            Piece::Words(b"'><title>"),
+        ],
+    )?;
     Ok(())
 }
 
@@ -353,13 +380,16 @@ pub fn push_sign_end<A: Allocator>(
 ) -> Result<(), AllocError>
     ensures { OnOk result (svg.new.items ≡ svg.old.items ++ spec.sign_end scale column verb.now) }
 {
-    push_all(svg, &[
-        Piece::Words(b"</title></use>\n<text class='small' x='"),
-        Piece::Number(scale.x(column)),
-        Piece::Words(b"' y='47'>"),
-        Piece::Words(verb),
-        Piece::Words(b"</text>\n"),
-    ])?;
+    push_all(
+        svg,
+        &[
+            Piece::Words(b"</title></use>\n<text class='small' x='"),
+            Piece::Number(scale.x(column)),
+            Piece::Words(b"' y='47'>"),
+            Piece::Words(verb),
+            Piece::Words(b"</text>\n"),
+        ],
+    )?;
     Ok(())
 }
 

@@ -7,16 +7,16 @@ ghost use Rattle.qolb_draw.specs.Svg.{texts};
 ghost use Rattle.qolb_draw.specs.Grids.{row_shapes_out_of, bars_out_of, shown_out_of, line_svg_out_of};
 ghost use Rattle.qolb_draw.specs.Timelines as spec;
 
+use crate::bar::Stand;
+use crate::call::places;
+use crate::event::Event;
 use crate::grid::Grid;
-use crate::text::shown;
-use qolb_script::{Command, Said};
 use crate::svg::{
     Scale, push_arrow, push_bar, push_bytes, push_call, push_lane, push_line_begin, push_names,
     push_number,
 };
-use crate::bar::Stand;
-use crate::call::places;
-use crate::event::Event;
+use crate::text::shown;
+use qolb_script::{Command, Said};
 use std::alloc::{AllocError, Allocator};
 
 /// Returns the row of a node: the number of shown nodes before it.

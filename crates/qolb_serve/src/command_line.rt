@@ -7,9 +7,9 @@ ghost use Rattle.qolb_serve.specs.CommandLine.{KindNames, NamesFlag, NamesWish, 
 use clap::error::ErrorKind;
 use clap::{Arg, ArgAction, ArgMatches, Command, Error};
 use line_kinds::{LOCKS, Lock, NAMES, lock_names};
+use qolb_draw::Form;
 use qolb_run::{AnyKind, Detail, Task, WaitMode};
 use qolb_script::WorkKind;
-use qolb_draw::Form;
 use std::alloc::{AllocError, Global};
 
 /// The names of the kinds of lines that replay a schedule.
