@@ -30,7 +30,7 @@ loop-command-preserved g c =
           (subst (λ (k : Grid g.row.A.Denot). Stands c.args.schedule.now c.args.number (c.loop-command.command-index + 1) (c.loop-command.done + 1) w.take.new.self.line w.take.new.self.waiting.items k.nodes k.numbers.items k.callers.items k.events.items k.marks.items) (sym w.grid-is)
           (command_drawn c.args.schedule.now c.args.number c.loop-command.command-index c.loop-command.done _ _ _ _ _ _ _ _ _ _ _ _ _ _ _ _ command (Enq 0 0) c.loop-command.invariant lt is
           (sym c.line.ensures ∙ w.if-line-number.true) refl refl refl w.in_ok-change.ensures.change w.in_ok-change.ensures.follows w.take.ensures.nodes
-          w.push.ensures.nodes w.in_ok-push.ensures.numbers w.in_ok-push.ensures.callers w.in_ok-push.ensures.events (w.in_ok-push.ensures.marks ∙ ap (λ (xs : List Symbol). c.loop-command.grid.marks.items ++ drop 1 (column_by w.in_ok-change.change xs)) w.deref.ensures.value)))
+          w.push.ensures.nodes w.in_ok-push.ensures.numbers w.in_ok-push.ensures.callers w.in_ok-push.ensures.events w.in_ok-push.ensures.marks))
       | else-line-number w ↦
           subst (λ (l : TracedLine g.row.A.Denot). Stands c.args.schedule.now c.args.number (c.loop-command.command-index + 1) (c.loop-command.done + 1) l.line l.waiting.items c.if-line-number.grid.nodes c.if-line-number.grid.numbers.items c.if-line-number.grid.callers.items c.if-line-number.grid.events.items c.if-line-number.grid.marks.items) (sym w.line-is)
           (subst (λ (k : Grid g.row.A.Denot). Stands c.args.schedule.now c.args.number (c.loop-command.command-index + 1) (c.loop-command.done + 1) c.loop-command.line.line c.loop-command.line.waiting.items k.nodes k.numbers.items k.callers.items k.events.items k.marks.items) (sym w.grid-is)
