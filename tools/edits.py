@@ -63,8 +63,9 @@ MINUTES = 120
 NAMES_ALONE = re.compile(r"is not in scope|has no field|has no `|was not admitted")
 # The compiler refused the text, before any goal.
 NO_CODE = re.compile(r"^.*\berror\[[\w-]+\].*$", re.M)
-# A function whose callee is not proved, which is not tried to its end.
+# A function whose callee is not proved, which is not tried to its end; and what a check says of one that is not proved for another reason.
 WAITS = re.compile(r"^fn \S+: .*\bwhich is not proved", re.M)
+REFUSED = re.compile(r": error: |^fn \S+: (?!proved$|.*\bwhich is not proved)", re.M)
 # Declarations that rest on other refused ones: these, and those.
 UNCHECKED = re.compile(r"^\./proofs/(\S+)/Answers\.antt:\d+:\d+: error: \d+ declarations? that depends? on (.*?), which \w+ rejected, \w+ not checked: (.*)$", re.M)
 VERDICT = re.compile(r"^logic=", re.M)
@@ -184,7 +185,7 @@ def by_tests(log, test, status):
 def said_of(log):
     """What a check says of each function, by its folder of proofs: what is refused there, the notes above the function's line, and this line."""
     said, notes = collections.defaultdict(list), []
-    for line in log.splitlines():
+    for line in re.sub(r"^so far: ", "", log, flags=re.M).splitlines():
         found = re.match(r"\./(?:proofs|specs)/(\S+?)(?:/(?:Answers|Invariants|Proof))?\.antt:|fn \w+::(\S+): ", line)
         if found:
             said[found[1] or found[2].replace("::", "/")] += [*notes, line]
@@ -268,7 +269,7 @@ class Checks:
         """
         log, why = self.check_with([change for it in mutants.values() for change in it.changes])
         said = said_of(log)
-        strangers = [it for it, lines in said.items() if it not in mutants and re.search(": error: |did not prove", "\n".join(lines))]
+        strangers = [it for it, lines in said.items() if it not in mutants and REFUSED.search("\n".join(lines))]
         if why or strangers or not VERDICT.search(log):
             half, parts = len(mutants) // 2, list(mutants.items())
             return self.tried_at_once(dict(parts[:half])) | self.tried_at_once(dict(parts[half:])) if half else {}
