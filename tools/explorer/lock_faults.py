@@ -246,7 +246,7 @@ INVARIANTS = {
     "conditions: a waiter is not in its lock's list": (1, "", "*me->before == me", (CONDITIONS, "stand_at", "    lock->waits = me;\n", "")),
     "conditions: a waiter that was signalled is in the list": (1, "", "!me.link.next", (CONDITIONS, "signal_some", "        first->link.next = NULL;\n", "")),
     "conditions: a waiter is lost with another that goes": (1, "", "*me.before == &me", (CONDITIONS, "stand_no_more_in", "    if (me->beside) me->beside->before = me->before;\n", "")),
-    "entries: one is taken out that was not in": (2, "", "before", (ENTRIES, "stand", "    put_in(in, list, e);\n", "")),
+    "entries: one is taken out that was not in": (1, "tasks: two tasks, room", "before", (ENTRIES, "stand", "    if (got != QOLB_ASLEEP_) take_out(in, list, find_before(list, (uintptr_t)e->lock, e->number));\n", "    if (got != QOLB_ASLEEP_) take_out(in, list, find_before(list, (uintptr_t)e->lock, e->number + 1));\n")),
     "entries: a ticket at its turn has one": (1, "tasks", "ticket->state == QOLB_TICKET_WAITING_ && !find_before", (TASKS, "stand_for", "    if (ticket->state == QOLB_TICKET_WAITING_) got", "    got")),
     "tasks: a ticket that was given up waits as the queue head": (1, "barging: far: tasks", "ticket->state == QOLB_TICKET_AT_TURN_ && e->task", (TASKS, "qolb_find_task_", "found == GIVEN_UP || !waits_on(e, &out->ticket)", "!waits_on(e, &out->ticket) || found == GIVEN_UP")),
     "tasks: a task does not know its entry": (1, "tasks", "atomic_load(&task->state) == WAITS && task->entry == e", (TASKS, "draw_and_stand", "    me->entry = e;\n", "")),
