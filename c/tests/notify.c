@@ -244,8 +244,8 @@ static void closes_another_line(void *other) {
     for (int k = 0; k < 2; k++) MUST(qolb_close(&it[k]), QOLB_DONE);
 }
 
-/* A line may be closed while a call of it is put off: then no call is made. The sanitizer of addresses sees whether its
- * memory is used afterwards, and whether it is freed. */
+/* A line may be closed while a call of it is put off: then no call is made. The sanitizer of leaks sees whether the
+ * line's memory is freed, and that of addresses, if the library is compiled with it, whether it is used afterwards. */
 static int closes_with_a_call_put_off(uint32_t kind) {
     qolb_node n[2], other[2];
     calls = 0;
