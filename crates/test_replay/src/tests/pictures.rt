@@ -19,6 +19,34 @@ const HAND_OVER: &str = "nodes 2 lines 1\nenq 1 0\nenq 2 0\npoll 2 0\ndeq 1 0\np
 const MISUSED: &str =
     "nodes 2 lines 1\npoll 1 0\nenq 1 0\nenq 1 0\nenq 2 0\ndeq 2 0\ndeq 1 0\nshow 2 0\npoll 2 0\n";
 
+/// Scripts and their pictures, without the legend.
+static PICTURES: [(&str, &str); 3] = [
+    // a withdrawn node is passed, and asks again
+    (
+        "nodes 3 lines 1\nenq 1 0\nenq 2 0\nenq 3 0\nout 2 0\nenq 2 0\ndeq 1 0\nenq 2 0\npoll 3 0\ndeq 3 0\npoll 2 0\n",
+        "line 0\n\n                  1\n         1234567890\nnode   1 HHHHH>....\nnode   2 .wwxx.ww<H\nnode   3 ..www<tH>.\n\n",
+    ),
+    // each waiter is told of a closed line in turn, and a told node passes the withdrawn node behind it
+    (
+        "nodes 4 lines 1\nenq 1 0\nenq 2 0\nenq 3 0\nenq 4 0\nout 3 0\nshut 1 0\nenq 3 0\npoll 2 0\nenq 3 0\npoll 4 0\n",
+        "line 0\n\n                  1\n         1234567890\nnode   1 HHHHH>----\nnode   2 .wwww<tc--\nnode   3 ..wwxxx-w<\nnode   4 ...wwww<tc\n\n",
+    ),
+    // commands on two lines; a command that is misuse changes nothing
+    (
+        "nodes 12 lines 2\nenq 12 1\nenq 3 0\ndeq 3 1\ndeq 12 1\ndeq 3 0\n",
+        "line 0\n\n         25\nnode   3 H.\n\nline 1\n\n         134\nnode   3 .!.\nnode  12 HH.\n\n",
+    ),
+];
+
+#[test]
+fn draws_scripts(rt: HostRuntime) -> Result<(), Fail> {
+    for (script, picture) in &PICTURES {
+        let whole = format!(in rt.alloc(); "{picture}{LETTERS}")?;
+        expect(&rt, script, drawn(rt.alloc(), script, Form::Text)?, whole);
+    }
+    Ok(())
+}
+
 /// A script of 100,000 commands by 200 nodes, on the last of eight lines. The first node holds the line, and each other node waits from its
 /// first command on.
 fn largest_script(alloc: Global) -> Result<String, Fail> {
