@@ -241,7 +241,7 @@ static void closes_another_line(void *other) {
     MUST(qolb_notify_off(&it[1]), QOLB_WITHDRAWN);
     MUST(qolb_poll(&it[1]), QOLB_GRANTED);
     MUST(qolb_deqolb(&it[1]), QOLB_DONE);
-    for (int k = 0; k < 2; k++) MUST(qolb_close(&it[k]), QOLB_DONE);
+    for (int k = 0; k < 2; k++) MUST(qolb_node_free(&it[k]), QOLB_DONE);
 }
 
 /* A line may be closed while a call of it is put off: then no call is made. The sanitizer of leaks sees whether the

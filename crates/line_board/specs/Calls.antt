@@ -11,7 +11,6 @@ use Rattle.qolb_model.specs.Leases.{closes}
 use Rattle.qolb_model.specs.Ends.{is_closed, bytes_after}
 use Rattle.qolb_model.specs.Views.{own, bytes_of}
 use Rattle.qolb_model.specs.Sound.{Continues}
-use Rattle.qolb_model.specs.Counting.{Counters, IsWithinCalls}
 use Rattle.qolb_model.specs.Enqueueing.{IsBusy, Asks, IsJoined}
 use Rattle.qolb_model.specs.AtTurn.{IsClearBefore, IsWithdrawn}
 use Rattle.qolb_model.specs.Releasing.{AfterRelease, IsTold}
@@ -42,15 +41,6 @@ pub record HadTurn (found left puts takes : List ℕ) (new : View) : Type 0 wher
   pub taken : takes_of new.config.opening.bytes new.ends ≡ takes_of new.config.opening.bytes before ++ takes
   pub clear_before : IsClearBefore new (length before)
   pub releases : AfterRelease (length before + 1) (state_after (closes new.config.lease before false)) new
-
--- A turn is over: the port goes on from what it knew, made no request and no poll, and may ask again. It took the word steps of one
--- call at most.
-pub record IsOver (max_steps : ℕ) (old new : View) (before after : Counters) : Type 0 where
-  pub continues : Continues Changes old new
-  pub count : new.count ≡ old.count
-  pub poll_count : after.poll_count ≡ before.poll_count
-  pub steps : IsWithinCalls max_steps 1 before after
-  pub state : may_ask new.state ≡ true
 
 -- the task was appended to those that were there
 pub record HasPut (task : ℕ) (new : View) : Type 0 where

@@ -2,9 +2,11 @@
 ghost use Rattle.std.specs.Prelude.{◌≡◌, ◌≤◌, ◌+◌, ◌∷◌, [], ℕ, List, IsTrue, MatchOption};
 ghost use Rattle.qolb_model.specs.PortStates.{may_ask};
 ghost use Rattle.qolb_model.specs.Counting.{IsWithinCalls};
+ghost use Rattle.qolb_model.specs.Sound.{Continues};
 ghost use Rattle.qolb_model.specs.AtTurn.{IsGranted};
 ghost use Rattle.line_board.specs.Board.{Stand};
-ghost use Rattle.line_board.specs.Calls.{HasTaken, HasFound, Takes, IsOver};
+ghost use Rattle.line_board.specs.Law.{Changes};
+ghost use Rattle.line_board.specs.Calls.{HasTaken, HasFound, Takes};
 
 use crate::answer::Take;
 use crate::board::{decode, encode};
@@ -45,8 +47,12 @@ fn remove<L: LineSync<BoardLaw>>(line: &L, port: &mut L::Port) -> Option<u64>
     requires belongs { L.belongs line.now port.old }
     requires granted { IsGranted (L.view port.old) (L.turn port.old) }
     ensures belongs { L.belongs line.now port.new }
-    ensures over { IsOver (L.max_steps line.now) (L.view port.old) (L.view port.new)
-        (L.counters port.old) (L.counters port.new) }
+    ensures continues { Continues Changes (L.view port.old) (L.view port.new) }
+    ensures count { (L.view port.new).count ≡ (L.view port.old).count }
+    ensures poll_count { (L.counters port.new).poll_count ≡ (L.counters port.old).poll_count }
+    ensures steps { IsWithinCalls (L.max_steps line.now) 1 (L.counters port.old)
+        (L.counters port.new) }
+    ensures state { IsTrue (may_ask (L.view port.new).state) }
     ensures taken { MatchOption result (HasFound 0 (L.view port.new)) (λ task.
         HasTaken task (L.view port.new)) }
 {

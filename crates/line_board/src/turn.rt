@@ -1,14 +1,16 @@
 //! The turn of a port that holds a board: the port changes the board or leaves it, and releases the line.
-ghost use Rattle.std.specs.Prelude.{◌≡◌, ℕ, List, length, false};
+ghost use Rattle.std.specs.Prelude.{◌≡◌, ℕ, List, length, false, IsTrue};
+ghost use Rattle.qolb_model.specs.PortStates.{may_ask};
 ghost use Rattle.qolb_model.specs.Kept.{MayRelease};
 ghost use Rattle.qolb_model.specs.Calls.{Releases};
 ghost use Rattle.qolb_model.specs.Counting.{IsWithinCalls};
+ghost use Rattle.qolb_model.specs.Sound.{Continues};
 ghost use Rattle.qolb_model.specs.AtTurn.{IsGranted};
 ghost use Rattle.qolb_model.specs.Views.{bytes_of};
 ghost use Rattle.line_board.specs.Board.{Stand};
 ghost use Rattle.line_board.specs.Law.{Changes};
 ghost use Rattle.line_board.specs.PutsAndTakes.{put_between, taken_between};
-ghost use Rattle.line_board.specs.Calls.{HadTurn, HasFound, IsOver};
+ghost use Rattle.line_board.specs.Calls.{HadTurn, HasFound};
 
 use crate::law::BoardLaw;
 use line_lanes::{Line64, changed};
@@ -20,8 +22,12 @@ pub(crate) fn replace<L: LineSync<BoardLaw>>(line: &L, port: &mut L::Port, new: 
     requires granted { IsGranted (L.view port.old) (L.turn port.old) }
     requires changes { Changes (bytes_of (L.view port.old)) new.bytes }
     ensures belongs { L.belongs line.now port.new }
-    ensures over { IsOver (L.max_steps line.now) (L.view port.old) (L.view port.new)
-        (L.counters port.old) (L.counters port.new) }
+    ensures continues { Continues Changes (L.view port.old) (L.view port.new) }
+    ensures count { (L.view port.new).count ≡ (L.view port.old).count }
+    ensures poll_count { (L.counters port.new).poll_count ≡ (L.counters port.old).poll_count }
+    ensures steps { IsWithinCalls (L.max_steps line.now) 1 (L.counters port.old)
+        (L.counters port.new) }
+    ensures state { IsTrue (may_ask (L.view port.new).state) }
     ensures turn { (found left : List ℕ) → Stand (bytes_of (L.view port.old)) found
         → Stand new.bytes left → HadTurn found left (put_between found left)
         (taken_between found left) (L.view port.new) }
@@ -37,8 +43,12 @@ pub(crate) fn keep<L: LineSync<BoardLaw>>(line: &L, port: &mut L::Port)
     requires belongs { L.belongs line.now port.old }
     requires granted { IsGranted (L.view port.old) (L.turn port.old) }
     ensures belongs { L.belongs line.now port.new }
-    ensures over { IsOver (L.max_steps line.now) (L.view port.old) (L.view port.new)
-        (L.counters port.old) (L.counters port.new) }
+    ensures continues { Continues Changes (L.view port.old) (L.view port.new) }
+    ensures count { (L.view port.new).count ≡ (L.view port.old).count }
+    ensures poll_count { (L.counters port.new).poll_count ≡ (L.counters port.old).poll_count }
+    ensures steps { IsWithinCalls (L.max_steps line.now) 1 (L.counters port.old)
+        (L.counters port.new) }
+    ensures state { IsTrue (may_ask (L.view port.new).state) }
     ensures found { (tasks : List ℕ) → Stand (bytes_of (L.view port.old)) tasks
         → HasFound (length tasks) (L.view port.new) }
 {

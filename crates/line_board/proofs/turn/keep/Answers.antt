@@ -1,5 +1,4 @@
 use Rattle.std.proofs.Common.{refl}
-use Rattle.qolb_model.proofs.OwnTurns.{quiet_after, may_ask-state_after}
 use Rattle.line_board.specs.Law.{same_board}
 use Rattle.line_board.proofs.Turns.{board_known, has_found}
 use Rattle.line_board.proofs.turn.keep.Goals as goal
@@ -12,12 +11,3 @@ release-requires-clause-allowed g c =
 
 pub returns-clause-found : goal.returns-clause-found
 returns-clause-found g c = λ tasks stood. has_found _ _ _ _ c.requires.granted c.release.ensures.releases tasks refl stood
-
-pub returns-clause-over : goal.returns-clause-over
-returns-clause-over g c = record {
-  continues = c.release.ensures.releases.continues;
-  count = c.release.ensures.releases.ends_turn.count;
-  poll_count = c.release.ensures.poll_count;
-  steps = c.release.ensures.steps;
-  state = quiet_after _ _ (g.L.LineSync.view c.release.new.port) (may_ask-state_after _) c.release.ensures.releases.ends_turn.releases;
-}

@@ -39,11 +39,19 @@ release-requires-clause-belongs g c = c.write.ensures.belongs c.args.line.now c.
 pub release-requires-clause-state : goal.release-requires-clause-state
 release-requires-clause-state g c = ap (λ (v : View). v.state) c.write.ensures.view ∙ c.requires.granted.state
 
-pub returns-clause-over : goal.returns-clause-over
-returns-clause-over g c = record {
-  continues = subst (λ (v : View). Continues Changes v (g.L.LineSync.view c.release.new.port)) c.write.ensures.view c.release.ensures.releases.continues;
-  count = c.release.ensures.releases.ends_turn.count ∙ ap (λ (v : View). v.count) c.write.ensures.view;
-  poll_count = c.release.ensures.poll_count ∙ ap (λ (counters : Counters). counters.poll_count) c.write.ensures.counters;
-  steps = subst (λ (counters : Counters). IsWithinCalls (g.L.LineSync.max_steps c.args.line.now) 1 counters (g.L.LineSync.counters c.release.new.port)) c.write.ensures.counters c.release.ensures.steps;
-  state = quiet_after _ _ (g.L.LineSync.view c.release.new.port) (may_ask-state_after _) c.release.ensures.releases.ends_turn.releases;
-}
+pub returns-clause-continues : goal.returns-clause-continues
+returns-clause-continues g c =
+    subst (λ (v : View). Continues Changes v (g.L.LineSync.view c.release.new.port)) c.write.ensures.view c.release.ensures.releases.continues
+
+pub returns-clause-count : goal.returns-clause-count
+returns-clause-count g c = c.release.ensures.releases.ends_turn.count ∙ ap (λ (v : View). v.count) c.write.ensures.view
+
+pub returns-clause-poll_count : goal.returns-clause-poll_count
+returns-clause-poll_count g c = c.release.ensures.poll_count ∙ ap (λ (counters : Counters). counters.poll_count) c.write.ensures.counters
+
+pub returns-clause-state : goal.returns-clause-state
+returns-clause-state g c = quiet_after _ _ (g.L.LineSync.view c.release.new.port) (may_ask-state_after _) c.release.ensures.releases.ends_turn.releases
+
+pub returns-clause-steps : goal.returns-clause-steps
+returns-clause-steps g c =
+    subst (λ (counters : Counters). IsWithinCalls (g.L.LineSync.max_steps c.args.line.now) 1 counters (g.L.LineSync.counters c.release.new.port)) c.write.ensures.counters c.release.ensures.steps
