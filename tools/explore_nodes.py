@@ -133,7 +133,7 @@ FAULTS |= {
     "callbacks: calls that were put off are not made": ("    make_put_off(&me);\n    in_call = outer;\n    pthread", "    in_call = outer;\n    pthread"),
     "callbacks: a call that was put off does not keep its line": ("    atomic_fetch_add(&of->others, 1);\n", "", "        qolb_let_go_(of);\n", ""),
     "callbacks: a call that was made keeps its line": ("        qolb_let_go_(of);\n", ""),
-    "callbacks: who is told that it is closed makes no call": ("    return told(my, got);\n}\n\nuint32_t qolb_notify_off", "    return got;\n}\n\nuint32_t qolb_notify_off"),
+    "callbacks: who is told that it is closed makes no call": ("    return told(my, got);\n}\n\nenum qolb_result qolb_notify_off", "    return got;\n}\n\nenum qolb_result qolb_notify_off"),
     "callbacks: who releases reads the count before the release": (RELEASES, COUNTED_EARLY),
     "callbacks: who releases calls for its own place": ("qolb_went_to_proved_(&my->proved)", "qolb_waits_at_proved_(&my->proved)"),
     "callbacks: a callback is counted before the look, and listed after it": (LISTED, LISTED.splitlines(True)[0], LISTENS + AFTER_LOOK, "    atomic_fetch_add(&of->waiting, 1);\n    uint32_t got = qolb_poll_proved_(&my->proved);\n    if (got == QOLB_WAITING) qolb_put_in_list_(of, &my->callback);\n    else atomic_fetch_add(&of->waiting, -1u);\n"),
