@@ -34,7 +34,8 @@
 enum {
     TICKETS_IN_ROUND = LAYOUT_CELLS,
     MOST_ROUNDS_NEAR = LAYOUT_WITHDRAWAL_WINDOW, /* rounds to go, from which a request can be withdrawn */
-    MOST_OPEN = 12288, /* requests when a ticket with a timeout is drawn: one release passes them in 2 ms */
+    /* Requests when a ticket with a timeout is drawn: one release passes them in 2 ms. */
+    MOST_OPEN = LAYOUT_MAX_OPEN_WITH_TIMEOUT,
     MOST_OPEN_ROUNDS = MOST_OPEN / TICKETS_IN_ROUND,
     MOST_HELD = 8,            /* locks for which a thread's table has room */
     CLASSES_OF_SLEEPERS = 32, /* of one cell, by their round: so a wake reaches few others */

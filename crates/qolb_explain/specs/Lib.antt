@@ -1,2 +1,3 @@
-pub mod Complaints
+pub mod Reasons
 pub mod Notes
+pub mod Laws

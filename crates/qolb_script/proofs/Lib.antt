@@ -1,4 +1,3 @@
-pub mod Begun
 pub mod CommandLemmas
 pub mod NumberLemmas
 pub mod ScriptLemmas

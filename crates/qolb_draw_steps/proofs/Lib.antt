@@ -1,0 +1,4 @@
+pub mod StepCovering
+pub mod StepTexts
+pub mod StepsWithin
+pub mod Watching

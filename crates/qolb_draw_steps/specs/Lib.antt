@@ -1,0 +1,4 @@
+pub mod StepShapes
+pub mod StepSvg
+pub mod StepPictures
+pub mod StepLaws

@@ -1,0 +1,6 @@
+pub mod Marks
+pub mod Shapes
+pub mod Verbs
+pub mod Svg
+pub mod Points
+pub mod Heads
