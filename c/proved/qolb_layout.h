@@ -3,7 +3,7 @@
 #ifndef QOLB_LAYOUT_H
 #define QOLB_LAYOUT_H
 
-#define LAYOUT_TOLD 37
+#define LAYOUT_TOLD 39
 
 enum {
     /* The most nodes of a line. */
@@ -18,8 +18,8 @@ enum {
     LAYOUT_TICKET_BYTES = 56,
     /* The words of a lock's core: all of them. */
     LAYOUT_CORE_WORDS = 21,
-    /* The outer word. */
-    LAYOUT_OUTER_WORD = 0,
+    /* The lock word. */
+    LAYOUT_LOCK_WORD = 0,
     /* The tail: the next ticket's number. */
     LAYOUT_TAIL_WORD = 16,
     /* The first cell. Ticket t has the cell with number t modulo cells, in round t / cells. */
@@ -32,22 +32,26 @@ enum {
     LAYOUT_SLEEPERS_BIT = 16,
     /* The most sleepers that a cell counts. */
     LAYOUT_MAX_SLEEPERS = 65535,
-    /* In the outer word: the queue head requests it. */
+    /* In the lock word: the queue head requests it. */
     LAYOUT_HANDOFF = 1,
-    /* In the outer word: the queue head sleeps there. */
+    /* In the lock word: the queue head sleeps there. */
     LAYOUT_HEAD_ASLEEP = 2,
-    /* In the outer word: it is held. */
+    /* In the lock word: it is held. */
     LAYOUT_HELD = 4,
-    /* In the outer word: it is free for the queue head alone. */
+    /* In the lock word: it is free for the queue head alone. */
     LAYOUT_RESERVED = 8,
-    /* In the outer word: the lock is shut. */
+    /* In the lock word: the lock is shut. */
     LAYOUT_SHUT = 16,
-    /* In the outer word: the unit of the number of newcomers since the last queue head. */
+    /* In the lock word: the unit of the number of barging threads since the last queue head. */
     LAYOUT_NEWCOMER = 32,
-    /* The greatest bound of bursts. */
-    LAYOUT_MAX_BURST = 65535,
-    /* The most rounds before a request that can be withdrawn. */
-    LAYOUT_MAX_ROUNDS_NEAR = 15,
+    /* The least barging limit of a barging lock. A lock with a smaller one is strict. */
+    LAYOUT_MIN_BARGING_LIMIT = 2,
+    /* The greatest barging limit. */
+    LAYOUT_MAX_BARGING_LIMIT = 65535,
+    /* The window of withdrawal: the most rounds to be granted before a request that can be withdrawn. */
+    LAYOUT_WITHDRAWAL_WINDOW = 15,
+    /* The most requests that are open when a call with a timeout, or a task, draws a ticket. */
+    LAYOUT_MAX_OPEN_WITH_TIMEOUT = 12288,
     /* The most withdrawn requests that one release passes. */
     LAYOUT_MAX_PASSED = 64,
     /* A ticket without a request. */
@@ -58,27 +62,27 @@ enum {
     LAYOUT_STATE_ASLEEP = 2,
     /* A ticket at its turn. */
     LAYOUT_STATE_AT_TURN = 3,
-    /* A ticket at its turn in a strict lock, told that this is open. */
+    /* A ticket at its turn in a strict lock, whose holder was told that the lock is open. */
     LAYOUT_STATE_SERVED = 4,
-    /* The same, told that it is shut. */
+    /* A ticket at its turn in a strict lock, whose holder was told that the lock is shut. */
     LAYOUT_STATE_SERVED_SHUT = 5,
-    /* A ticket whose release goes on. */
+    /* A ticket whose release is unfinished: the release must be called again. */
     LAYOUT_STATE_ENDING = 6,
-    /* The queue head's ticket, in by the outer word of an open lock. */
+    /* The queue head's ticket, which has taken the lock word of an open lock. */
     LAYOUT_STATE_HEAD_INSIDE = 7,
-    /* The same, of a lock that is shut. */
+    /* The queue head's ticket, which has taken the lock word of a lock that is shut. */
     LAYOUT_STATE_HEAD_INSIDE_SHUT = 8,
-    /* A ticket that is in by the outer word alone, of an open lock. */
+    /* A ticket that has the lock word alone, of an open lock. */
     LAYOUT_STATE_INSIDE = 9,
-    /* The same, of a lock that is shut. */
+    /* A ticket that has the lock word alone, of a lock that is shut. */
     LAYOUT_STATE_INSIDE_SHUT = 10,
-    /* The answer: too many rounds are before the request to withdraw it. */
+    /* The answer: the request is beyond the window of withdrawal. */
     LAYOUT_ANSWER_FAR = 16,
     /* The answer: the sleep is announced. */
     LAYOUT_ANSWER_ASLEEP = 17,
     /* The answer: the cell counts the most sleepers. */
     LAYOUT_ANSWER_FULL = 18,
-    /* The answer: the turn is still the ticket's. */
+    /* The answer: the release is unfinished, and the turn is still the ticket's. */
     LAYOUT_ANSWER_UNFINISHED = 19,
     /* The bytes of a slot of a line. */
     LAYOUT_SLOT_BYTES = 128,
