@@ -56,7 +56,7 @@ uint32_t __real_qolb_enqolb_proved_(qolb_node *node);
 uint32_t __real_qolb_wait_proved_(qolb_node *node, uint64_t polls);
 uint32_t __real_qolb_poll_proved_(qolb_node *node);
 uint32_t __real_qolb_withdraw_proved_(qolb_node *node);
-uint64_t __real_qolb_went_to_proved_(qolb_node *node);
+void __real_qolb_look_proved_(qolb_node *node, struct qolb_look *out);
 long __real_syscall(long number, ...);
 
 static void happens(void) {
@@ -141,9 +141,9 @@ uint32_t __wrap_qolb_withdraw_proved_(qolb_node *node) {
     return __real_qolb_withdraw_proved_(node);
 }
 
-uint64_t __wrap_qolb_went_to_proved_(qolb_node *node) {
-    names++;
-    return __real_qolb_went_to_proved_(node);
+void __wrap_qolb_look_proved_(qolb_node *node, struct qolb_look *out) {
+    __real_qolb_look_proved_(node, out);
+    if (out->state != QOLB_STATE_QUEUED) names++;
 }
 
 /* The calling thread forgets what its spins taught it. */
@@ -475,40 +475,51 @@ static void shuts_other(void) {
     if (qolb_shut(other) != QOLB_DONE) wrong++;
 }
 
-/* The line is closed as the node's time is over; or while it is busy. */
-static uint32_t is_told_as_it_gives_up(qolb_node *node) {
+static qolb_node *behind;
+static int calls;
+
+static void counts(void *unused) {
+    (void)unused;
+    calls++;
+}
+
+/* One waits behind, and wants a call; then the line is closed as the node's time is over. */
+static void one_waits_behind(void) {
+    if (qolb_enqolb(behind) != QOLB_QUEUED || qolb_notify(behind, counts, NULL) != QOLB_WAITING) wrong++;
     event.does = shuts_other;
     event.at_withdrawal = 1;
-    return qolb_acquire_within(node, MS);
 }
 
-static uint32_t is_told_after_being_busy(qolb_node *node) {
-    if (qolb_try(node) != QOLB_BUSY) wrong++;
-    event.does = shuts_other;
-    event.at_ask = asks + 3;
-    return qolb_acquire(node);
-}
-
-static void is_not_called(void *unused) {
-    (void)unused;
-    wrong++;
-}
-
-/* A node that is told of the shut line late asks for the next holder, as the node did that shut it: a third has left a
- * wish for a call behind, and so counts as one that waits. */
-static int is_told_late(uint32_t kind, uint32_t (*call)(qolb_node *node)) {
+/* A node that is told of the shut line as it gives up has forwarded the line to the one behind, which is called. */
+static int is_told_as_it_gives_up(uint32_t kind) {
     qolb_bytes zeros = {{0}};
     qolb_node n[3] = {{0}};
     WANT(qolb_open(kind, 1, 3, QOLB_NO_LEASE, &zeros, n, 3), QOLB_DONE);
     WANT(qolb_acquire(&n[0]), QOLB_GRANTED);
-    WANT(qolb_enqolb(&n[2]), QOLB_QUEUED);
-    WANT(qolb_notify(&n[2], is_not_called, NULL), QOLB_WAITING);
-    WANT(qolb_withdraw(&n[2]), QOLB_WITHDRAWN);
     other = &n[0];
-    begins(NULL);
-    WANT(call(&n[1]), QOLB_CLOSED);
-    WANT(names, 2);
+    behind = &n[2];
+    calls = 0;
+    begins(one_waits_behind);
+    event.at_look = 1;
+    WANT(qolb_acquire_within(&n[1], MS), QOLB_CLOSED);
+    WANT(calls, 1);
+    WANT(qolb_poll(&n[2]), QOLB_CLOSED);
     for (int k = 0; k < 3; k++) WANT(qolb_close(&n[k]), QOLB_DONE);
+    return 0;
+}
+
+/* A busy node is told so as it asks again. */
+static int is_told_after_being_busy(uint32_t kind) {
+    qolb_bytes zeros = {{0}};
+    qolb_node n[2] = {{0}};
+    WANT(qolb_open(kind, 1, 2, QOLB_NO_LEASE, &zeros, n, 2), QOLB_DONE);
+    WANT(qolb_acquire(&n[0]), QOLB_GRANTED);
+    WANT(qolb_try(&n[1]), QOLB_BUSY);
+    other = &n[0];
+    begins(shuts_other);
+    event.at_ask = 3;
+    WANT(qolb_acquire(&n[1]), QOLB_CLOSED);
+    for (int k = 0; k < 2; k++) WANT(qolb_close(&n[k]), QOLB_DONE);
     return 0;
 }
 
@@ -543,7 +554,7 @@ static int each_passes_on(uint32_t kind) {
     if (asks_a_closed_one(kind, qolb_enqolb) || asks_a_closed_one(kind, acquires) ||
         asks_a_closed_one(kind, acquires_within))
         return 1;
-    if (is_told_late(kind, is_told_as_it_gives_up) || is_told_late(kind, is_told_after_being_busy)) return 1;
+    if (is_told_as_it_gives_up(kind) || is_told_after_being_busy(kind)) return 1;
     return kind == QOLB_LINK && (passes_on(kind, qolb_link, 1) || asks_a_closed_one(kind, qolb_prepend));
 }
 
