@@ -98,17 +98,19 @@
  * that begins afterwards is served before it while it waits.
  *
  * A lock with bursts stays free when its holder leaves, though threads wait, for whoever enters next, a newcomer:
- * that is one burst, of at most `turns` turns. A thread that finds it taken draws a ticket, and waiters keep their
- * order. Before a request with p requests before it there are at most
+ * that is one burst, of at most `turns` turns. A thread that finds it taken spins for a few microseconds, in which it
+ * may still go in as a newcomer, and then draws a ticket; tickets keep their order. Once a thread has drawn its ticket,
+ * with p requests before it, there are at most
  *
  *     (p + 1) * (turns - 1)
  *
- * turns of newcomers: to enter, to try, or the end of a wait at a condition. Usually fewer: the first waiter
- * watches, and after a sixteenth of `turns` or 1 ms requests the lock: then the next leave ends the burst. More than
- * 65,535 count as 65,535; with 0 or 1 a lock is strict.
+ * turns of newcomers before it: to enter, to try, or the end of a wait at a condition. Usually there are fewer: the
+ * first waiter requests the lock once a newcomer has overtaken it and it has found the lock taken for 2 us, or 1 ms
+ * after it fell asleep. Then the next leave ends the burst. More than 65,535 turns count as 65,535; with 0 or 1 a lock
+ * is strict.
  *
- * Take strict order if each wait counts, bursts of 1,024 turns in place of a mutex: for many short turns, and if too
- * few processors are free.
+ * Take bursts of 1,024 turns for what a mutex does today. Take a strict lock where threads have to be served in the
+ * order in which they asked, or where the longest wait matters more than the time of all threads together.
  *
  * LIMITS
  *
@@ -124,16 +126,30 @@
  *
  * WAITING
  *
- * A waiter polls: each 90 ns if it is next, else more seldom; for at most 50 us, with more than four threads before it
- * for 2 us. Then it sleeps by a futex until its turn. At a condition it sleeps at once, and so does a process that
- * could use one processor only at its first wait. After polls without success a thread polls for less the next time.
- * A thread that is woken before its turn yields once.
+ * A thread with a ticket polls every 90 ns if it is next, and more seldom the more threads are before it: 150 ns for
+ * each, or three quarters of the time that it has seen a hand-over take, up to 500 ns. How long it polls follows from
+ * the number of those threads, and from how many processors the process may use:
+ *
+ * - If there are fewer threads than processors, it polls for 50 us, or for 1 us for each thread if that is more.
+ * - If there are fewer than twice the processors, it polls for 50 us, and in a strict lock it yields before each poll.
+ * - If there are more, it polls for 2 us.
+ *
+ * Then it sleeps by a futex until its turn. After polls without success a thread polls for less the next time. At a
+ * condition it sleeps at once, and so does a process that could use one processor only at its first wait. A thread
+ * that is woken before its turn yields once.
+ *
+ * A thread that finds a lock with bursts taken looks at it again after 200 ns and then after pauses that double, up to
+ * 4 us: six times in 10 us. It yields before all but the first of these looks. A call whose time is over does not
+ * spin, and qolb_lock_try never does.
+ *
+ * Where other programs want the processors, a yield can take as long as a time slice. When several yields have taken a
+ * millisecond, the process does not yield for a quarter of a second.
  *
  * Leaving wakes the next holder, in a burst the first waiter. If the leaver had slept, it may wake the waiter behind
  * that one. It calls the system only if it may have to wake a sleeper.
  *
  * A strict lock is the next thread's, even before that runs: all behind wait for its turn. So if more threads, of any
- * program, want processors than there are, short turns may take many times as long.
+ * program, want processors than there are, short turns may take many times as long as in a lock with bursts.
  *
  * No wait is a cancellation point. A thread that is cancelled while it waits is granted the lock or is late, and ends
  * at its next cancellation point. A thread that may be cancelled at any instruction (PTHREAD_CANCEL_ASYNCHRONOUS) must
@@ -249,9 +265,9 @@
  *
  * WAITING
  *
- * Two of these calls wait for a turn: qolb_acquire and qolb_acquire_within. They poll each 60 ns, for at most
- * 50 us on a line of five nodes or fewer and 20 us on others, then sleep by a futex until the line is released, and
- * poll anew. What qolb_lock(3) says of waiting holds here, too.
+ * Two of these calls wait for a turn: qolb_acquire and qolb_acquire_within. They poll every 60 ns: for 50 us on a line
+ * of no more nodes than the process may use processors, and for 20 us on others. Then they sleep by a futex until the
+ * line is released, and poll anew. They yield only after a sleep. What qolb_lock(3) says of waiting holds here, too.
  *
  * A call that releases the line (qolb_deqolb, qolb_shut, and any that answers CLOSED) wakes the next holder, and the
  * waiter behind it ahead of its turn.

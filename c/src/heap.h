@@ -12,7 +12,7 @@ struct before {
     _Alignas(16) void *given;
 };
 
-/* Whether a block of this size is one that the nodes of a line read, and do not write: such a one begins anywhere. */
+/* Blocks as small as this are only read after a line is opened, so they may begin anywhere. */
 static inline int is_small(size_t size) { return size < APART; }
 
 /* The bytes that malloc is asked for, for a block of this size. A block that is not small begins at the first multiple

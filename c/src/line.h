@@ -1,19 +1,22 @@
-/* A line of nodes, as C has it: what its nodes share, where they sleep, and who wakes them (qolb_node(3)). One of the
- * library's internal files.
+/* A line of nodes, as C has it: where its nodes sleep, who wakes them, and when its memory is freed (qolb_node(3)). One
+ * of the library's internal files.
  *
- * The line itself is proved: its words, its 64 bytes and its nodes' requests are in the proved part's own blocks, and
- * each call of proved.h is made of one node. Here is what waiting needs beside them.
+ * The line itself is proved: its words, its 64 bytes and the requests of its nodes are in the proved part's own blocks,
+ * and each call of proved.h is made of one node. Here is what waiting needs beside them.
  *
- * A waiter sleeps at a place of its line, by the number of the word on which it waits. It adds itself to the place's
- * sleepers and to the line's waiting, reads the place's word, polls once more, and sleeps while that word is unchanged.
- * A thread that has released the line then loads `waiting`. If that is not 0, the thread asks the proved part where the
- * next holder waits, and where the one behind it does, and wakes the sleepers of these two places. Each step is
- * sequentially consistent, so one of the two sees the other: a Dekker handshake. A node without a thread has its callback
- * in the line's list in place of a sleeper, and the releasing thread makes the call (callbacks.h).
+ * Where a node sleeps: a waiter sleeps at a place of its line, which belongs to the word on which the node waits. The
+ * waiter adds 1 to the place's `sleepers` and to the line's `waiting`, reads the place's `word`, polls once more, and
+ * sleeps while that word is unchanged. A node without a thread puts a callback into the line's list instead
+ * (callbacks.h).
  *
- * The line, its places and its nodes are one block of memory. It is freed with the line's last node, or behind the last
- * call of a callback that was put off. A thread may use the block as long as it is in a call on one of the nodes, also
- * after it has released the line: nobody else may close that node meanwhile.
+ * Who wakes it: the thread that releases the line. After the release the thread loads `waiting`. If that is not 0, the
+ * thread asks the proved part for the word of the next holder and for that of the waiter behind it, wakes the sleepers
+ * of these two places, and makes the next holder's callback. Each step is sequentially consistent, so either the waiter
+ * sees the release or the releasing thread sees the waiter: a Dekker handshake.
+ *
+ * What is freed when: the line, its nodes and its places are one block of memory. The block is freed once all nodes are
+ * closed and no callback of the line is put off. A thread may use the block as long as it is in a call on one of the
+ * nodes, also after it has released the line, because nobody may close that node meanwhile.
  *
  * tools/explore_nodes.py runs these files themselves, as they are and with each step changed, on a model of the
  * processor's memory. */

@@ -9,7 +9,7 @@
 #endif
 
 _Alignas(APART) atomic_uint qolb_pauses_, qolb_processors_;
-BY_THREAD unsigned qolb_learned_[SPINS], qolb_hand_over_;
+BY_THREAD unsigned qolb_learned_[SPINS];
 
 /* ---- Counting ---- */
 
@@ -73,8 +73,8 @@ unsigned qolb_count_pauses_(void) {
 
 /* ---- Yields ---- */
 
-/* How many more yields were dear than not, and until when there are none. All threads write it without care: a lost
- * change is made up by the next ones. It is seldom written while few yields are dear. */
+/* The dear yields that are counted, and until when there are none. All threads write it without care: a change that is
+ * lost is made up by the next ones. It is not written while no yield is dear. */
 static _Alignas(APART) struct {
     atomic_uint dear;
     _Atomic uint64_t rest;
@@ -82,21 +82,22 @@ static _Alignas(APART) struct {
 
 static void rest_until(uint64_t time) { atomic_store_explicit(&yields.rest, time, memory_order_relaxed); }
 
-static void note_yield(unsigned dear, uint64_t since, uint64_t took) {
-    unsigned now_dear = took >= YIELD_DEAR ? dear + 1 : took >= YIELD_SWITCH && dear > 0 ? dear - 1 : dear;
-    if (now_dear > YIELDS_DEAR) now_dear = YIELDS_DEAR;
-    if (now_dear != dear) atomic_store_explicit(&yields.dear, now_dear, memory_order_relaxed);
-    if (now_dear == YIELDS_DEAR && took >= YIELD_DEAR) rest_until(since + took + YIELDS_REST);
+static void count_yield(unsigned was, int is_dear, uint64_t now) {
+    unsigned more = was + YIELD_COUNTS < YIELDS_COUNTED ? was + YIELD_COUNTS : YIELDS_COUNTED;
+    unsigned dear = is_dear ? more : was > 0 ? was - 1 : 0;
+    if (dear != was) atomic_store_explicit(&yields.dear, dear, memory_order_relaxed);
+    if (is_dear && dear == YIELDS_COUNTED) rest_until(now + YIELDS_REST);
 }
 
-/* When a rest is over the first thread that yields finds out for all others whether yields are still dear. */
+/* After a rest the first thread that yields finds out for all others whether yields are still dear. */
 void qolb_yield_(void) {
     unsigned dear = atomic_load_explicit(&yields.dear, memory_order_relaxed);
     uint64_t since = qolb_now_();
-    if (dear == YIELDS_DEAR) {
+    if (dear == YIELDS_COUNTED) {
         if (since < atomic_load_explicit(&yields.rest, memory_order_relaxed)) return;
         rest_until(since + YIELDS_REST);
     }
     sched_yield();
-    note_yield(dear, since, qolb_now_() - since);
+    uint64_t now = qolb_now_();
+    count_yield(dear, now - since >= YIELD_DEAR, now);
 }

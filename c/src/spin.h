@@ -6,9 +6,9 @@
  * on, so a waiter pauses longer the more threads are before it (Mellor-Crummey and Scott, TOCS 1991). How long it spins
  * follows from that number, too:
  *
- *   fewer threads than processors     50 us: all of them may be running
- *   fewer than twice the processors   50 us, with a yield before each poll, since a thread nearer to its turn may want
- *                                     this processor; unless the thread has seen that its turn is farther away
+ *   fewer threads than processors     50 us, or 1 us for each of them: all may be running
+ *   fewer than twice the processors   50 us, with a yield before each poll: a thread nearer to its turn may want this
+ *                                     processor
  *   more                              2 us
  *   it can't tell                     20 us
  *
@@ -37,6 +37,7 @@
 /* How long a waiter in a queue spins before it sleeps, at most. */
 enum {
     SPIN_NEAR = 50000,    /* as long as a sleep and a wake take */
+    SPIN_EACH = 1000,     /* for each thread before it, if that is more: as long as a short turn may take */
     SPIN_FAR = 2000,      /* its turn is farther away; also the least that a thread learns */
     SPIN_UNKNOWN = 20000, /* it does not know how many threads are before it */
     SPIN_WOKEN = 10000    /* the least that a thread learns for a spin after a sleep, because a waiter is woken ahead
@@ -45,13 +46,15 @@ enum {
 
 /* Its pauses between two polls. */
 enum {
-    POLL_PAUSE = 90,   /* of a lock's waiter that is next */
-    NODE_PAUSE = 60,   /* of a node: nobody else polls its word */
-    POLL_FARTHER = 150 /* more for each other thread before it: a hand-over takes at least as long */
+    POLL_PAUSE = 90,     /* of a lock's waiter that is next */
+    NODE_PAUSE = 60,     /* of a node: nobody else polls its word */
+    POLL_FARTHER = 150,  /* more for each other thread before it, until it has seen how long hand-overs take */
+    POLL_FARTHEST = 500, /* the most for each, since critical sections differ */
+    POLL_PART = 75       /* of a hand-over, in hundredths: a waiter that looks late delays all behind it */
 };
 
 /* How fast a thread learns: by a part of what it knows. */
-enum { GROWS_BY = 8, SHRINKS_BY = 2, HAND_OVERS = 8 };
+enum { GROWS_BY = 8, SHRINKS_BY = 2 };
 
 /* A thread that finds a barging lock taken: how long it pauses in all before it queues; its first pause, and the
  * longest one, which is double the time of a short critical section with a thought behind it; and how long it has
@@ -59,13 +62,13 @@ enum { GROWS_BY = 8, SHRINKS_BY = 2, HAND_OVERS = 8 };
 enum { BARGE_SPIN = 10000, BARGE_PAUSE = 200, BARGE_LONGEST = 4000, BARGE_YIELD_FROM = 200 };
 
 /* The queue head of a barging lock (lock/waits.c): its pause between two looks, POLL_PAUSE once it has requested the
- * lock; and how long it has looked at a taken lock when it requests it. */
-enum { WATCH_PAUSE = 300, WATCH_PATIENCE = 2000 };
+ * lock; how long it has looked at a taken lock, and was overtaken, when it requests it; and how long after it first
+ * slept, since a lock that is reserved for a sleeping thread is idle until that is awake. */
+enum { WATCH_PAUSE = 300, WATCH_PATIENCE = 2000, SLEEPER_PATIENCE = 1000000 };
 
-/* Yields (spin.c). One that lasts this long was dear: no thread of this program gives the processor back so late. One
- * that took less than this did not give it to anybody. When so many more were dear than not there are no yields for so
- * long. */
-enum { YIELD_DEAR = 1000000, YIELD_SWITCH = 2000, YIELDS_DEAR = 16, YIELDS_REST = 250000000 };
+/* Yields (spin.c). One that lasts so long is dear: a thread of this program would have given the processor back sooner.
+ * Each dear one counts as many others. Once so many are counted there are none for a quarter of a second. */
+enum { YIELD_DEAR = 1000000, YIELD_COUNTS = 2, YIELDS_COUNTED = 16, YIELDS_REST = 250000000 };
 
 /* The number of threads before a waiter, if it can't be told. */
 #define UNKNOWN_TURNS UINT64_MAX
@@ -103,17 +106,18 @@ __attribute__((visibility("hidden"))) void qolb_yield_(void);
 
 /* What a waiter has spun since it last slept in this wait. {0} when the wait begins, but for `yields`. */
 struct spin {
-    unsigned spun, most;    /* nanoseconds: so far, and when it is to end */
-    int slept;              /* it has slept in this wait, or was told to */
-    int yields;             /* it is to yield while it is far from its turn */
-    uint64_t first, before; /* the number of threads before it when it began, and at the last look */
+    unsigned spun, most; /* nanoseconds: so far, and when it is to end */
+    int slept;           /* it has slept in this wait, or was told to */
+    int yields;          /* it is to yield while it is far from its turn */
+    /* The number of threads before it: when it began, and at the last look. */
+    uint64_t first, before;
 };
 
 enum { FIRST_SPIN, WOKEN_SPIN, HEAD_SPIN, SPINS };
 
-/* By thread: the length of its next spins, without a sleep in the same wait, after one, and as the queue head of a
- * barging lock; 0: as long as may be. And how long a hand-over takes; 0: unknown. */
-extern __attribute__((visibility("hidden"))) BY_THREAD unsigned qolb_learned_[SPINS], qolb_hand_over_;
+/* The length of the thread's next spins, in nanoseconds: without a sleep in the same wait, after one, and as the queue
+ * head of a barging lock. 0 or SPIN_NEAR: as long as may be. */
+extern __attribute__((visibility("hidden"))) BY_THREAD unsigned qolb_learned_[SPINS];
 
 /* Whether it yields before it polls. */
 static inline int is_to_yield(const struct spin *spin) {
@@ -122,8 +126,8 @@ static inline int is_to_yield(const struct spin *spin) {
 
 static inline unsigned longest_spin(const struct spin *spin) {
     if (spin->before == UNKNOWN_TURNS) return SPIN_UNKNOWN;
-    if (spin->before < processors()) return SPIN_NEAR;
-    return is_to_yield(spin) && spin->before * qolb_hand_over_ <= SPIN_NEAR ? SPIN_NEAR : SPIN_FAR;
+    if (spin->before >= processors()) return is_to_yield(spin) ? SPIN_NEAR : SPIN_FAR;
+    return spin->before * SPIN_EACH > SPIN_NEAR ? (unsigned)spin->before * SPIN_EACH : SPIN_NEAR;
 }
 
 /* The length of a spin that begins. */
@@ -132,20 +136,10 @@ static inline unsigned begin_spin(unsigned *learned) {
     return *learned = *learned && grown < SPIN_NEAR ? grown : SPIN_NEAR;
 }
 
-/* By the turns that ended while it spun. A spin in which none did says that one takes about as long: so a thread whose
- * turns are too far comes to try again. */
-static inline void learn_hand_over(const struct spin *spin) {
-    if (!spin->yields || spin->spun == 0) return;
-    uint64_t ended = spin->first - spin->before;
-    unsigned was = qolb_hand_over_, seen = ended ? (unsigned)(spin->spun / ended) : spin->spun;
-    qolb_hand_over_ = was ? was - was / HAND_OVERS + seen / HAND_OVERS : seen;
-}
-
 /* A spin that ends at once, as the turn is far, says nothing of the next one. */
 static inline void end_spin(struct spin *spin, unsigned *learned) {
     unsigned less = spin->spun / SHRINKS_BY, least = spin->slept ? SPIN_WOKEN : SPIN_FAR;
     if (spin->most > SPIN_FAR) *learned = less > least ? less : least;
-    learn_hand_over(spin);
     spin->spun = 0;
     spin->slept = 1;
 }
@@ -159,9 +153,17 @@ static inline int qolb_spins_on_(struct spin *spin, uint64_t before) {
     if (spin->spun == 0) spin->first = before;
     spin->before = before;
     spin->most = longest_spin(spin);
-    if (patience < spin->most) spin->most = patience;
+    if (patience < SPIN_NEAR && patience < spin->most) spin->most = patience;
     if (spin->spun + POLL_PAUSE <= spin->most && may_spin) return 1;
     return end_spin(spin, learned), 0;
+}
+
+/* How long a lock's waiter is to pause before it polls: by all threads before it, and by how fast they were so far. */
+static inline unsigned qolb_poll_pause_(const struct spin *spin) {
+    uint64_t ended = spin->first - spin->before, each = POLL_FARTHER;
+    if (ended) each = spin->spun * (uint64_t)POLL_PART / 100 / ended;
+    if (each > POLL_FARTHEST) each = POLL_FARTHEST;
+    return (unsigned)(POLL_PAUSE + (spin->before - 1) * each);
 }
 
 /* Pauses before a poll. A waiter that was woken yields first: it may have taken the processor from the holder. */
@@ -170,12 +172,6 @@ static inline void qolb_spin_for_(struct spin *spin, unsigned pause) {
     if ((spin->slept && spin->spun == 0) || is_to_yield(spin)) qolb_yield_();
     qolb_pause_(pause < left ? pause : left);
     spin->spun += pause < left ? pause : left;
-}
-
-/* The turn of a waiter has come. */
-static inline void qolb_spin_pays_(struct spin *spin) {
-    spin->before = 0;
-    learn_hand_over(spin);
 }
 
 /* Both, of a node: pauses, and returns 1; or 0, at once. */

@@ -42,11 +42,11 @@ static uint64_t now = 5000000000, clocks, sleeps, longest, polls, yields, wakes,
 static const void *slept_at[KEPT], *woken_at[KEPT];
 static uint64_t yield_lasts;
 
-/* An action during this number of sleeps or yields, before this number of polls, or before a request is withdrawn. It
- * happens once. */
+/* An action during this number of sleeps or yields, before this number of polls or looks at the clock, or before a
+ * request is withdrawn. It happens once. */
 static struct {
     void (*does)(void);
-    uint64_t at_sleep, at_yield, at_poll;
+    uint64_t at_sleep, at_yield, at_poll, at_clock;
     int at_withdrawal;
 } event;
 
@@ -58,16 +58,15 @@ static void happens(void) {
 
 static void begins(void (*does)(void)) {
     for (int k = 0; k < SPINS; k++) qolb_learned_[k] = 0;
-    qolb_hand_over_ = 0;
     clocks = sleeps = longest = polls = yields = wakes = 0;
     event.does = does;
-    event.at_sleep = event.at_yield = event.at_poll = 0;
+    event.at_sleep = event.at_yield = event.at_poll = event.at_clock = 0;
     event.at_withdrawal = 0;
 }
 
 int __wrap_clock_gettime(clockid_t clock, struct timespec *out) {
     if (clock != CLOCK_MONOTONIC) wrong++;
-    clocks++;
+    if (++clocks == event.at_clock) happens();
     out->tv_sec = (time_t)(now / 1000000000);
     out->tv_nsec = (long)(now % 1000000000);
     return 0;
@@ -288,20 +287,9 @@ static int far_from_its_turn(void) {
     return all_leave(MANY_BEFORE);
 }
 
-/* A thread that has seen that hand-overs take so long does not spin for a turn that is too far away. */
-static int learns_how_far_it_is(void) {
-    if (begins_behind(SOME_BEFORE, MS)) return 1;
-    WANT(qolb_hand_over_, 50000); /* nobody passed in its first spin */
-    qolb_hand_over_ = 20000;
-    uint64_t since = polls;
-    WANT(enters(MS), QOLB_LATE);
-    WANT(polls - since, (2000 - 90) / PAUSE(SOME_BEFORE + 1) + 1);
-    return all_leave(SOME_BEFORE);
-}
-
 /* While yields last as long as those to another program's busy thread, there are none for a quarter of a second. */
 static int stops_dear_yields(void) {
-    enum { MOST = 16, REST = 250 };
+    enum { MOST = 8, REST = 250 };
     yield_lasts = 2 * MS;
     if (begins_behind(SOME_BEFORE, 1000 * MS)) return 1;
     WANT(yields, MOST);
@@ -412,24 +400,29 @@ static int almost_without_a_limit(uint64_t burst) {
 /* While the head of a lock with bursts waits newcomers have turns, until the lock is reserved for it. */
 static uint64_t newcomers;
 
+enum { LOOKS = 40 }; /* by then a waiter with a limit, which looks at the clock before each look at the lock, is the head */
+static int while_it_sleeps;
+
 static void newcomer_has_a_turn(void) {
     leaves();
+    now += lasts;
     if (qolb_lock_try(&lock) != QOLB_GRANTED) return;
     newcomers++;
     event.does = newcomer_has_a_turn;
-    event.at_sleep = sleeps + 1;
+    event.at_sleep = while_it_sleeps ? sleeps + 1 : 0;
+    event.at_clock = while_it_sleeps ? 0 : clocks + LOOKS;
 }
 
-/* The head requests the lock once it has found it held for 2 us, and the next leave reserves it. A thread whose spins
- * became shorter lets a newcomer in while it sleeps. */
-static int requests_the_lock(unsigned learned, uint64_t many) {
+/* The head requests the lock once it was overtaken while it looked; if it slept, after a millisecond. The newcomer that
+ * is in then is the last. */
+static int requests_the_lock(int asleep, uint64_t each_lasts, uint64_t last) {
     if (is_held(1024)) return 1;
     begins(newcomer_has_a_turn);
-    event.at_sleep = 1;
-    newcomers = 0;
-    qolb_learned_[HEAD_SPIN] = learned;
-    WANT(enters(NEVER), QOLB_GRANTED);
-    WANT(newcomers, many);
+    while_it_sleeps = asleep, lasts = each_lasts, newcomers = 0;
+    event.at_sleep = asleep, event.at_clock = asleep ? 0 : LOOKS;
+    WANT(enters(20 * MS), QOLB_GRANTED);
+    WANT(newcomers, last);
+    WANT(sleeps, asleep ? last + 1 : 0);
     return is_left_by_other();
 }
 
@@ -525,8 +518,8 @@ int main(void) {
     for (uint64_t burst = 0; burst <= 64; burst += 64)
         if (at_condition_beside_a_call(burst, 15 * MS) || at_condition_beside_a_call(burst, 60 * MS)) return 1;
     if (almost_without_a_limit(0) || almost_without_a_limit(64)) return 1;
-    if (learns_how_far_it_is() || stops_dear_yields()) return 1;
-    if (requests_the_lock(0, 0) || requests_the_lock(1000, 1)) return 1;
+    if (stops_dear_yields()) return 1;
+    if (requests_the_lock(0, 0, 1) || requests_the_lock(1, MS / 4, 4)) return 1;
     if (spins_before_it_queues(leaves, NEVER, QOLB_GRANTED) || spins_before_it_queues(leaves, MS, QOLB_GRANTED)) return 1;
     if (spins_before_it_queues(shuts, NEVER, QOLB_CLOSED) || spins_before_it_queues(time_passes, MS, QOLB_LATE)) return 1;
     if (wakes_in_order(0) || wakes_in_order(1) || guards_are_freed()) return 1;

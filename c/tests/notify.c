@@ -234,6 +234,33 @@ static int has_turns_of_many(uint32_t kind) {
     return 0;
 }
 
+/* Ends the turn of another line, which puts off the call of its next node, and closes both nodes of that line. */
+static void closes_another_line(void *other) {
+    qolb_node *it = other;
+    MUST(qolb_deqolb(&it[0]), QOLB_DONE);
+    MUST(qolb_notify_off(&it[1]), QOLB_WITHDRAWN);
+    MUST(qolb_poll(&it[1]), QOLB_GRANTED);
+    MUST(qolb_deqolb(&it[1]), QOLB_DONE);
+    for (int k = 0; k < 2; k++) MUST(qolb_close(&it[k]), QOLB_DONE);
+}
+
+/* A line may be closed while a call of it is put off: then no call is made. The sanitizer of leaks sees whether the
+ * line's memory is freed, and that of addresses, if the library is compiled with it, whether it is used afterwards. */
+static int closes_with_a_call_put_off(uint32_t kind) {
+    qolb_node n[2], other[2];
+    calls = 0;
+    if (opens(kind, 2, n) || opens(kind, 2, other)) return 1;
+    WANT(qolb_enqolb(&n[0]), QOLB_GRANTED);
+    WANT(qolb_enqolb(&other[0]), QOLB_GRANTED);
+    if (waits(&n[1], closes_another_line, other) || waits(&other[1], count, NULL)) return 1;
+    WANT(qolb_deqolb(&n[0]), QOLB_DONE);
+    WANT(calls, 0);
+    WANT(other[0].own == NULL && other[1].own == NULL, 1);
+    WANT(qolb_poll(&n[1]), QOLB_GRANTED);
+    WANT(qolb_deqolb(&n[1]), QOLB_DONE);
+    return closes(2, n);
+}
+
 /* Many lines make no calls for each other. */
 static int tells_lines_apart(uint32_t kind) {
     for (int k = 0; k < LINES; k++) {
@@ -335,6 +362,7 @@ int main(void) {
     for (uint32_t kind = 0; kind < QOLB_KINDS; kind++) {
         if (refuses(kind) || calls_once(kind) || replaces(kind) || passes_withdrawn(kind) || shuts(kind)) return 1;
         if (nests_no_call(kind) || has_turns_of_many(kind) || tells_lines_apart(kind)) return 1;
+        if (closes_with_a_call_put_off(kind)) return 1;
         for (int done = 0; done < 2; done++)
             if (waits_for_the_call(kind, 0, done) || waits_for_the_call(kind, 1, done)) return 1;
         if (waits_not_for_itself(kind) || calls_in_both_processes(kind)) return 1;

@@ -14,7 +14,7 @@ HOOKED = [
     (LOCK, "", "enum { TRIES = 4 };", "enum { TRIES = 2 };\nextern int model_tries;"),
     (LOCK, "ask_near", "k < TRIES", "k < model_tries"),
     ("spin.h", "", "WATCH_PAUSE = 300", "WATCH_PAUSE = 90"),
-    ("spin.h", "", "WATCH_PATIENCE = 2000 };", "NO_PATIENCE };\nextern unsigned model_patience, model_barges, model_processors;\n#define WATCH_PATIENCE model_patience"),
+    ("spin.h", "", "WATCH_PATIENCE = 2000, SLEEPER_PATIENCE = 1000000 };", "SLEEPER_PATIENCE = 1000000 };\nextern unsigned model_patience, model_barges, model_processors;\n#define WATCH_PATIENCE model_patience"),
     ("spin.h", "", "enum { BARGE_SPIN = 10000, BARGE_PAUSE", "#define BARGE_SPIN model_barges\nenum { BARGE_PAUSE"),
     ("spin.h", "processors", "atomic_load_explicit(&qolb_processors_, memory_order_relaxed)", "model_processors"),
     ("spin.h", "", "SPIN_NEAR = 50000", "SPIN_NEAR = 90"),
@@ -240,7 +240,7 @@ HARMLESS = {
     # The lock is not closed while it is counted, and that is its last access.
     "a guest counts itself out once it is served": ((LOCK, "await", "    be_no_guest(my);\n    if (got == QOLB_WAITING)", "    if (got == QOLB_WAITING)"), (LOCK, "await", "    return got;\n", "    be_no_guest(my);\n    return got;\n")),
     # The lock's bound is the core's count of newcomers. When the head requests the lock is c/tests/lock_rests.c's.
-    "the queue head requests no handoff": ((WAITS, "watch_held", "!requested && watch->held >= WATCH_PATIENCE", "!requested && !my"),),
+    "the queue head requests no handoff": ((WAITS, "watch_held", "!requested && is_long(watch, outer)", "!requested && !my && is_long(watch, outer)"),),
     # What a thread knows of its distance, and how long it spins, only says how it waits.
     "a waiter takes itself for the next": ((WAITS, "turns_before", "return (rounds - 1) * TICKETS_IN_ROUND + k + 1;", "return 1;"),),
     "who spins before it queues does not look whether the lock is shut": ((LOCK, "barges", "outer & OUTER_SHUT || ", ""),),

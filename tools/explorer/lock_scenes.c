@@ -7,7 +7,7 @@
 struct it it;
 
 BY_THREAD struct core_room qolb_core_room_;
-BY_THREAD unsigned qolb_learned_[SPINS], qolb_hand_over_;
+BY_THREAD unsigned qolb_learned_[SPINS];
 unsigned model_near, model_sleepers, model_open, model_patience, model_barges, model_processors;
 int model_tries;
 static int model_memory;
@@ -1063,8 +1063,7 @@ void check_end(const struct scene *scene) {
 
 UNSEEN int is_own(uintptr_t at) {
     return at - (uintptr_t)owns < sizeof owns || at - (uintptr_t)&qolb_core_room_ < sizeof qolb_core_room_ ||
-           at - (uintptr_t)&qolb_learned_ < sizeof qolb_learned_ ||
-           at - (uintptr_t)&qolb_hand_over_ < sizeof qolb_hand_over_ || at - (uintptr_t)&errno < sizeof errno;
+           at - (uintptr_t)&qolb_learned_ < sizeof qolb_learned_ || at - (uintptr_t)&errno < sizeof errno;
 }
 
 void change_thread(struct own_data *from, const struct own_data *to) { (void)from, (void)to; }

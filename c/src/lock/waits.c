@@ -8,7 +8,8 @@
  *
  * The queue head waits at the outer word in the same way: it announces its sleep there, and who leaves is told. It
  * takes the word when that is reserved for it, or when that is free, and no newcomer came since its last look: so
- * newcomers have their burst. It requests the handoff once it has found the word held for 2 us.
+ * newcomers have their burst. It requests the handoff once it was overtaken, and has found the word held for 2 us; or a
+ * millisecond after it first slept.
  *
  * Who slept for its turn wakes the waiter behind the one that it grants as well, while others sleep there: that one's
  * thread gets up during the turn before its own. */
@@ -64,11 +65,10 @@ uint32_t qolb_await_turn_(struct request *my) {
     struct spin spin = {.yields = !has_bursts(my->lock)};
     uint32_t got = QOLB_WAITING;
     while (got == QOLB_WAITING) {
-        uint64_t before = turns_before(my);
         if (is_over(my->until)) {
             got = give_up(my);
-        } else if (qolb_spins_on_(&spin, before)) {
-            qolb_spin_for_(&spin, POLL_PAUSE + (unsigned)(before - 1) * POLL_FARTHER);
+        } else if (qolb_spins_on_(&spin, turns_before(my))) {
+            qolb_spin_for_(&spin, qolb_poll_pause_(&spin));
             got = qolb_core_poll_proved_(core_of(my), ticket_of(my));
         } else {
             make_spare(my);
@@ -76,7 +76,6 @@ uint32_t qolb_await_turn_(struct request *my) {
         }
     }
     if (my->spare) free(my->spare);
-    if (got == QOLB_GRANTED) qolb_spin_pays_(&spin);
     return got;
 }
 
@@ -125,11 +124,17 @@ void qolb_end_turn_(struct lock *lock, struct turn *at, uint32_t got) {
 
 /* How the queue head has watched the outer word. */
 struct watch {
-    uint64_t had;  /* the newcomers since the last head at its last look */
-    uint64_t begun; /* the same when its spin began */
-    unsigned spun;  /* nanoseconds since it began, or slept */
-    unsigned held;  /* nanoseconds for which it has seen the lock held */
+    uint64_t first, had; /* the newcomers since the last head when it began, and at its last look */
+    uint64_t begun;      /* the same when its spin began */
+    uint64_t since;      /* when it first slept, or 0 */
+    unsigned spun;       /* nanoseconds since it began, or slept */
+    unsigned held;       /* nanoseconds for which it has seen the word held */
 };
+
+static int is_long(const struct watch *watch, uint64_t outer) {
+    if (watch->since) return qolb_now_() - watch->since >= SLEEPER_PATIENCE;
+    return watch->held >= WATCH_PATIENCE && outer / NEWCOMER != watch->first;
+}
 
 /* At each look: whether the head may take the word. A shut one it may, to be told. */
 static int may_take(struct watch *watch, uint64_t outer) {
@@ -140,13 +145,14 @@ static int may_take(struct watch *watch, uint64_t outer) {
 }
 
 static void sleep_as_head(struct request *my, struct watch *watch) {
+    if (!watch->since) watch->since = qolb_now_();
     if (qolb_core_announce_head_sleep_proved_(core_of(my), ticket_of(my)) != QOLB_ASLEEP_) return;
     sleep_at(my, outer_half(words_of(my->lock)), (uint32_t)ticket_of(my)->outer, UINT32_MAX, my->until);
 }
 
 static void watch_held(struct request *my, struct watch *watch, uint64_t outer) {
     int requested = outer & HANDOFF_REQUESTED;
-    if (!requested && watch->held >= WATCH_PATIENCE)
+    if (!requested && is_long(watch, outer))
         requested = qolb_core_request_handoff_proved_(core_of(my), ticket_of(my)) == QOLB_DONE;
     if (watch->spun == 0) watch->begun = outer / NEWCOMER;
     int moved = outer / NEWCOMER != watch->begun;
@@ -156,7 +162,7 @@ static void watch_held(struct request *my, struct watch *watch, uint64_t outer) 
 
 uint32_t qolb_await_outer_(struct request *my) {
     uint64_t outer = outer_word(my->lock);
-    struct watch watch = {.had = UINT64_MAX};
+    struct watch watch = {.first = outer / NEWCOMER, .had = UINT64_MAX};
     for (;; outer = outer_word(my->lock)) {
         if (may_take(&watch, outer)) {
             uint32_t got = qolb_core_take_outer_proved_(core_of(my), ticket_of(my));
