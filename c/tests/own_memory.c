@@ -8,6 +8,8 @@
 #include "waiters.h"
 
 enum { TASKS = 80, APART = 512 };
+/* A timeout that ends while the lock is held, and after the thread has drawn a ticket, on a busy machine too. */
+enum { SHORT = 200 * MS };
 
 /* The one for memory, and the other. */
 static struct {
@@ -49,7 +51,7 @@ static void does_nothing(void *unused) { (void)unused; }
 enum { FAR = 64 };
 static int waiting;
 
-/* The limit is so long that it is granted the lock, or so short that it is late; or there is none. */
+/* The timeout is so long that the thread is granted the lock, or so short that it times out; or there is none. */
 static void *enters_within(void *limit) {
     uint64_t nanoseconds = *(uint64_t *)limit;
     int takes = nanoseconds != UINT64_MAX && waiting >= FAR;
@@ -57,7 +59,7 @@ static void *enters_within(void *limit) {
     counts = 1;
     uint32_t got = qolb_lock_enter_within(&it.lock, nanoseconds);
     counts = 0;
-    MUST(got, nanoseconds > MS ? QOLB_GRANTED : QOLB_TIMEDOUT);
+    MUST(got, nanoseconds > SHORT ? QOLB_GRANTED : QOLB_TIMEDOUT);
     MUST(qolb_lock_is_mine(&it.lock), got == QOLB_GRANTED);
     MUST(taken, takes);
     MUST(freed, takes && got == QOLB_GRANTED);
@@ -76,10 +78,10 @@ static int waits_behind(int tasks_before, uint64_t barging, uint64_t nanoseconds
     for (int k = 0; k < waiting; k++) WANT(qolb_task_enter(&tasks[k], &it.lock, does_nothing, NULL), QOLB_WAITING);
     WANT(pthread_create(&id, NULL, enters_within, &nanoseconds), 0);
     until_asleep(&number);
-    if (nanoseconds <= MS) pthread_join(id, NULL);
+    if (nanoseconds <= SHORT) pthread_join(id, NULL);
     for (int k = 0; k < waiting; k++) WANT(qolb_task_cancel(&tasks[k]), QOLB_WITHDRAWN);
     WANT(qolb_lock_leave(&it.lock), QOLB_DONE);
-    if (nanoseconds > MS) pthread_join(id, NULL);
+    if (nanoseconds > SHORT) pthread_join(id, NULL);
     WANT(qolb_lock_destroy(&it.lock), QOLB_DONE);
     return 0;
 }
@@ -121,7 +123,7 @@ int main(void) {
     WANT(pthread_key_create(&key, leaves_in_second_round), 0);
     for (uint64_t barging = 0; barging <= 64; barging += 32) {
         for (int before = TASKS; before; before = before > 8 ? 8 : 0) {
-            if (waits_behind(before, barging, (uint64_t)1000000 * MS) || waits_behind(before, barging, MS)) return 1;
+            if (waits_behind(before, barging, (uint64_t)1000000 * MS) || waits_behind(before, barging, SHORT)) return 1;
             if (waits_behind(before, barging, UINT64_MAX)) return 1;
         }
         if (leaves_in_a_destructor(barging)) return 1;
