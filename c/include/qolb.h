@@ -16,9 +16,9 @@
  *
  * The code around the core is C and qolb.hpp. It waits and wakes, and has the time limits, conditions and tasks. It is
  * not proved but tested. The C code was also model-checked, at the commit that PROVED names, in small scenes: two or
- * three threads, at most two switches of the schedule, and a stand-in for the core. Two claims are argued and not
- * proved: how many turns of barging threads come before one waiter, and that a holder sees what earlier holders wrote.
- * No proof is about the data that a lock protects, and none shows that a waiting thread is ever served.
+ * three threads, at most one switch of the schedule, and a stand-in for the core. Two claims are argued and not proved:
+ * how many critical sections of barging threads come before one waiter, and that a holder sees what earlier holders
+ * wrote. No proof is about the data that a lock protects, and none shows that a waiting thread is ever served.
  *
  * Of a line it is proved that it has at most one holder, that its requests end in their order, and which bytes each
  * holder receives. The C code that waits for a line and notifies its nodes is tested, and was model-checked in small
