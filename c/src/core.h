@@ -3,9 +3,9 @@
  * one more, and a release two more for each withdrawn request that it passes, of which there are at most 64. Only
  * opening allocates.
  *
- * A lock has a queue of tickets, and a *lock word*. A strict lock (a barging limit of at most 1): ask, wait for the
+ * A lock has a queue of tickets, and a *lock word*. A strict lock (a barging limit of at most 1): draw, wait for the
  * ticket's turn, check_open, be served, release. With barging: a barging thread goes in by the lock word and leaves;
- * else it asks for a ticket; at its turn it is the queue head, takes the lock word, releases its turn of the queue (it
+ * else it draws a ticket; at its turn it is the queue head, takes the lock word, releases its turn of the queue (it
  * stays in), is served, and leaves.
  *
  * The answers are those of qolb.h where it has one, and these. MISUSE always means that nothing changed.
@@ -57,12 +57,12 @@ struct qolb_core {
 /* A ticket, all zeros at first. The head of this file says what its caller owes, who may write `lock_word`, and no
  * other field. A FREE ticket may go to another lock, or be set to zeros. */
 struct qolb_ticket {
-    uint64_t number;    /* from ask on: the ticket's number. After a release: the last number whose turn ended, so that
+    uint64_t number;    /* from draw on: the ticket's number. After a release: the last number whose turn ended, so that
                             number + 1 is the ticket that was granted */
     uint64_t rounds;    /* while it waits: the most rounds that were to be granted yet when it last looked (4 tickets
                             a round; 1: at most four are before it); also after FAR */
-    uint64_t lock_word; /* a guess of the lock word, for the next go_in or leave, where no call says more. A wrong guess
-                            costs a call */
+    uint64_t lock_word; /* a guess of the lock word, for the next barge or leave_lock_word, where no call says more. A
+                            wrong guess costs a call */
     uint64_t word;      /* after an ASLEEP of announce_sleep: the cell's word to sleep at */
     uint64_t sleepers;  /* after a release: how many had announced their sleep at the granted ticket's cell */
     uint64_t label;     /* the label of its lock, 0 if none: by this it is known whether a ticket is of the lock */
@@ -81,14 +81,14 @@ uint32_t qolb_core_open_proved_(uint64_t barging, uint64_t label, struct qolb_co
 
 /* Draws the next ticket, and looks: GRANTED (at its turn) or WAITING. MISUSE: the ticket has a request, or is in. */
 uint32_t qolb_core_draw_proved_(const struct qolb_core *, struct qolb_ticket *);
-/* In a strict lock, ask, and check_open (below) if it is granted: GRANTED (SERVED), CLOSED (SERVED_SHUT) or WAITING.
- * MISUSE as ask, and in a barging lock. */
+/* In a strict lock, draw, and check_open (below) if it is granted: GRANTED (SERVED), CLOSED (SERVED_SHUT) or WAITING.
+ * MISUSE as draw, and in a barging lock. */
 uint32_t qolb_core_draw_and_check_proved_(const struct qolb_core *, struct qolb_ticket *);
-/* As ask, if the request could still be withdrawn: GRANTED, or WAITING (rounds at most 15); FAR; BUSY (another drew
- * at that moment): no ticket drawn. MISUSE as ask. */
+/* As draw, if the request could still be withdrawn: GRANTED, or WAITING (rounds at most 15); FAR; BUSY (another drew
+ * at that moment): no ticket drawn. MISUSE as draw. */
 uint32_t qolb_core_draw_near_proved_(const struct qolb_core *, struct qolb_ticket *);
-/* As ask, if it would be at its turn: GRANTED, or BUSY: no ticket drawn. Says nothing of whether the lock is shut.
- * MISUSE as ask. */
+/* As draw, if it would be at its turn: GRANTED, or BUSY: no ticket drawn. Says nothing of whether the lock is shut.
+ * MISUSE as draw. */
 uint32_t qolb_core_try_draw_proved_(const struct qolb_core *, struct qolb_ticket *);
 /* Looks at the ticket's cell: GRANTED or WAITING. MISUSE unless it is WAITING (state). */
 uint32_t qolb_core_poll_proved_(const struct qolb_core *, struct qolb_ticket *);
@@ -130,7 +130,7 @@ uint32_t qolb_core_request_handoff_proved_(const struct qolb_core *, struct qolb
  * as before. MISUSE unless it is AT_TURN in a barging lock. */
 uint32_t qolb_core_announce_head_sleep_proved_(const struct qolb_core *, struct qolb_ticket *);
 
-/* Who is served shuts the lock: DONE (SERVED becomes SERVED_SHUT, and so on). From then on nobody goes in by go_in,
+/* Who is served shuts the lock: DONE (SERVED becomes SERVED_SHUT, and so on). From then on nobody goes in by barge,
  * and who is granted a turn is told CLOSED. MISUSE unless it is SERVED, HEAD_INSIDE or INSIDE. */
 uint32_t qolb_core_shut_proved_(const struct qolb_core *, struct qolb_ticket *);
 /* Who was told CLOSED at a turn opens the lock again, if nobody asked after it: GRANTED (SERVED_SHUT becomes SERVED,
@@ -139,8 +139,8 @@ uint32_t qolb_core_reopen_proved_(const struct qolb_core *, struct qolb_ticket *
 
 /* Where to sleep and wake. The words of an open lock; they never move. Word 0 is the lock word: bit 0 handoff
  * requested, bit 1 the head sleeps, bits 2 and 3 free (0), held (1) or reserved for the head (2), bit 4 shut, from
- * bit 5 on the newcomers since the last head. A thread may read it. When the lock may no longer exist, the address is
- * used only to wake. */
+ * bit 5 on the barging threads since the last head. A thread may read it. When the lock may no longer exist, the
+ * address is used only to wake. */
 static inline uint64_t *qolb_core_words_(const struct qolb_core *core) { return *(uint64_t *const *)core->at; }
 /* The upper 32 bits of the cell of this ticket: sleep while they are (uint32_t)(ticket.word >> 32). */
 static inline uint32_t *qolb_core_cell_(const struct qolb_core *core, uint64_t number) {
