@@ -14,19 +14,19 @@
 
 /* The stand-in, by other names. */
 #define qolb_core_open_proved_ stand_in_open
-#define qolb_core_draw_proved_ stand_in_ask
-#define qolb_core_draw_and_check_proved_ stand_in_ask_open
-#define qolb_core_draw_near_proved_ stand_in_ask_near
-#define qolb_core_try_draw_proved_ stand_in_try_ask
+#define qolb_core_draw_proved_ stand_in_draw
+#define qolb_core_draw_and_check_proved_ stand_in_draw_and_check
+#define qolb_core_draw_near_proved_ stand_in_draw_near
+#define qolb_core_try_draw_proved_ stand_in_try_draw
 #define qolb_core_poll_proved_ stand_in_poll
 #define qolb_core_announce_sleep_proved_ stand_in_announce_sleep
 #define qolb_core_retract_sleep_proved_ stand_in_retract_sleep
 #define qolb_core_withdraw_proved_ stand_in_withdraw
 #define qolb_core_release_proved_ stand_in_release
 #define qolb_core_check_open_proved_ stand_in_check_open
-#define qolb_core_barge_proved_ stand_in_go_in
-#define qolb_core_take_lock_word_proved_ stand_in_take_outer
-#define qolb_core_leave_lock_word_proved_ stand_in_leave
+#define qolb_core_barge_proved_ stand_in_barge
+#define qolb_core_take_lock_word_proved_ stand_in_take_lock_word
+#define qolb_core_leave_lock_word_proved_ stand_in_leave_lock_word
 #define qolb_core_request_handoff_proved_ stand_in_request_handoff
 #define qolb_core_announce_head_sleep_proved_ stand_in_announce_head_sleep
 #define qolb_core_shut_proved_ stand_in_shut
@@ -71,19 +71,19 @@ static const struct {
 } every[] = {
 #define CALL(name, allowed, answers) \
     { #name, qolb_core_##name##_proved_, stand_in_##name, allowed, (answers) | SAYS(MISUSE) }
-    CALL(ask, IN(FREE), SAYS(GRANTED) | SAYS(WAITING)),
-    CALL(ask_open, IN(FREE), SAYS(GRANTED) | SAYS(CLOSED) | SAYS(WAITING)),
-    CALL(ask_near, IN(FREE), SAYS(GRANTED) | SAYS(WAITING) | SAYS(FAR_) | AMID(SAYS(BUSY))),
-    CALL(try_ask, IN(FREE), SAYS(GRANTED) | SAYS(BUSY)),
+    CALL(draw, IN(FREE), SAYS(GRANTED) | SAYS(WAITING)),
+    CALL(draw_and_check, IN(FREE), SAYS(GRANTED) | SAYS(CLOSED) | SAYS(WAITING)),
+    CALL(draw_near, IN(FREE), SAYS(GRANTED) | SAYS(WAITING) | SAYS(FAR_) | AMID(SAYS(BUSY))),
+    CALL(try_draw, IN(FREE), SAYS(GRANTED) | SAYS(BUSY)),
     CALL(poll, IN(WAITING), SAYS(GRANTED) | SAYS(WAITING)),
     CALL(announce_sleep, IN(WAITING), SAYS(GRANTED) | SAYS(ASLEEP_) | SAYS(FULL_) | AMID(SAYS(WAITING))),
     CALL(retract_sleep, IN(ASLEEP), SAYS(GRANTED) | SAYS(WAITING)),
     CALL(withdraw, IN(WAITING), SAYS(WITHDRAWN) | SAYS(GRANTED) | SAYS(FAR_)),
     CALL(release, TURNS | IN(HEAD_INSIDE) | IN(HEAD_INSIDE_SHUT), SAYS(DONE) | AMID(SAYS(UNFINISHED_))),
     CALL(check_open, TURNS, SAYS(GRANTED) | SAYS(CLOSED)),
-    CALL(go_in, IN(FREE), SAYS(GRANTED) | SAYS(BUSY)),
-    CALL(take_outer, IN(AT_TURN), SAYS(GRANTED) | SAYS(CLOSED) | SAYS(WAITING)),
-    CALL(leave, IN(INSIDE) | IN(INSIDE_SHUT), SAYS(DONE) | SAYS(BUSY)),
+    CALL(barge, IN(FREE), SAYS(GRANTED) | SAYS(BUSY)),
+    CALL(take_lock_word, IN(AT_TURN), SAYS(GRANTED) | SAYS(CLOSED) | SAYS(WAITING)),
+    CALL(leave_lock_word, IN(INSIDE) | IN(INSIDE_SHUT), SAYS(DONE) | SAYS(BUSY)),
     CALL(request_handoff, IN(AT_TURN), SAYS(DONE) | AMID(SAYS(BUSY))),
     CALL(announce_head_sleep, IN(AT_TURN), SAYS(ASLEEP_) | SAYS(WAITING)),
     CALL(shut, IN(SERVED) | IN(HEAD_INSIDE) | IN(INSIDE), SAYS(DONE)),
