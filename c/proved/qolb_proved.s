@@ -3,9 +3,9 @@
 # kit: rattle-kit-13f logic dac8208d650f15bf
 # verdict: logic=proved functions=46 axioms=3 target=x86_64-unknown-linux-gnu cpu=x86-64-v2 sum=dac8208d650f15bf native=nat,char,string logic-built=trusted libraries-built=trusted statements=trusted incremental=trusted
 # crates: line_lanes qolb_model line_generic line_cells ring_line ticket_line link_core link_line line_kinds lock_core qolb_nodes qolb_locks qolb_c
-# sources: 36731ae456567ecc021f008b92392a3410313ffc4c2d48244438ecad33fc5f9e
+# sources: 157f29968615eee0b4bfcd0ecdde78d93bcf2d6da99508050f9cf8b9cf062dcb
 # qolb_layout.h: c72a49f0dc06a20495f93c062f31db932fa0a0e730c17353338d6b864e1afe1b
-# this file, without this line: 8901737dba618b9631aa33fe5d32d49714fb1df7c519126679f0f8bf8b675a4c
+# this file, without this line: d7c93ac9871f18a918cbe44fa74de86d975a830565dca1a8cfb9bc5bfa4b5ce2
 
 	.section	".text.std_alloc::boxed::Box::drop::<#93decabdc48cf5d8>","ax",@progbits
 	.p2align	4                               # -- Begin function std_alloc::boxed::Box::drop::<#93decabdc48cf5d8>

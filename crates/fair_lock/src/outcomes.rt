@@ -18,7 +18,8 @@ pub struct Busy<T> {
     pub(crate) found: FoundTaken,
 }
 
-/// The call timed out. This shows in proofs that the timeout was the call's own, and that no request is left behind.
+/// The call timed out. In a proof, this value shows that the call's own timeout was over, and that the call has left no
+/// request behind.
 #[derive(Drop)]
 pub struct TimedOut<T> {
     pub(crate) seat: ValueSeat<T>,
@@ -39,7 +40,8 @@ pub enum TryEnterError<T> {
 pub enum EnterError<T> {
     /// The lock is shut.
     Closed(Closed<T>),
-    /// The call timed out before its turn. A request that was made is withdrawn, or its turn of the queue released.
+    /// The call timed out before it was served. If it had drawn a ticket, it has withdrawn its request or released its
+    /// turn of the queue.
     TimedOut(TimedOut<T>),
 }
 

@@ -1,4 +1,5 @@
-//! The queue head looks at the lock word, takes it, and announces its sleep there.
+//! The queue head, which is the first waiter of a barging lock, looks at the lock word, takes it, and announces its
+//! sleep there.
 ghost use Rattle.std.specs.Prelude.{◌≡◌, ◌≢◌, ◌+◌, ◌/◌, ◌%◌, ◌<◌, ◌≤◌, ◌⊎◌, true, false};
 ghost use Rattle.lock_core.specs.Layout.{HasLockWords, lock_word_at, state_of, handoff_of, asleep_of};
 ghost use Rattle.lock_core.specs.Views.{view_of, InTime, InTimeFrom, LoadGrows, IsSeatOf, IsAtTurn, IsOvertakenInBounds, IsHeadInside, TakesLockWord, SleepsAtLockWord, ServedOpen, ServedShut, KnowsShut, Kept, SameRequest, SameNewcomer, SameKnown, SameSleepAtLockWord, IsLaterEpoch, SleepsInTake, SameDoor, SameInside, OnlyLooks};
@@ -13,24 +14,25 @@ use crate::plays::{AnnounceHeadSleep, ReadLockWord, RequestHandoff, TakeLockWord
 /// What the lock word says to the queue head.
 #[derive(Clone, Copy, Debug, PartialEq, Eq)]
 pub enum LockWordState {
-    /// A caller is inside. This number of newcomers came since the last queue head, and a handoff is requested or not.
+    /// A thread holds the lock. `newcomers` is how many threads have barged since a queue head last took the lock word,
+    /// and `requested` says whether the queue head has requested a handoff.
     Held { newcomers: u64, requested: bool },
-    /// Nobody is inside, and threads may barge: this number did since the last queue head.
+    /// The lock is free, and any thread may take it. `newcomers` is as above.
     Free { newcomers: u64 },
-    /// Nobody is inside, and only the queue head may take the word: it is reserved, or the lock is shut.
+    /// The lock is free for the queue head alone: the lock word is reserved for it, or the lock is shut.
     ForHead,
 }
 
-/// What `take_lock_word` did.
+/// What the queue head found when it tried to take the lock word.
 #[derive(Clone, Copy, Debug, PartialEq, Eq)]
 pub enum TakeResult {
-    /// The queue head is inside, and the lock is open.
+    /// The queue head has taken the word of an open lock: it holds the lock.
     Open,
-    /// The queue head is inside, and the lock is shut.
+    /// The queue head has taken the word of a lock that is shut: it learns that, and must leave the word.
     Shut,
-    /// Another caller is inside: the lock word says so.
+    /// Another thread holds the lock. `lock_word` is the word that the step found.
     Held { lock_word: u64 },
-    /// The lock word changed at that moment, and is this one.
+    /// Another thread changed the lock word at that moment. `lock_word` is the new word.
     Changed { lock_word: u64 },
 }
 
@@ -40,9 +42,9 @@ pub enum HeadSleepResult {
     /// The queue head may sleep while the lower 32 bits of the lock word are those of `lock_word`. The thread that leaves
     /// the word is told of the sleep.
     Asleep { lock_word: u64 },
-    /// Nobody is inside: the queue head may take the lock word.
+    /// The lock is free: the queue head may take the lock word.
     NotHeld,
-    /// The lock word changed at that moment: the queue head must look again.
+    /// Another thread changed the lock word at that moment, so the queue head must look again.
     Changed,
 }
 

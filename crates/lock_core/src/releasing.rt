@@ -113,7 +113,8 @@ pub fn release<T>(
     ReleaseResult::Unfinished
 }
 
-/// Leaves the lock word free for barging threads, if it is `expected`. Returns the word that was found.
+/// Frees the lock word for any thread, by one compare-and-swap that succeeds if the word is `expected`. Returns the word
+/// that the step found.
 #[inline(always)]
 fn leave_free<T>(table: &SharedValue<T>, seat: &mut ValueSeat<T>, expected: u64) -> u64
     requires table { HasLockWords table.now.table_id }
@@ -139,7 +140,8 @@ fn leave_free<T>(table: &SharedValue<T>, seat: &mut ValueSeat<T>, expected: u64)
     table.compare_exchange::<Leave>(seat, LOCK_WORD, expected, free)
 }
 
-/// Leaves the lock word reserved for the queue head, if it is `expected`. Returns the word that was found.
+/// Reserves the lock word for the queue head, by one compare-and-swap that succeeds if the word is `expected`. Returns the
+/// word that the step found.
 #[inline(always)]
 fn leave_reserved<T>(table: &SharedValue<T>, seat: &mut ValueSeat<T>, expected: u64) -> u64
     requires table { HasLockWords table.now.table_id }

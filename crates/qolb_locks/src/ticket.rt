@@ -9,30 +9,30 @@ use crate::answer::Answer;
 use crate::claim::Claim;
 use crate::lock::Lock;
 
-/// What a ticket has. Its number is C's.
+/// How far a caller has come with its ticket. C reads the state as this number.
 #[derive(Clone, Copy, Debug, PartialEq, Eq)]
 pub enum State {
-    /// No request.
+    /// The ticket has no request.
     Free = 0,
-    /// It waits.
+    /// The request waits for its turn.
     Waiting = 1,
-    /// It waits, and its sleep is announced.
+    /// The request waits for its turn, and the caller has announced that it sleeps.
     Asleep = 2,
-    /// At its turn; in a barging lock, the queue head.
+    /// The request is at its turn of the queue. In a barging lock its caller is the queue head.
     AtTurn = 3,
-    /// At its turn in a strict lock; its caller was told that the lock is open.
+    /// The caller holds a strict lock, and was told that the lock is open.
     Served = 4,
-    /// At its turn in a strict lock; its caller was told that the lock is shut.
+    /// The request is at its turn in a strict lock, and the caller was told that the lock is shut.
     ServedShut = 5,
-    /// A turn whose release is unfinished.
+    /// The caller has begun to release its turn of the queue, and must call `release` again.
     Ending = 6,
-    /// The queue head, which has taken the lock word of an open lock.
+    /// The queue head has taken the lock word of an open lock, and still has its turn of the queue.
     HeadInside = 7,
-    /// The queue head, which has taken the lock word of a lock that is shut.
+    /// The queue head has taken the lock word of a lock that is shut, and still has its turn of the queue.
     HeadInsideShut = 8,
-    /// Its caller has the lock word alone, of an open lock.
+    /// The caller has the lock word of an open lock, and no turn of the queue: it barged, or has released its turn.
     Inside = 9,
-    /// Its caller has the lock word alone, of a lock that is shut.
+    /// The same of a lock that is shut.
     InsideShut = 10,
 }
 
