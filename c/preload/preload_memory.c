@@ -89,7 +89,7 @@ static void give_memory(void *block, size_t size) {
     return_guard(&own->guard);
 }
 
-/* The library's own malloc and free, by the linker's option --wrap. Its realloc calls these (gaps.c). The bytes before
+/* The library's own malloc and free, by the linker's option --wrap. Its realloc calls these (heap.c). The bytes before
  * each block have its size. */
 HIDDEN void *__wrap_malloc(size_t size);
 HIDDEN void __wrap_free(void *block);

@@ -111,7 +111,7 @@ static uint64_t most_before(const struct node *my) {
     return others < processors() ? others : UNKNOWN_TURNS;
 }
 
-/* Polls until it is time to sleep, or the limit is over: GRANTED, CLOSED, WAITING. It polls at least once. */
+/* Polls until it is time to sleep, or the timeout is over: GRANTED, CLOSED, WAITING. It polls at least once. */
 static uint32_t spin(struct node *my, const struct limit *limit, struct spin *spun) {
     uint64_t before = most_before(my);
     const char *slot = slot_of(my);
@@ -145,7 +145,7 @@ static uint32_t give_up_turn(struct node *my) {
     return got == QOLB_WITHDRAWN ? (uint32_t)QOLB_TIMEDOUT : got;
 }
 
-/* Waits until the request is at its turn: GRANTED, CLOSED, LATE. */
+/* Waits until the request is at its turn: GRANTED, CLOSED, TIMEDOUT. */
 static uint32_t await_turn(struct node *my, const struct limit *limit) {
     struct spin spun = {0};
     for (;;) {
@@ -161,7 +161,7 @@ static void nap_busy(uint64_t most) {
     qolb_sleep_at_(&nobody_wakes, 0, most < LONGEST_NAP ? most : LONGEST_NAP);
 }
 
-/* Repeats the request while the node is busy: the final answer, or LATE. */
+/* Repeats the request while the node is busy: the final answer, or TIMEDOUT. */
 static uint32_t ask_again(struct node *my, const struct limit *limit) {
     struct spin spun = {0};
     uint32_t got = QOLB_BUSY;

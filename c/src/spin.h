@@ -61,7 +61,7 @@ enum { GROWS_BY = 8, SHRINKS_BY = 2 };
  * paused when it begins to yield before each look. */
 enum { BARGE_SPIN = 10000, BARGE_PAUSE = 200, BARGE_LONGEST = 4000, BARGE_YIELD_FROM = 200 };
 
-/* The queue head of a barging lock (lock/waits.c): its pause between two looks, POLL_PAUSE once it has requested the
+/* The queue head of a barging lock (lock/enter.c): its pause between two looks, POLL_PAUSE once it has requested the
  * lock; how long it has looked at a taken lock, and was overtaken, when it requests it; and how long after it first
  * slept, since a lock that is reserved for a sleeping thread is idle until that is awake. */
 enum { WATCH_PAUSE = 300, WATCH_PATIENCE = 2000, SLEEPER_PATIENCE = 1000000 };

@@ -40,7 +40,7 @@ static void until_done(void) {
 static void enter(qolb_lock *it) { MUST(qolb_lock_enter(it), QOLB_GRANTED); }
 static void leave(qolb_lock *it) { MUST(qolb_lock_leave(it), QOLB_DONE); }
 
-/* It keeps the lock for a while if the second is to wait, or to be answered BUSY or LATE. */
+/* It keeps the lock for a while if the second is to wait, or to be answered BUSY or TIMEDOUT. */
 static void *first(void *unused) {
     if (way == BY_A_NODE) {
         MUST(qolb_acquire(&nodes[0]), QOLB_GRANTED);

@@ -11,10 +11,10 @@ struct clock {
 };
 
 #ifdef OF_LOCKS
-/* What these threads do at the same time, each by its number, over a lock with these barging, which is opened before or
- * at its first use. A request can be withdrawn with at most `near` rounds to go, `sleepers` threads may announce a
- * sleep at one cell, and with fewer rounds to go than `open` a call with a limit draws a ticket. There may be no memory
- * for the registry, nor a key of threads. */
+/* What these threads do at the same time, each by its number, over a lock with this barging limit, which is opened
+ * before or at its first use. A request can be withdrawn with at most `near` rounds to go, `sleepers` threads may
+ * announce a sleep at one cell, and with fewer rounds to go than `open` a call with a timeout draws a ticket. There may
+ * be no memory for an entry of a ticket for which no thread waits. */
 struct scene {
     const char *name;
     void (*does)(int self);

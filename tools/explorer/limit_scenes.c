@@ -79,7 +79,8 @@ void signals_in_order(int self) {
     leave();
 }
 
-/* The same, where the time of the first is over at once: who is told LATE has not taken the signal from the other. */
+/* The same, where the time of the first is over at once: a thread that is told TIMEDOUT has not taken the signal from
+ * the other. */
 void signals_whose_time_is_over(int self) {
     uint32_t got;
     if (self == 0) time_goes_on(2 * MS);

@@ -27,7 +27,7 @@ UNSEEN void *qolb_malloc_(size_t size) {
 }
 void qolb_free_(void *block) { (void)block; }
 
-/* For an entry of the registry, where the scene has memory for it. It may take a lock, as a program's malloc does. */
+/* For an entry, where the scene has memory for it. It may take a lock, as a program's malloc does. */
 static struct {
     void *at[16];
     int many;
