@@ -187,8 +187,12 @@
  * the number of those threads, and from how many processors the process may use:
  *
  * - If there are fewer threads than processors, it polls for 50 us, or for 1 us for each thread if that is more.
- * - If there are fewer than twice the processors, it polls for 50 us, and in a strict lock it yields before each poll.
+ * - If there are fewer than twice the processors, it polls for 50 us.
  * - If there are more, it polls for 2 us.
+ *
+ * A thread that has seen as many threads before it as there are processors yields before each poll in place of a pause,
+ * in a strict lock, while fewer than twice as many are before it. Each yield counts as 500 ns of polling, so it makes at
+ * most a hundred before it sleeps.
  *
  * Then it sleeps by a futex until its turn. After polls without success a thread polls for less the next time. At a
  * condition it sleeps at once, and so does a process that could use one processor only at its first wait. A thread
@@ -323,8 +327,10 @@
  * WAITING
  *
  * Two of these calls wait for a turn: qolb_acquire and qolb_acquire_within. They poll every 60 ns: for 50 us on a line
- * of no more nodes than the process may use processors, and for 20 us on others. Then they sleep by a futex until the
- * line is released, and poll anew. They yield only after a sleep. What qolb_lock(3) says of waiting holds here, too.
+ * of at most twice as many nodes as the process may use processors, and for 20 us on others. Then they sleep by a futex
+ * until the line is released, and poll anew. They yield after a sleep; and on a line of more nodes than processors, but
+ * at most twice as many, they yield in place of the pauses, once they have polled for 500 ns. What qolb_lock(3) says of
+ * waiting holds here, too.
  *
  * A call that releases the line (qolb_deqolb, qolb_shut, and any that answers CLOSED) wakes the next holder, and the
  * waiter behind it ahead of its turn.
