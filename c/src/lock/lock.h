@@ -285,8 +285,8 @@ HIDDEN void qolb_end_turn_(struct lock *lock, struct turn *at, uint32_t got);
 static inline void qolb_pass_on_(struct lock *lock, struct turn *at) { qolb_end_turn_(lock, at, QOLB_UNFINISHED_); }
 
 /* Passes on what a call that entered must not keep, which the ticket's state says: the turn of the queue of a queue
- * head, or a turn at which it was told that the lock is shut. In the second case the lock may no longer exist
- * afterwards. */
+ * head, or a turn at which it was told that the lock is shut. Afterwards the lock may no longer exist, unless the
+ * ticket is inside by the lock word. */
 HIDDEN void qolb_settle_(struct lock *lock, struct turn *at);
 
 /* Leave the lock; the second shuts it before. Afterwards the lock may no longer exist. */
