@@ -388,6 +388,10 @@ static void print_cell(enum workload workload, int threads, const char *name, st
 
 /* ---- The load of others ---- */
 
+/* For one number of threads: the number of phases, of those that other machines disturbed, and of those that are counted
+ * although they were disturbed. */
+static int all_phases, disturbed_phases, kept_disturbed;
+
 /* The processor time that other virtual machines took from this one, and that all of its processes used, in seconds. */
 struct load {
     double stolen, used, own, wall;
@@ -415,6 +419,8 @@ static void print_load(int threads, struct load from) {
     double others = to.used - from.used - (to.own - from.own);
     printf("# meanwhile, %d threads: other programs %.1f %%, other machines %.1f %% of the processors\n", threads,
            (others > 0 ? others : 0) / whole, (to.stolen - from.stolen) / whole);
+    printf("# disturbed by other machines, %d threads: %d of %d phases were run again, %d are counted\n", threads,
+           disturbed_phases - kept_disturbed, all_phases, kept_disturbed);
 }
 
 /* ---- All phases ---- */
@@ -435,10 +441,18 @@ static double all_ms(int threads) {
     return many * (double)strlen(workloads) * rounds[beyond] * (1.1 * ms[beyond] + 1);
 }
 
+/* A phase is disturbed if other machines took more than a twentieth of the processors meanwhile. A disturbed phase is run
+ * again after the others of its round, up to five times. */
+enum { RUNS = 6, DISTURBED = 20 };
+
+static int is_disturbed(struct took took, double stolen) {
+    return stolen * 1e9 * DISTURBED > took.wall * (double)sysconf(_SC_NPROCESSORS_ONLN);
+}
+
 /* Measures one lock. In EMPTY and DATA every second phase takes the times of waits and is not counted otherwise,
  * because taking these times makes it longer. In the other workloads every phase takes them, because there this matters
- * little. */
-static void run_one(int lock, int at, int threads, int round) {
+ * little. Returns 0, and counts nothing, if the phase must be run again. */
+static int run_one(int lock, int at, int threads, int round, int is_last) {
     struct cell *cell = &cells[lock][at];
     enum workload workload = (enum workload)workloads[at];
     int is_short = workload == EMPTY || workload == DATA;
@@ -450,9 +464,35 @@ static void run_one(int lock, int at, int threads, int round) {
                            .locks = workload == MIXED ? MIXED_LOCKS : 1,
                            .place = &places[round * MIXED_LOCKS % PLACES],
                            .seed = seed + (uint64_t)round};
+    double stolen = read_load().stolen;
     struct took took = run_phase(ms[is_beyond(threads)]);
+    int disturbed = is_disturbed(took, read_load().stolen - stolen);
+    all_phases++, disturbed_phases += disturbed;
+    if (disturbed && !is_last) return 0;
+    kept_disturbed += disturbed;
     if (!is_short || !phase.is_timed) add_counts(cell, took);
     if (phase.is_timed) add_waits(cell);
+    return 1;
+}
+
+/* Runs the phases of one round, in a shuffled order. */
+static void run_round(int *order, int many, int threads, int round, uint64_t *random) {
+    int kinds = (int)strlen(workloads);
+    for (int run = 1; run <= RUNS && many > 0; run++) {
+        int again = 0;
+        for (int k = many - 1; k > 0; k--) {
+            int other = (int)(next_random(random) % (uint64_t)(k + 1)), was = order[k];
+            order[k] = order[other];
+            order[other] = was;
+        }
+        for (int k = 0; k < many && now() < deadline; k++)
+            if (!run_one(order[k] / kinds, order[k] % kinds, threads, round, run == RUNS)) {
+                int was = order[again];
+                order[again++] = order[k];
+                order[k] = was;
+            }
+        many = again;
+    }
 }
 
 static void run_threads(int threads) {
@@ -462,14 +502,8 @@ static void run_threads(int threads) {
     memset(cells, 0, sizeof cells);
     for (int lock = 0; lock < many_locks; lock++)
         for (int at = 0; at < kinds && is_run(lock, threads); at++) order[many++] = lock * kinds + at;
-    for (int round = 0; round < rounds[is_beyond(threads)]; round++) {
-        for (int k = many - 1; k > 0; k--) {
-            int other = (int)(next_random(&random) % (uint64_t)(k + 1)), was = order[k];
-            order[k] = order[other];
-            order[other] = was;
-        }
-        for (int k = 0; k < many && now() < deadline; k++) run_one(order[k] / kinds, order[k] % kinds, threads, round);
-    }
+    all_phases = disturbed_phases = kept_disturbed = 0;
+    for (int round = 0; round < rounds[is_beyond(threads)]; round++) run_round(order, many, threads, round, &random);
     print_load(threads, load);
     for (int at = 0; at < kinds; at++)
         for (int lock = 0; lock < many_locks; lock++)
@@ -512,7 +546,7 @@ static int measure(const int *threads, int many) {
         all += all_ms(threads[k]);
     }
     fprintf(stderr, "peers: %d locks, about %.1f minutes\n", many_locks, all / 60000);
-    deadline = now() + (uint64_t)(all * 1.5e6) + 30000000000;
+    deadline = now() + (uint64_t)(all * 3e6) + 30000000000;
     calibrate();
     double was = steps_a_ns, ticks_were = ticks_a_ns;
     printf("# clock %s\n", by_tsc ? "the processor's counter, which is invariant" : "clock_gettime");
@@ -520,7 +554,7 @@ static int measure(const int *threads, int many) {
     for (int k = 0; k < many; k++) run_threads(threads[k]);
     printf("# calibration at the end: a tick takes %.4f times as long, work of one length %.3f times\n",
            ticks_were / measured_ticks_a_ns(), was / measured_steps_a_ns());
-    if (now() > deadline) fail("cut short: phases took half as long again as they should");
+    if (now() > deadline) fail("cut short: phases took three times as long as they should");
     return 0;
 }
 

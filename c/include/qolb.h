@@ -225,9 +225,12 @@
  * and on the number of processors that the process may use:
  *
  * - If there are fewer threads than processors, it polls for 50 us, or for 1 us for each thread if that is longer.
- * - If there are fewer than twice as many threads as processors, it polls for 50 us. In a strict lock it also yields
- *   before each poll.
+ * - If there are fewer than twice as many threads as processors, it polls for 50 us.
  * - If there are more threads, it polls for 2 us.
+ *
+ * Once a thread in a strict lock has seen as many threads before it as there are processors, it yields instead of pausing
+ * before each poll, while fewer than twice as many threads are before it. Each yield counts as 500 ns of polling, so the
+ * thread makes at most a hundred of them before it sleeps.
  *
  * Then the thread sleeps on a futex until its turn has come. A thread that had to sleep polls for a shorter time when
  * it next waits. At a condition a thread sleeps at once, and so does a thread of a process that could use only one
@@ -374,10 +377,12 @@
  *
  * WAITING
  *
- * Two calls wait for a turn: qolb_acquire and qolb_acquire_within. They poll every 60 ns. On a line that has no more
- * nodes than the process may use processors they poll for 50 us, and on other lines for 20 us. Then they sleep on a
- * futex until the line is released, and poll again. They yield only after a sleep. What qolb_lock(3) says about waiting
- * holds here, too.
+ * Two calls wait for a turn: qolb_acquire and qolb_acquire_within. They poll every 60 ns. On a line that has at most
+ * twice as many nodes as the process may use processors they poll for 50 us, and on other lines for 20 us. Then they
+ * sleep on a futex until the line is released, and poll again.
+ *
+ * They yield after a sleep. On a line that has more nodes than processors, but at most twice as many, they also yield
+ * instead of pausing, once they have polled for 500 ns. What qolb_lock(3) says about waiting holds here, too.
  *
  * A call that releases the line wakes the next holder, and also the waiter behind that one, ahead of its turn. These
  * calls are qolb_deqolb, qolb_shut, and every call that returns QOLB_CLOSED.

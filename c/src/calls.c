@@ -110,7 +110,7 @@ static inline struct probed of_node(struct node *my) {
  * it is unknown. */
 static uint64_t most_before(const struct node *my) {
     uint32_t others = my->line->nodes - 1;
-    return others < processors() ? others : UNKNOWN_TURNS;
+    return others < 2 * processors() ? others : UNKNOWN_TURNS;
 }
 
 /* Polls until it is time to sleep, or the timeout has expired. It polls at least once. Returns GRANTED, CLOSED or
@@ -151,7 +151,7 @@ static uint32_t give_up_turn(struct node *my) {
 
 /* Waits until the request is at its turn. Returns GRANTED, CLOSED or TIMEDOUT. */
 static uint32_t await_turn(struct node *my, const struct limit *limit) {
-    struct spin spun = {0};
+    struct spin spun = {.yields_from = YIELD_UNSURE};
     for (;;) {
         uint32_t got = spin(my, limit, &spun);
         if (got == QOLB_WAITING && left(limit)) got = sleep_at_place(my, limit);

@@ -90,14 +90,15 @@ static void count_yield(unsigned was, int is_dear, uint64_t now) {
 }
 
 /* After a rest the first thread that yields finds out for all others whether yields are still dear. */
-void qolb_yield_(void) {
+int qolb_yield_(void) {
     unsigned dear = atomic_load_explicit(&yields.dear, memory_order_relaxed);
     uint64_t since = qolb_now_();
     if (dear == YIELDS_COUNTED) {
-        if (since < atomic_load_explicit(&yields.rest, memory_order_relaxed)) return;
+        if (since < atomic_load_explicit(&yields.rest, memory_order_relaxed)) return 0;
         rest_until(since + YIELDS_REST);
     }
     sched_yield();
     uint64_t now = qolb_now_();
     count_yield(dear, now - since >= YIELD_DEAR, now);
+    return 1;
 }

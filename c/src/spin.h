@@ -7,10 +7,13 @@
  * follows from that number, too:
  *
  *   fewer threads than processors     50 us, or 1 us for each of them: all may be running
- *   fewer than twice the processors   50 us, with a yield before each poll: a thread nearer to its turn may want this
- *                                     processor
+ *   fewer than twice the processors   50 us
  *   more                              2 us
  *   it can't tell                     20 us
+ *
+ * A waiter that has seen as many threads before it as there are processors knows that not all of them can run. Once
+ * fewer than twice as many are before it, it yields in place of each pause, because a thread that is nearer to its turn
+ * may want this processor.
  *
  * Then it sleeps. Sleeping and waking cost about 50 us, so a wait takes at most about twice the best (Karlin and
  * others, SOSP 1991). A thread also learns how long spinning pays, because a spinning thread may keep the holder from
@@ -29,6 +32,7 @@
 #define QOLB_SPIN_H
 
 #include "common.h"
+#include <limits.h>
 #include <stdatomic.h>
 #include <stdint.h>
 
@@ -66,8 +70,13 @@ enum { BARGE_SPIN = 10000, BARGE_PAUSE = 200, BARGE_LONGEST = 4000, BARGE_YIELD_
  * slept, since a lock that is reserved for a sleeping thread is idle until that is awake. */
 enum { WATCH_PAUSE = 300, WATCH_PATIENCE = 2000, SLEEPER_PATIENCE = 1000000 };
 
-/* Yields (spin.c). One that lasts so long is dear: a thread of this program would have given the processor back sooner.
- * Each dear one counts as many others. Once so many are counted there are none for a quarter of a second. */
+/* Yields. Each counts as 500 ns of a spin, so that a spin ends after a hundred of them. A node knows only how many
+ * threads may be before it, so it yields once it has spun for 500 ns. */
+enum { YIELD_SPUN = 500, YIELD_UNSURE = 500 };
+#define NO_YIELDS UINT_MAX
+
+/* A yield that lasts 1 ms is dear (spin.c): a thread of this program would have given the processor back sooner. Each
+ * dear one counts as many others. Once so many are counted there are none for a quarter of a second. */
 enum { YIELD_DEAR = 1000000, YIELD_COUNTS = 2, YIELDS_COUNTED = 16, YIELDS_REST = 250000000 };
 
 /* The number of threads before a waiter, if it can't be told. */
@@ -99,16 +108,17 @@ static inline int qolb_pause_(unsigned nanoseconds) {
     return 1;
 }
 
-/* Lets another thread have the processor, unless yields are dear. */
-__attribute__((visibility("hidden"))) void qolb_yield_(void);
+/* Lets another thread have the processor, and returns 1; or 0, at once, while yields are dear. */
+__attribute__((visibility("hidden"))) int qolb_yield_(void);
 
 /* ---- Waiting in a queue ---- */
 
-/* What a waiter has spun since it last slept in this wait. {0} when the wait begins, but for `yields`. */
+/* What a waiter has spun since it last slept in this wait. {0} when the wait begins, but for `yields_from`. */
 struct spin {
-    unsigned spun, most; /* nanoseconds: so far, and when it is to end */
-    int slept;           /* it has slept in this wait, or was told to */
-    int yields;          /* it is to yield while it is far from its turn */
+    unsigned spun, most;  /* nanoseconds: so far, and when it is to end */
+    unsigned yields_from; /* it does not yield before it has spun for so long; or NO_YIELDS */
+    int slept;            /* it has slept in this wait, or was told to */
+    int crowded;          /* in this wait at least as many threads were before it as there are processors */
     /* The number of threads before it: when it began, and at the last look. */
     uint64_t first, before;
 };
@@ -119,14 +129,19 @@ enum { FIRST_SPIN, WOKEN_SPIN, HEAD_SPIN, SPINS };
  * head of a barging lock. 0 or SPIN_NEAR: as long as may be. */
 extern __attribute__((visibility("hidden"))) BY_THREAD unsigned qolb_learned_[SPINS];
 
-/* Whether it yields before it polls. */
+/* Whether it may yield in place of a pause: if its turn is not too far for that. */
+static inline int is_near_enough_to_yield(const struct spin *spin) {
+    return spin->before < (uint64_t)2 * processors() && spin->yields_from != NO_YIELDS;
+}
+
+/* Whether it yields in place of a pause. */
 static inline int is_to_yield(const struct spin *spin) {
-    return spin->yields && spin->before >= processors() && spin->before < (uint64_t)2 * processors();
+    return spin->crowded && is_near_enough_to_yield(spin) && spin->spun >= spin->yields_from;
 }
 
 static inline unsigned longest_spin(const struct spin *spin) {
     if (spin->before == UNKNOWN_TURNS) return SPIN_UNKNOWN;
-    if (spin->before >= processors()) return is_to_yield(spin) ? SPIN_NEAR : SPIN_FAR;
+    if (spin->before >= processors()) return is_near_enough_to_yield(spin) ? SPIN_NEAR : SPIN_FAR;
     return spin->before * SPIN_EACH > SPIN_NEAR ? (unsigned)spin->before * SPIN_EACH : SPIN_NEAR;
 }
 
@@ -152,6 +167,7 @@ static inline int qolb_spins_on_(struct spin *spin, uint64_t before) {
     unsigned patience = spin->spun ? *learned : begin_spin(learned), may_spin = pauses_in_1024();
     if (spin->spun == 0) spin->first = before;
     spin->before = before;
+    if (before >= processors()) spin->crowded = 1;
     spin->most = longest_spin(spin);
     if (patience < SPIN_NEAR && patience < spin->most) spin->most = patience;
     if (spin->spun + POLL_PAUSE <= spin->most && may_spin) return 1;
@@ -166,12 +182,18 @@ static inline unsigned qolb_poll_pause_(const struct spin *spin) {
     return (unsigned)(POLL_PAUSE + (spin->before - 1) * each);
 }
 
-/* Pauses before a poll. A waiter that was woken yields first: it may have taken the processor from the holder. */
+/* Pauses before a poll, or yields. A waiter that was woken yields before its first pause: it may have taken the
+ * processor from the holder. */
 static inline void qolb_spin_for_(struct spin *spin, unsigned pause) {
     unsigned left = spin->most - spin->spun;
-    if ((spin->slept && spin->spun == 0) || is_to_yield(spin)) qolb_yield_();
-    qolb_pause_(pause < left ? pause : left);
-    spin->spun += pause < left ? pause : left;
+    int in_place = is_to_yield(spin), was_woken = spin->slept && spin->spun == 0;
+    int yielded = (in_place || was_woken) && qolb_yield_();
+    if (in_place && yielded) {
+        spin->spun += YIELD_SPUN < left ? YIELD_SPUN : left;
+    } else {
+        qolb_pause_(pause < left ? pause : left);
+        spin->spun += pause < left ? pause : left;
+    }
 }
 
 /* Both, of a node: pauses, and returns 1; or 0, at once. */

@@ -76,10 +76,11 @@ UNSEEN void hook_draws(void) {
 }
 /* A call that may not wait does not yield; and one that yields waits. */
 UNSEEN static void hurries(int so) { order[who()].hurries = so; }
-UNSEEN void qolb_yield_(void) {
+UNSEEN int qolb_yield_(void) {
     must(!order[who()].hurries, "a call that may not wait yields");
     order[who()].yields = order[who()].in_call;
     sched_yield();
+    return 1;
 }
 UNSEEN int has_drawn(int self) { return order[self].drawn > 0; }
 UNSEEN void hook_withdraws(void) { order[who()].waits = 0; }

@@ -24,8 +24,11 @@ static struct {
     struct line *line, *other_line;
 } it;
 
-void qolb_yield_(void);
-void qolb_yield_(void) { sched_yield(); }
+int qolb_yield_(void);
+int qolb_yield_(void) {
+    sched_yield();
+    return 1;
+}
 
 static void turn_with(int yields) {
     MUST(it.inside++ == 0);

@@ -255,7 +255,7 @@ static uint32_t give_up(struct request *my) {
 
 /* GRANTED: it is at its turn of the queue. TIMEDOUT, or CLOSED of a lock that is shut: it has no ticket. */
 static uint32_t wait_for_turn(struct request *my) {
-    struct spin spin = {.yields = !is_barging(my->lock)};
+    struct spin spin = {.yields_from = is_barging(my->lock) ? NO_YIELDS : 0};
     uint32_t got = QOLB_WAITING;
     begins_to_wait(my);
     while (got == QOLB_WAITING) {
