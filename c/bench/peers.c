@@ -388,8 +388,8 @@ static void print_cell(enum workload workload, int threads, const char *name, st
 
 /* ---- The load of others ---- */
 
-/* For one number of threads: the number of phases, of those that other machines disturbed, and of those that are counted
- * although they were disturbed. */
+/* For one number of threads: the number of phases, of those that other machines disturbed, and of those that are
+ * counted although they were disturbed. */
 static int all_phases, disturbed_phases, kept_disturbed;
 
 /* The processor time that other virtual machines took from this one, and that all of its processes used, in seconds. */
@@ -441,8 +441,8 @@ static double all_ms(int threads) {
     return many * (double)strlen(workloads) * rounds[beyond] * (1.1 * ms[beyond] + 1);
 }
 
-/* A phase is disturbed if other machines took more than a twentieth of the processors meanwhile. A disturbed phase is run
- * again after the others of its round, up to five times. */
+/* A phase is disturbed if other machines took more than a twentieth of the processors meanwhile. A disturbed phase is
+ * run again after the others of its round, up to five times. */
 enum { RUNS = 6, DISTURBED = 20 };
 
 static int is_disturbed(struct took took, double stolen) {

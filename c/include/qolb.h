@@ -228,9 +228,9 @@
  * - If there are fewer than twice as many threads as processors, it polls for 50 us.
  * - If there are more threads, it polls for 2 us.
  *
- * Once a thread in a strict lock has seen as many threads before it as there are processors, it yields instead of pausing
- * before each poll, while fewer than twice as many threads are before it. Each yield counts as 500 ns of polling, so the
- * thread makes at most a hundred of them before it sleeps.
+ * Once a thread in a strict lock has seen as many threads before it as there are processors, it yields instead of
+ * pausing before each poll, while fewer than twice as many threads are before it. Each yield counts as 500 ns of
+ * polling, so the thread makes at most a hundred of them before it sleeps.
  *
  * Then the thread sleeps on a futex until its turn has come. A thread that had to sleep polls for a shorter time when
  * it next waits. At a condition a thread sleeps at once, and so does a thread of a process that could use only one
