@@ -412,9 +412,9 @@
  * them. Other data that a thread writes beside the handle of another thread slow down the calls of that thread. Keep
  * such data QOLB_NODE_ALIGN bytes apart.
  *
- * Each call that requests, polls, withdraws or releases takes a bounded number of atomic steps in the proved part of
- * the library, whatever other threads do. On a line of N nodes a release takes at most 2N - 1 such steps in a ticket
- * line, 3N - 1 in a ring, and 4N - 3 in a link line.
+ * Each of qolb_enqolb, qolb_poll, qolb_withdraw, qolb_prepend, qolb_link, qolb_deqolb and qolb_shut takes a bounded
+ * number of atomic steps in the proved part of the library, whatever other threads do. On a line of N nodes, a release
+ * takes at most 2N - 1 such steps in a ticket line, 3N - 1 in a ring, and 4N - 3 in a link line.
  *
  * ==== qolb_task(3): event loops, which are notified and never wait ====
  *
