@@ -10,16 +10,15 @@ To see one as an image: rsvg-convert --background-color white docs/figures/layer
 import pathlib
 import sys
 
+import diagrams
 import handovers
-import layers
 import plots
-import states
 
 FOLDER = pathlib.Path(__file__).resolve().parents[2] / "docs/figures"
 
 
 def main():
-    drawn = {**handovers.pictures(), **layers.pictures(), **plots.pictures(), **states.pictures()}
+    drawn = {**diagrams.pictures(), **handovers.pictures(), **plots.pictures()}
     stale = []
     for name, picture in drawn.items():
         path = FOLDER / f"{name}.svg"
