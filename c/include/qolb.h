@@ -219,14 +219,15 @@
  *
  * WAITING
  *
- * A thread with a ticket polls first. If it is the next one, it polls every 90 ns. For each other thread before it, its
- * pause is 150 ns longer. Once it has seen how long a hand-over takes, its pause is three quarters of that time longer
- * instead, but at most 500 ns for each thread. How long the thread polls depends on the number of threads before it,
- * and on the number of processors that the process may use:
+ * A thread with a ticket polls first. If it is the next one, it polls every 90 ns. Each other thread before it makes
+ * the pause between two polls 150 ns longer. Once the thread has seen how long a hand-over takes, each of them makes
+ * the pause longer by three quarters of that time instead, up to 500 ns. How long the thread polls depends on the
+ * number of threads before it, and on the number of processors that the process may use:
  *
- * - If there are fewer threads than processors, it polls for 50 us, or for 1 us for each thread if that is longer.
- * - If there are fewer than twice as many threads as processors, it polls for 50 us.
- * - If there are more threads, it polls for 2 us.
+ * - If fewer threads are before it than there are processors, it polls for 50 us, or for 1 us for each of these threads
+ *   if that is longer.
+ * - If fewer than twice as many threads are before it, it polls for 50 us.
+ * - If more threads are before it, it polls for 2 us.
  *
  * Once a thread in a strict lock has seen as many threads before it as there are processors, it yields instead of
  * pausing before each poll, while fewer than twice as many threads are before it. Each yield counts as 500 ns of
@@ -277,7 +278,7 @@
  * - A qolb::Mutex is not poisoned. Its lock() fails with Stopped::Closed or Stopped::Misuse.
  * - Its lock is on the heap from its first use on, because a value in Rust may move.
  *
- * WHAT YOU MUST KEEP
+ * RULES FOR CALLERS
  *
  * - Initialise a lock or a condition by an initialiser or with zeros. Do not move or copy it once it has been used.
  * - The thread that entered a lock must leave it before the thread ends. If a thread ends while it holds a lock, the
@@ -356,7 +357,7 @@
  *     link              1,232     1,784     5,096    36,008   111,528
  *     ticket            1,360     2,296     7,912    60,328   151,208
  *
- * WHAT YOU MUST KEEP
+ * RULES FOR CALLERS
  *
  * - Initialise a handle with zeros: `qolb_node node = {0};`.
  * - Move a handle by qolb_move. Never copy it.
@@ -404,7 +405,7 @@
  * THREADS THAT END
  *
  * If a thread ends while its node holds the line or waits for it, all nodes behind it wait. Any other thread to which
- * the handle was handed (WHAT YOU MUST KEEP) may go on with it. qolb_state returns the state of the node.
+ * the handle was handed (RULES FOR CALLERS) may go on with it. qolb_state returns the state of the node.
  *
  * SPEED
  *
