@@ -1,4 +1,4 @@
-"""What machine this is, what else it does, and runs while it does nothing else."""
+"""For the benchmarks: describes the machine, and repeats a run during which the machine did other work."""
 
 import contextlib
 import os
@@ -16,13 +16,13 @@ def names_of_processors():
 
 
 def machine():
-    """The processors' number and name."""
+    """Returns the number of processors and their name."""
     names = names_of_processors()
     return f"{len(names)} processors of an {names[0]}"
 
 
 def named(word):
-    """A word of a command line; in place of a path of this machine alone the commit of what is checked out there, or its name."""
+    """Returns a word of a command line. A path that only this machine has is replaced by the commit that is checked out there, or by its name."""
     path = pathlib.Path(word)
     if not path.is_absolute():
         return word

@@ -1,9 +1,9 @@
-"""Runs programs that time ways of taking turns in phases (phases.h), at processors that are apart, and says which goals they reach.
+"""Runs programs that measure ways of acquiring a lock in phases (phases.h), and says which goals they reach. c/bench/nodes uses it.
 
-The time of a hand-over between each two processors is taken before and after each program. On a virtual machine two may be hyperthreads of one core: a pair below
-60 ns is quick. Threads stay at processors that are apart, and a program that had a quick pair among those that it used is run again, at most AGAIN times. So is a program of a
-quiet part if other programs or other machines took more than 3 % of the processors meanwhile. What was run again is counted; what is kept although it is not as it should be
-says so in its column `kept`.
+The time of a hand-over between each two processors is measured before and after each program. On a virtual machine two processors may be hyperthreads of one core: a pair
+below 60 ns is called quick. Threads stay at processors that are no quick pairs. A program that used a quick pair nevertheless is run again, at most AGAIN times. A program
+of a quiet part is also run again if other programs or other machines took more than 3 % of the processors meanwhile. Runs that are repeated are counted. A run that is kept
+although it does not meet these conditions says so in its column `kept`.
 """
 
 import datetime
@@ -19,8 +19,8 @@ from machine import Load, apart, command, least_of, machine, names_of_processors
 HERE = pathlib.Path(__file__).resolve().parent
 ROOT = HERE.parent.parent
 LIBRARY = "c/build/libqolb.a"
-MOST_OTHERS = 3  # hundredths of the processors, in a quiet part
-LEAST_WAITS = 5000  # of one program, for the 99.9th of 100
+MOST_OTHERS = 3  # percent of the processors that others may take in a quiet part
+LEAST_WAITS = 5000  # the least waits of one program for which the 99.9th percentile is given
 
 # A part: its name, threads, microseconds of a turn, words for the program, and goals: (lock, beside, the most of their ratio); the length of a phase in ms, whether others
 # must rest meanwhile, and whether threads stay at processors.

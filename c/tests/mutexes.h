@@ -1,5 +1,5 @@
-/* What the programs have in common that are run as they are and with every mutex a lock: mutexes, mutexes_many,
- * mutexes_forked, mutexes_cancelled. */
+/* For the programs that are run alone and with the preload library: mutexes, mutexes_many, mutexes_forked and
+ * mutexes_cancelled. It has what they share. */
 #include <errno.h>
 #include <pthread.h>
 #include <stdio.h>
