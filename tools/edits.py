@@ -10,7 +10,9 @@ same place would be refused, too: it shows nothing. A mutant is for a test to re
 that threads run at the same time). Only that test is run, without a proof, by `rt try --test`. A test that takes all memory fails there for any body,
 so such a mutant is judged by `rt test`, and only with --proved: that proves all crates from the changed one on.
 
-Mutants without a test are tried over the work that `tools/prove` keeps, which is called first. For each mutant it prints a line:
+Mutants without a test are tried over the work that `tools/prove` keeps, which is called first. Those that edit the bodies of different functions of a
+crate are tried in one check, and each is refused by the goals of its own function. A mutant that edits anything else (a type, a constant, a contract, a
+proof, a macro, two functions), or that no goal of its function refuses there, gets a check of its own; with --alone all do. Each gets a line:
 
   answer  CRATE/NAME  FUNCTION: GOAL    an answer that is written in proofs/ no longer proves the goal of that name
   search  CRATE/NAME  FUNCTION: GOAL    the tactics no longer prove a goal of that name, which they proved before
@@ -31,7 +33,7 @@ tried again, unless it was BROKEN, or with --anew: `kept from` that day is print
 With --anchors it tries nothing. It names each mutant whose old text its function does not have exactly once, with the place where the text is now, and
 the files and lines of mutants that are not read. `.ci/run` calls it.
 
-  tools/edits.py [--jobs N] [--only WORD] [--anew] [--proved] [--keep FOLDER] [CRATE ..]
+  tools/edits.py [--jobs N] [--only WORD] [--anew] [--alone] [--proved] [--keep FOLDER] [CRATE ..]
   tools/edits.py --anchors
 """
 
@@ -48,11 +50,12 @@ import sys
 import tempfile
 
 from crates import ROOT, below, copy_sources, lay_out, named, read_crates, run_main, say, side_by_side, spawn, take_kept
-from mutants import changed, harmless, mutants_of, out_of_place
+from mutants import changed, edited_function, harmless, mutants_of, out_of_place
 from tests import leave_out, tests_of
 
 KEPT = ROOT / "out" / "mutants.tsv"
 HEAD = "# What refused each mutant: its name, how, by what; a sum of what it was tried on, the day (tools/edits.py).\n"
+BY_A_GOAL = ("answer", "search", "false")
 NOTHING_SHOWN = ("new", "shape", "names", "ALIVE", "BROKEN")
 MINUTES = 120
 
@@ -60,6 +63,9 @@ MINUTES = 120
 NAMES_ALONE = re.compile(r"is not in scope|has no field|has no `|was not admitted")
 # The compiler refused the text, before any goal.
 NO_CODE = re.compile(r"^.*\berror\[[\w-]+\].*$", re.M)
+# A function whose callee is not proved, which is not tried to its end; and what a check says of one that is not proved for another reason.
+WAITS = re.compile(r"^fn \S+: .*\bwhich is not proved", re.M)
+REFUSED = re.compile(r": error: |^fn \S+: (?!proved$|.*\bwhich is not proved)", re.M)
 # Declarations that rest on other refused ones: these, and those.
 UNCHECKED = re.compile(r"^\./proofs/(\S+)/Answers\.antt:\d+:\d+: error: \d+ declarations? that depends? on (.*?), which \w+ rejected, \w+ not checked: (.*)$", re.M)
 VERDICT = re.compile(r"^logic=", re.M)
@@ -176,6 +182,17 @@ def by_tests(log, test, status):
     return "BROKEN", last_line(log)
 
 
+def said_of(log):
+    """What a check says of each function, by its folder of proofs: what is refused there, the notes above the function's line, and this line."""
+    said, notes = collections.defaultdict(list), []
+    for line in re.sub(r"^so far: ", "", log, flags=re.M).splitlines():
+        found = re.match(r"\./(?:proofs|specs)/(\S+?)(?:/(?:Answers|Invariants|Proof))?\.antt:|fn \w+::(\S+): ", line)
+        if found:
+            said[found[1] or found[2].replace("::", "/")] += [*notes, line]
+        notes = [*notes, line] if line.startswith("note: ") else []
+    return said
+
+
 # ---- Trying ----
 
 
@@ -233,6 +250,63 @@ class Checks:
                 kind = "meant" if is_proved(said) else "shape"
         return kind, where, log
 
+    def folder_of(self, mutant):
+        """The folder of proofs of the one function whose body a mutant edits; None if it edits anything else, or if the folder is not certain."""
+        file, function = edited_function(self.folder, mutant.changes) or ("", None)
+        if not function:
+            return None
+        owners = [it for it in re.findall(r"\w+", function.owner) if len(it) > 1] or [pathlib.PurePath(file).stem]
+        found = [it for it in self.goals if re.search(rf"\b(?:{'|'.join(owners)})\w*/{function.name}$", it)]
+        return found[0] if len(found) == 1 else None
+
+    def tried_at_once(self, mutants):
+        """What one check says of mutants that each edit the body of another function, by the folders of these: how each was refused, by what, the output.
+
+        The proof of a function reads its own body and the contracts of the others. So an edit of a body opens goals of this function alone, and what the
+        check refuses of a function is refused because of its own mutant. If the check refuses anything of another function, or gives no verdict, then one
+        of the mutants reaches further than its function: nothing is concluded, and each half is tried by itself. A function that calls one that is not
+        proved is not tried to its end. The check says so, and shows nothing of its mutant, which `waits`.
+        """
+        log, why = self.check_with([change for it in mutants.values() for change in it.changes])
+        said = said_of(log)
+        strangers = [it for it, lines in said.items() if it not in mutants and REFUSED.search("\n".join(lines))]
+        if why or strangers or not VERDICT.search(log):
+            half, parts = len(mutants) // 2, list(mutants.items())
+            return self.tried_at_once(dict(parts[:half])) | self.tried_at_once(dict(parts[half:])) if half else {}
+        outcomes = {}
+        for folder in mutants:
+            log = "\n".join([*said[folder], "logic=not-proved"])
+            outcomes[folder] = *(("waits", "") if WAITS.search(log) else by_check(log, self.goals)), log
+        return outcomes
+
+    def each_tried(self, mutants, is_alone):
+        """Yields each mutant, how it was refused, by what, and the output. Those that edit the body of a function are tried at once with such mutants of other
+        functions, and alone if no goal of the function was open then. All others are tried alone, and all if `is_alone`."""
+        left, alone, waiting = collections.defaultdict(list), [], []
+        for it in mutants:
+            folder = None if is_alone else self.folder_of(it)
+            (left[folder] if folder else alone).append(it)
+        while left:
+            # Those that waited come next, without those that they waited for.
+            tried = {folder: left[folder][0] for folder in waiting or left}
+            outcomes = self.tried_at_once(tried)
+            controls = {folder: harmless(tried[folder].changes) for folder, (kind, *_) in outcomes.items() if kind == "search"}
+            controls = {folder: changes for folder, changes in controls.items() if changes}
+            is_meant = controls and is_proved(self.check_with(sum(controls.values(), []))[0])
+            waiting = [folder for folder, (kind, *_) in outcomes.items() if kind == "waits"]
+            if len(waiting) == len(tried):
+                waiting = []
+            for folder in (it for it in tried if it not in waiting):
+                mutant = left[folder].pop(0)
+                kind, where, log = outcomes.get(folder, ("", "", ""))
+                if kind in BY_A_GOAL and (is_meant or folder not in controls):
+                    yield mutant, "meant" if folder in controls else kind, where, log
+                else:
+                    alone.append(mutant)
+            left = {folder: some for folder, some in left.items() if some}
+        for it in alone:
+            yield it, *self.tried(it)
+
 
 def tried_by_test(crates, mutant, room):
     """The outcome of a mutant with its test: how it was refused, by what, and the output."""
@@ -258,13 +332,12 @@ def tried_by_test(crates, mutant, room):
 def try_batch(crates, mutants, kept, args):
     """Tries the mutants of one batch, prints each, and keeps the outcomes."""
     with tempfile.TemporaryDirectory(prefix="mutants-") as room:
-        checks = None
-        for it in mutants:
-            if it.test:
-                kind, where, log = tried_by_test(crates, it, pathlib.Path(room))
-            else:
-                checks = checks or Checks(crates, it.crate, mutants, pathlib.Path(room))
-                kind, where, log = checks.tried(it)
+        room = pathlib.Path(room)
+        if mutants[0].test:
+            outcomes = ((it, *tried_by_test(crates, it, room)) for it in mutants)
+        else:
+            outcomes = Checks(crates, mutants[0].crate, mutants, room).each_tried(mutants, args.alone)
+        for it, kind, where, log in outcomes:
             kept.write(it, kind, where)
             print(f"{kind:7} {it.name}  {where}", flush=True)
             if args.keep:
@@ -283,7 +356,7 @@ def try_all(mutants, args):
     lost = []
 
     def start(name, _jobs):
-        more = ["--anew"] * args.anew + ["--proved"] * args.proved + (["--keep", args.keep] if args.keep else [])
+        more = ["--anew"] * args.anew + ["--alone"] * args.alone + ["--proved"] * args.proved + (["--keep", args.keep] if args.keep else [])
         return spawn([sys.executable, __file__, "--batch", name, "--only", args.only, *more], ROOT)
 
     def ended(name, status, _seconds):
@@ -310,6 +383,7 @@ def main():
     parser.add_argument("--only", default="", help="only mutants whose names contain this")
     parser.add_argument("--anew", action="store_true", help="also those that were tried as they are")
     parser.add_argument("--proved", action="store_true", help="also those whose tests must be proved to be run")
+    parser.add_argument("--alone", action="store_true", help="each in a check of its own")
     parser.add_argument("--keep", type=os.path.abspath, help="where to keep what was said, a file a mutant")
     parser.add_argument("--anchors", action="store_true", help="only say which are out of place")
     parser.add_argument("--batch", help=argparse.SUPPRESS)
