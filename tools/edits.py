@@ -18,7 +18,7 @@ proof, a macro, two functions), or that no goal of its function refuses there, g
   search  CRATE/NAME  FUNCTION: GOAL    the tactics no longer prove a goal of that name, which they proved before
   false   CRATE/NAME  FUNCTION: GOAL    the goal is false: the prover found values
   meant   CRATE/NAME  FUNCTION: GOAL    the same change made harmless is proved: a condition that it adds is what is refused
-  test    CRATE/NAME  TEST              the test failed, or did not end
+  test    CRATE/NAME  TEST              the test failed, or it did not end, and ended without the mutant
   new     CRATE/NAME  FUNCTION: GOAL    only goals are open, or answers refused, that have a new name: find out whether a harmless rewrite is refused alike
   shape   CRATE/NAME  FUNCTION: GOAL    the same change made harmless is refused alike: it shows nothing, rewrite it
   names   CRATE/NAME  FUNCTION          only names of the proof are missing: it shows nothing, rewrite it
@@ -33,7 +33,7 @@ tried again, unless it was BROKEN, or with --anew: `kept from` that day is print
 With --anchors it tries nothing. It names each mutant whose old text its function does not have exactly once, with the place where the text is now, and
 the files and lines of mutants that are not read. `.ci/run` calls it.
 
-  tools/edits.py [--jobs N] [--only WORD] [--anew] [--alone] [--proved] [--keep FOLDER] [CRATE ..]
+  tools/edits.py [--jobs N] [--only WORD] [--by goals|tests] [--anew] [--alone] [--proved] [--keep FOLDER] [CRATE ..]
   tools/edits.py --anchors
 """
 
@@ -51,7 +51,7 @@ import tempfile
 
 from crates import ROOT, below, copy_sources, lay_out, named, read_crates, run_main, say, side_by_side, spawn, take_kept
 from mutants import changed, edited_function, harmless, mutants_of, out_of_place
-from tests import leave_out, tests_of
+from tests import leave_out, path_of_builds, tests_of
 
 KEPT = ROOT / "out" / "mutants.tsv"
 HEAD = "# What refused each mutant: its name, how, by what; a sum of what it was tried on, the day (tools/edits.py).\n"
@@ -171,11 +171,16 @@ def by_check(log, goals):
     return "names", ("gone: " if gone else "") + first[:160]
 
 
+def has_ended(log, status):
+    """Returns False if a run of tests was ended because it was out of time."""
+    return status != 124 and not re.search(r"had not ended|did not end within|run=(?!ended|none)", log)
+
+
 def by_tests(log, test, status):
     """The outcome of a mutant with this test, from the output of `rt try --test` or `rt test`."""
     if re.search(rf"^test {re.escape(test)} \.\.\. ok$", log, re.M):
         return "ALIVE", test
-    if f"test {test} ... FAILED" in log or re.search(r"had not ended|run=(?!ended|none)", log) or status == 124:
+    if f"test {test} ... FAILED" in log or not has_ended(log, status):
         return "test", test
     if re.search(r"^logic=not-proved", log, re.M):
         return "goal", next((it for it in log.splitlines() if ": no proof" in it or "error: `" in it), "")[:160]
@@ -310,7 +315,7 @@ class Checks:
 
 def tried_by_test(crates, mutant, room):
     """The outcome of a mutant with its test: how it was refused, by what, and the output."""
-    words, tested, test = ["rt", "try", "--test"], mutant.tested, mutant.test.partition("::")[2]
+    words, tested, test = ["env", f"PATH={path_of_builds(room)}", "rt", "try", "--test"], mutant.tested, mutant.test.partition("::")[2]
     if mutant.takes_all_memory():
         words = ["rt", "test"]
         lay_out(crates, tested.name, room)
@@ -323,10 +328,19 @@ def tried_by_test(crates, mutant, room):
     bodies, why = changed(room / "crates" / mutant.crate.name, mutant.changes)
     if why:
         return "BROKEN", why, ""
+    was = {path: path.read_text() for path in bodies}
     for path, body in bodies.items():
         path.write_text(body)
     log, status = ran(words, room / "crates" / tested.name)
-    return *by_tests(log, test, status), log
+    kind, where = by_tests(log, test, status)
+    if kind == "test" and not has_ended(log, status):
+        # On a busy machine the test may be out of time without the mutant, too.
+        for path, body in was.items():
+            path.write_text(body)
+        said, status = ran(words, room / "crates" / tested.name)
+        if not has_ended(said, status):
+            return "BROKEN", f"{test} was out of time without the mutant, too", log
+    return kind, where, log
 
 
 def try_batch(crates, mutants, kept, args):
@@ -381,6 +395,7 @@ def main():
     parser = argparse.ArgumentParser(description=__doc__, formatter_class=argparse.RawDescriptionHelpFormatter)
     parser.add_argument("--jobs", type=int, default=1, help="how many are tried side by side")
     parser.add_argument("--only", default="", help="only mutants whose names contain this")
+    parser.add_argument("--by", choices=("goals", "tests"), help="only those that a goal must refuse, or only those that a test must refuse")
     parser.add_argument("--anew", action="store_true", help="also those that were tried as they are")
     parser.add_argument("--proved", action="store_true", help="also those whose tests must be proved to be run")
     parser.add_argument("--alone", action="store_true", help="each in a check of its own")
@@ -396,6 +411,8 @@ def main():
     KEPT.parent.mkdir(exist_ok=True)
     kept = Kept(crates)
     mutants = [it for it in mutants_of(crates, args.names, args.only) if not args.batch or it.batch == args.batch]
+    if args.by:
+        mutants = [it for it in mutants if bool(it.test) == (args.by == "tests")]
     if args.only and not mutants:
         sys.exit(f"no mutant's name has {args.only!r}")
     is_known = lambda it: not args.anew and (kept.known(it) or ["BROKEN"])[0] != "BROKEN"
