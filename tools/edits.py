@@ -49,7 +49,7 @@ import subprocess
 import sys
 import tempfile
 
-from crates import ROOT, below, copy_sources, lay_out, named, read_crates, run_main, say, side_by_side, spawn, take_kept
+from crates import ROOT, below, copy_sources, lanes, lay_out, named, read_crates, run_main, say, side_by_side, spawn, take_kept
 from mutants import changed, edited_function, harmless, mutants_of, out_of_place
 from tests import leave_out, path_of_builds, tests_of
 
@@ -216,9 +216,10 @@ def is_of_tests(crate, mutant):
 
 class Checks:
     """The mutants of one crate that a goal must refuse, each tried in a copy of the crate over the work that was kept; with its tests if one is of
-    what is read only for these."""
+    what is read only for these. A check of several mutants has up to `jobs` processes."""
 
-    def __init__(self, crates, crate, mutants, room):
+    def __init__(self, crates, crate, mutants, room, jobs):
+        self.jobs = jobs
         self.with_tests = ["--test"] * any(is_of_tests(crate, it) for it in mutants)
         self.folder = lay_out(crates, crate.name, room / "repository")
         take_kept(crate, self.folder)
@@ -226,19 +227,19 @@ class Checks:
             raise SystemExit(f"{crate.name} is not proved as it is")
         generated = room / "generated"
         generated.mkdir()
-        self.check("--generated", str(generated))
+        self.check("--generated", str(generated), jobs=jobs)
         self.goals = goals_of(generated)
 
-    def check(self, *more):
-        return ran(["rt", "check", "--jobs", "1", *self.with_tests, *more], self.folder)[0]
+    def check(self, *more, jobs=1):
+        return ran(["rt", "check", "--jobs", str(jobs), *self.with_tests, *more], self.folder)[0]
 
-    def check_with(self, changes):
+    def check_with(self, changes, jobs=1):
         """The output of a check of the crate with the changes, or why they can't be made; afterwards the crate is as it was."""
         bodies, why = changed(self.folder, changes)
         was = {path: path.read_bytes() for path in bodies}
         for path, body in bodies.items():
             path.write_text(body)
-        log = "" if why else self.check()
+        log = "" if why else self.check(jobs=jobs)
         for path, body in was.items():
             path.write_bytes(body)
         return log, why
@@ -272,7 +273,7 @@ class Checks:
         of the mutants reaches further than its function: nothing is concluded, and each half is tried by itself. A function that calls one that is not
         proved is not tried to its end. The check says so, and shows nothing of its mutant, which `waits`.
         """
-        log, why = self.check_with([change for it in mutants.values() for change in it.changes])
+        log, why = self.check_with([change for it in mutants.values() for change in it.changes], min(self.jobs, len(mutants)))
         said = said_of(log)
         strangers = [it for it, lines in said.items() if it not in mutants and REFUSED.search("\n".join(lines))]
         if why or strangers or not VERDICT.search(log):
@@ -297,7 +298,7 @@ class Checks:
             outcomes = self.tried_at_once(tried)
             controls = {folder: harmless(tried[folder].changes) for folder, (kind, *_) in outcomes.items() if kind == "search"}
             controls = {folder: changes for folder, changes in controls.items() if changes}
-            is_meant = controls and is_proved(self.check_with(sum(controls.values(), []))[0])
+            is_meant = controls and is_proved(self.check_with(sum(controls.values(), []), min(self.jobs, len(controls)))[0])
             waiting = [folder for folder, (kind, *_) in outcomes.items() if kind == "waits"]
             if len(waiting) == len(tried):
                 waiting = []
@@ -350,7 +351,7 @@ def try_batch(crates, mutants, kept, args):
         if mutants[0].test:
             outcomes = ((it, *tried_by_test(crates, it, room)) for it in mutants)
         else:
-            outcomes = Checks(crates, mutants[0].crate, mutants, room).each_tried(mutants, args.alone)
+            outcomes = Checks(crates, mutants[0].crate, mutants, room, max(1, lanes() // args.jobs)).each_tried(mutants, args.alone)
         for it, kind, where, log in outcomes:
             kept.write(it, kind, where)
             print(f"{kind:7} {it.name}  {where}", flush=True)
@@ -370,7 +371,7 @@ def try_all(mutants, args):
     lost = []
 
     def start(name, _jobs):
-        more = ["--anew"] * args.anew + ["--alone"] * args.alone + ["--proved"] * args.proved + (["--keep", args.keep] if args.keep else [])
+        more = ["--jobs", str(args.jobs)] + ["--anew"] * args.anew + ["--alone"] * args.alone + ["--proved"] * args.proved + (["--keep", args.keep] if args.keep else [])
         return spawn([sys.executable, __file__, "--batch", name, "--only", args.only, *more], ROOT)
 
     def ended(name, status, _seconds):
