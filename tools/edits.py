@@ -140,6 +140,23 @@ def two(goals):
     return "; ".join(f"{folder}: {goal}" for folder, goal in goals[:2])
 
 
+def said_of(log):
+    """What a check says of each function, by its folder of proofs: what is refused there, the notes above the function's line, and this line. What it
+    refuses elsewhere is under the name of the file, or under no name."""
+    said, notes = collections.defaultdict(list), []
+    for line in re.sub(r"^so far: ", "", log, flags=re.M).splitlines():
+        found = re.match(r"\./(?:proofs|specs)/(\S+?)(?:/(?:Answers|Invariants|Proof))?\.antt:|fn \w+::(\S+): ", line)
+        if found:
+            said[found[1] or found[2].replace("::", "/")] += [*notes, line]
+        elif ": error: " in line:
+            said[""].append(line)
+        if line.startswith("note: "):
+            notes.append(line)
+        elif not line.startswith("help: "):
+            notes = []
+    return said
+
+
 def by_check(log, goals):
     """What refused an edit: the kind, and the function with its goal."""
     if is_proved(log):
@@ -147,7 +164,9 @@ def by_check(log, goals):
     if not VERDICT.search(log):
         why = NO_CODE.search(log)
         return "BROKEN", why[0][:160] if why else last_line(log)
-    log = re.sub(r"^so far: ", "", log, flags=re.M)
+    # A function that calls one which is not proved is refused for that, whatever its own goals are.
+    said = ["\n".join(it) for it in said_of(log).values()]
+    log = "\n".join(it for it in said if not WAITS.search(it))
     refused = re.findall(r"^\./proofs/(\S+)/(?:Answers|Invariants)\.antt:\d+:\d+: error: `([^`]+)`(.*)$", log, re.M)
     answers = {(folder, goal) for folder, goal, why in refused if not NAMES_ALONE.search(why)}
     # An answer rests on a lemma beside it that no longer holds.
@@ -185,17 +204,6 @@ def by_tests(log, test, status):
     if re.search(r"^logic=not-proved", log, re.M):
         return "goal", next((it for it in log.splitlines() if ": no proof" in it or "error: `" in it), "")[:160]
     return "BROKEN", last_line(log)
-
-
-def said_of(log):
-    """What a check says of each function, by its folder of proofs: what is refused there, the notes above the function's line, and this line."""
-    said, notes = collections.defaultdict(list), []
-    for line in re.sub(r"^so far: ", "", log, flags=re.M).splitlines():
-        found = re.match(r"\./(?:proofs|specs)/(\S+?)(?:/(?:Answers|Invariants|Proof))?\.antt:|fn \w+::(\S+): ", line)
-        if found:
-            said[found[1] or found[2].replace("::", "/")] += [*notes, line]
-        notes = [*notes, line] if line.startswith("note: ") else []
-    return said
 
 
 # ---- Trying ----
@@ -268,8 +276,9 @@ class Checks:
     def tried_at_once(self, mutants):
         """What one check says of mutants that each edit the body of another function, by the folders of these: how each was refused, by what, the output.
 
-        The proof of a function reads its own body and the contracts of the others. So an edit of a body opens goals of this function alone, and what the
-        check refuses of a function is refused because of its own mutant. If the check refuses anything of another function, or gives no verdict, then one
+        The proof of a function reads its own body and the contracts of the others: only functions that call one another in a cycle can open each other's
+        bodies, and these have one folder, which `folder_of` does not find. So an edit of a body opens goals of this function alone, and what the check
+        refuses of a function is refused because of its own mutant. If the check refuses anything of another function, or gives no verdict, then one
         of the mutants reaches further than its function: nothing is concluded, and each half is tried by itself. A function that calls one that is not
         proved is not tried to its end. The check says so, and shows nothing of its mutant, which `waits`.
         """
