@@ -63,9 +63,9 @@ MINUTES = 120
 NAMES_ALONE = re.compile(r"is not in scope|has no field|has no `|was not admitted")
 # The compiler refused the text, before any goal.
 NO_CODE = re.compile(r"^.*\berror\[[\w-]+\].*$", re.M)
-# A function whose callee is not proved, which is not tried to its end; and what a check says of one that is not proved for another reason.
+# A function whose callee is not proved, which is not tried to its end; and one that is not proved for this or another reason.
 WAITS = re.compile(r"^fn \S+: .*\bwhich is not proved", re.M)
-REFUSED = re.compile(r": error: |^fn \S+: (?!proved$|.*\bwhich is not proved)", re.M)
+REFUSED = re.compile(r": error: |^fn \S+: (?!proved$)", re.M)
 # Declarations that rest on other refused ones: these, and those.
 UNCHECKED = re.compile(r"^\./proofs/(\S+)/Answers\.antt:\d+:\d+: error: \d+ declarations? that depends? on (.*?), which \w+ rejected, \w+ not checked: (.*)$", re.M)
 VERDICT = re.compile(r"^logic=", re.M)
@@ -283,14 +283,14 @@ class Checks:
         proved is not tried to its end. The check says so, and shows nothing of its mutant, which `waits`.
         """
         log, why = self.check_with([change for it in mutants.values() for change in it.changes], min(self.jobs, len(mutants)))
-        said = said_of(log)
-        strangers = [it for it, lines in said.items() if it not in mutants and REFUSED.search("\n".join(lines))]
+        said = {folder: "\n".join(lines) for folder, lines in said_of(log).items()}
+        strangers = [it for it, text in said.items() if it not in mutants and REFUSED.search(text) and not WAITS.search(text)]
         if why or strangers or not VERDICT.search(log):
             half, parts = len(mutants) // 2, list(mutants.items())
             return self.tried_at_once(dict(parts[:half])) | self.tried_at_once(dict(parts[half:])) if half else {}
         outcomes = {}
         for folder in mutants:
-            log = "\n".join([*said[folder], "logic=not-proved"])
+            log = said.get(folder, "") + "\nlogic=not-proved"
             outcomes[folder] = *(("waits", "") if WAITS.search(log) else by_check(log, self.goals)), log
         return outcomes
 
