@@ -1,4 +1,4 @@
--- Whose span is over, or is not.
+-- Which spans of time are over, and which are not.
 use Rattle.std.specs.Prelude.{◌≡◌}
 use Rattle.fair_lock.specs.declared.span.Span.{Span}
 use Rattle.fair_lock.specs.declared.span.Over.{Over}

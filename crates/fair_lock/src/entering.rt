@@ -1,4 +1,4 @@
-//! A thread enters.
+//! A thread enters the lock, with or without waiting.
 ghost use Rattle.std.specs.Prelude.{◌≡◌, ◌≤◌, true, false, IfOk, IfErr};
 ghost use Rattle.fair_lock.specs.Closing.{IsOut, IsToldShut, HasNoRequest, IfTryClosed, IfTryBusy};
 ghost use Rattle.lock_core.specs.Views.{InTime, IsSeatOf, IsAtTurn, IsOvertakenInBounds, IsHeadInside, ServedOpen, KnowsShut};

@@ -1,4 +1,5 @@
-//! A token without bytes, of what a seat showed at one moment. Only the function here makes it.
+//! A `Found` is a token without bytes that says what a seat showed at one moment. Only the function of this file makes
+//! one.
 ghost use Rattle.std.specs.Prelude.{◌≡◌, ◌<◌, ◌≤◌, ◌⊎◌};
 ghost use Rattle.lock_core.specs.Views.{InTime};
 ghost use Rattle.fair_lock.specs.Closing.{IsOut};

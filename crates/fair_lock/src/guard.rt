@@ -1,4 +1,4 @@
-//! A critical section at a lock, with the right to its value.
+//! The guard of a critical section: it has the right to the lock's value until it leaves.
 ghost use Rattle.std.specs.Prelude.{◌≡◌, ◌<◌, ◌≤◌, ◌∷◌, [], IsTrue};
 ghost use Rattle.std.specs.Borrow.{sem, Lends};
 ghost use Rattle.lock_core.specs.Views.{view_of, InTime, IsSeatOf, KnowsShut, SameKnown};

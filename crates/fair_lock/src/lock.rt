@@ -1,4 +1,4 @@
-//! A lock of a value: how it is made, and taken apart.
+//! The lock and its value: how a program makes a lock, and takes it apart.
 ghost use Rattle.std.specs.Prelude.{◌≡◌, ◌≤◌, IfOk, IfErr};
 ghost use Rattle.lock_core.specs.Layout.{IsValueTable};
 ghost use Rattle.lock_core.specs.Answers.{barging_limit_of, HasValidLimit, IsOpenErrorOf};

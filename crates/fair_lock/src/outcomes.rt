@@ -1,4 +1,4 @@
-//! Why a thread was not served, and what it has after its critical section.
+//! The outcomes of a critical section: why a thread was not served, and what it has after it left.
 ghost use Rattle.std.specs.Prelude.{◌≡◌};
 
 use crate::found::FoundTaken;

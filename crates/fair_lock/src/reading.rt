@@ -1,5 +1,5 @@
-//! A reading of the clock. Only the function here makes one, and none can be copied: a caller that shows one has read
-//! the clock.
+//! A reading of the clock. Only the function of this file makes one, and nobody can copy it. So a caller that shows a
+//! reading has read the clock.
 ghost use Rattle.std.specs.Prelude.{◌≡◌};
 
 use std::rt::Clock;

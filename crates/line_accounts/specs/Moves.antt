@@ -1,4 +1,4 @@
--- The change of a port's view of its line in a call of a desk. (Of this project.)
+-- How a call of a desk changes a port's view of its line. The definitions are this project's own.
 use Rattle.std.specs.Prelude.{◌≡◌, ◌⊎◌, ℕ, ◌+◌, ◌<◌, ◌≤◌, ◌^◌, Bool, true, false, List, take, slice_get, Some}
 use Rattle.line_lanes.specs.Lane.{lane_of}
 use Rattle.qolb_model.specs.declared.write.Write.{Write}

@@ -1,4 +1,4 @@
-//! Answers of a desk.
+//! The answers of a desk.
 ghost use Rattle.std.specs.Prelude.{◌≡◌, ℕ};
 
 /// The answer of a desk's call. Only `Done` changes a balance or a counter.

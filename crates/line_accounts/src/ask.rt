@@ -1,4 +1,4 @@
-//! The bounded acquire of a port of a line of accounts.
+//! A port of a line of accounts acquires its line with a bounded number of polls.
 ghost use Rattle.std.specs.Prelude.{◌≡◌, ◌≤◌, ◌+◌, Err, IfOk, IfErr, IsTrue};
 ghost use Rattle.qolb_model.specs.Counting.{IsWithinCalls};
 ghost use Rattle.line_accounts.specs.Desks.{IsAtRest, HasWaited};

@@ -1,4 +1,5 @@
-//! Transfers over two lines. The lower line is asked for first, and both balances are checked before either is written.
+//! Transfers between accounts of two lines. The desk requests the lower line first, and checks both balances before it
+//! writes either.
 ghost use Rattle.std.specs.Prelude.{◌≡◌, ◌≢◌, ◌⊎◌, ◌<◌, ◌≤◌, ◌+◌, Err, IfOk, IfErr, length};
 ghost use Rattle.qolb_model.specs.Counting.{IsWithinCalls};
 ghost use Rattle.qolb_model.specs.AtTurn.{IsGranted};

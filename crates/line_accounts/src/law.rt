@@ -1,4 +1,4 @@
-//! The law of a line of accounts.
+//! The data invariant of a line of accounts.
 use qolb_model::Keep;
 
 /// The largest balance of an account: 2^48.

@@ -1,4 +1,4 @@
-//! Settling: finishes all lines, and sums up their balances.
+//! Settling finishes all lines, and sums up their balances.
 ghost use Rattle.std.specs.Prelude.{◌≡◌, ◌+◌, ◌<◌, ◌≤◌, ℕ, All, List, length, map, slice_get, Some, IfOk, IfErr, IfSome, MatchBool, MatchOption};
 ghost use Rattle.qolb_model.specs.Finishing.{EachNode, IsLeast};
 ghost use Rattle.line_accounts.specs.Desks.{DeskOf, AreOver, IsDeskOver};

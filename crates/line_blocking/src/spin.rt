@@ -1,4 +1,4 @@
-//! Waiting for a line until it is granted or closed, by polls with pauses.
+//! A thread waits for a line until it is granted or closed, by polls with pauses between them.
 ghost use Rattle.std.specs.Prelude.{◌≡◌, IsTrue};
 ghost use Rattle.qolb_model.specs.PortStates.{may_ask};
 ghost use Rattle.line_blocking.specs.Acquiring.{Acquires, ComesSoon, EndsWait};

@@ -1,4 +1,5 @@
-//! Waiting for a line without a time limit, once a request is queued: the polls, and what a waiter does between them.
+//! A thread waits for a line without a timeout, once its request is queued. A strategy decides what the waiter does
+//! between two polls.
 ghost use Rattle.std.specs.Prelude.{◌≡◌};
 ghost use Rattle.line_blocking.specs.Acquiring.{EndsWait};
 

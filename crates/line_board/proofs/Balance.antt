@@ -1,4 +1,4 @@
--- The puts are the takes and then the tasks that are left.
+-- The puts are the takes, followed by the tasks that are left.
 use Rattle.std.proofs.Common.{◌≡◌, ℕ, List, [], ◌∷◌, ◌++◌, zero, suc, replicate, refl, ap, sym, ◌∙◌, append-nil, append_assoc}
 use Rattle.line_lanes.specs.Line.{zeros}
 use Rattle.qolb_model.specs.declared.end.End.{End}

@@ -1,4 +1,4 @@
--- The law of a board: the changes that a turn may make. (Of this project.)
+-- The data invariant of a board: the changes that a turn may make. The definitions are this project's own.
 use Rattle.std.specs.Prelude.{◌≡◌, ◌⊎◌, ℕ, List, [], ◌∷◌, ◌++◌, refl}
 use Rattle.std.proofs.Common.{inl}
 use Rattle.line_board.specs.Board.{Stand, IsBoard}

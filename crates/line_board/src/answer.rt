@@ -1,4 +1,4 @@
-//! Answers of a board's calls.
+//! The answers of a board's calls.
 
 /// The answer of `put`.
 #[derive(Clone, Copy, Debug, PartialEq, Eq)]

@@ -1,4 +1,4 @@
-//! The law of a board.
+//! The data invariant of a board.
 use qolb_model::Keep;
 
 /// The law of a board: a turn keeps the tasks, appends one, or removes the first.

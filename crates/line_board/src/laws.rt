@@ -1,4 +1,4 @@
-//! Laws of boards. Each is the contract of a function that does nothing.
+//! Theorems about boards. Each theorem is the contract of a function that does nothing.
 ghost use Rattle.line_board.specs.Laws.{BoardIsQueue, FinishedBoardIsQueue};
 
 /// States that a board that was opened empty is a queue: no task is lost, doubled or overtaken, as far as a port knows.

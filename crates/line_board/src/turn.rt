@@ -1,4 +1,4 @@
-//! The turn of a port that holds a board: the port changes the board or leaves it, and releases the line.
+//! The turn of a port that holds a board. The port changes the board or leaves it as it is, and releases the line.
 ghost use Rattle.std.specs.Prelude.{◌≡◌, ℕ, List, length, false, IsTrue};
 ghost use Rattle.qolb_model.specs.PortStates.{may_ask};
 ghost use Rattle.qolb_model.specs.Kept.{MayRelease};

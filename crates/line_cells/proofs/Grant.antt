@@ -1,5 +1,5 @@
--- A release grants the next cell: the request at its turn has ended. If the next one is not withdrawn the line is at home, else the node
--- still has it, and passes that request.
+-- A release grants the next cell, which ends the request at its turn. If the next request is not withdrawn, the line is
+-- at home. Otherwise the node still has the line, and passes that request.
 use Rattle.std.proofs.Common.{◌≡◌, ◌≢◌, ◌⊎◌, ℕ, ◌+◌, ◌<◌, ◌≤◌, List, [], ◌∷◌, ◌++◌, length, set, slice_index, Bool, true, false, Option, None, Some, ◌||◌, sym, refl, ap, ◌∙◌, subst, inl, inr, ⊎_elim, arith, length-append, mod-lt}
 use mathlib.Core.Logic.{dite}
 use mathlib.Core.List.{IsPrefix}

@@ -1,4 +1,4 @@
--- The invariant of a table whose nodes take tickets and wait on cells of an array.
+-- The invariant of a table whose nodes draw tickets and wait on the cells of an array.
 use Rattle.std.specs.Prelude.{◌≡◌, ◌≢◌, ◌⊎◌, ℕ, ◌+◌, ◌<◌, ◌≤◌, List, [], length, slice_index, slice_get, Bool, true, false, if◌then◌else◌, Some}
 use mathlib.Core.List.{IsPrefix}
 use mathlib.Core.Option.{some}

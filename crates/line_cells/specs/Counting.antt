@@ -1,4 +1,4 @@
--- The number of cells of a line that has no more of them than its nodes need.
+-- The number of cells of a line that has only as many cells as its nodes need.
 use Rattle.std.specs.Prelude.{ℕ, zero, suc, ◌+◌, ◌-◌, ◌^◌, if◌then◌else◌}
 use lib.Dec.{ltb}
 

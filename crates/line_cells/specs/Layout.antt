@@ -1,5 +1,5 @@
--- The places of a table's words: the ticket counter, a word for each node, and the cells between those, each apart from the
--- others. The places do not depend on the number of nodes.
+-- The places of a table's words: the ticket counter, a word for each node, and the cells between those, each on a cache
+-- line of its own. The places do not depend on the number of nodes.
 use Rattle.std.specs.Prelude.{◌≡◌, ◌≢◌, ℕ, ◌+◌, ◌*◌, ◌%◌, ◌^◌, ◌<◌, ◌≤◌, List, slice_index}
 use Rattle.qolb_model.specs.declared.config.TheConstants.{MAX_NODES}
 use Rattle.line_cells.specs.declared.layout.TheConstants.{STRIDE, BEHIND}

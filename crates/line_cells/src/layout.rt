@@ -1,4 +1,4 @@
-//! The words of a table: the ticket counter, a word for each node, and the cells. Any two are at
+//! The words of an array lock's table: the ticket counter, a word for each node, and the cells. Any two words are at
 //! least 64 bytes apart, so no two share a cache line of 64 bytes.
 ghost use Rattle.std.specs.Prelude.{◌≡◌, ◌≢◌, ℕ, ◌+◌, ◌<◌, ◌≤◌, MatchBool};
 ghost use Rattle.qolb_model.specs.declared.config.TheConstants.{MAX_NODES};

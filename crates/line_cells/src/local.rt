@@ -1,4 +1,4 @@
-//! The ghost state of a node of a table of tickets.
+//! The ghost state of a node of an array lock.
 use std::collections::LinkedList;
 
 /// The progress of a node in its calls.

@@ -1,4 +1,5 @@
--- What the calls of a discipline require and ensure of a node, by the number of nodes of the line and the token of the node's port.
+-- What the calls of a discipline require and ensure of a node, in terms of the number of nodes of the line and the
+-- token of the node's port.
 use Rattle.std.specs.Prelude.{◌≡◌, ◌≢◌, ◌⊎◌, ◌≤◌, ℕ, List, [], ◌∷◌, Bool, true, false}
 use Rattle.atomic_table.specs.Seated.{TableId}
 use Rattle.qolb_model.specs.declared.answer.PortState.{PortState}

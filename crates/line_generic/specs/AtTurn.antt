@@ -1,4 +1,4 @@
--- The turn, as a port sees it.
+-- What a port sees of its turn.
 use Rattle.std.specs.Prelude.{◌≡◌, ℕ, length, Option, Some}
 use Rattle.qolb_model.specs.declared.view.View.{View}
 use Rattle.qolb_model.specs.Histories.{turn_of}

@@ -1,5 +1,5 @@
--- What each call of a discipline requires and ensures of its node's seat: one record for each, by the phases `q` of its nodes, or all its ghost
--- state `d`, and the table `t`.
+-- What each call of a discipline requires and ensures of its node's seat. There is one record for each call, over the
+-- phases `q` of the discipline's nodes, or all its ghost state `d`, and over the table `t`.
 use Rattle.std.specs.Prelude.{◌≡◌, ◌≢◌, ℕ, ◌+◌, ◌<◌, ◌≤◌, List, length, Bool, Some, IsTrue}
 use Rattle.atomic_table.specs.declared.shared.Shared.{Shared}
 use Rattle.qolb_model.specs.declared.answer.PortState.{PortState}

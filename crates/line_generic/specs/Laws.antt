@@ -1,4 +1,4 @@
--- The laws of a discipline: what its words, its invariant and its slots give, each by one name.
+-- The theorems that a discipline must prove of its words, its invariant and its slots. Each has one name here.
 use Rattle.std.specs.Prelude.{◌≡◌, ℕ, List, [], ◌∷◌, ◌++◌, replicate, length, Bool, false, Option}
 use mathlib.Core.Option.{some, none}
 use lib.ListN.{get_elem?}

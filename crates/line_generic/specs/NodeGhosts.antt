@@ -1,4 +1,4 @@
--- The contents of a line's seats: ghost states of nodes, and slots.
+-- The contents of a line's seats: the ghost states of nodes, and slots.
 use Rattle.std.specs.Prelude.{◌≡◌, map, ℕ, true, List, [], None}
 use Rattle.atomic_table.specs.Table.{Me}
 use Rattle.atomic_table.specs.declared.shared.Seat.{Seat}

@@ -1,4 +1,4 @@
-//! Accepts a line that has reached its turn.
+//! A node accepts a line at its request's turn, or finds that the line is closed and forwards it.
 ghost use Rattle.std.specs.Prelude.{◌≡◌, ◌≢◌, ℕ, ◌+◌, ◌-◌, ◌≤◌};
 ghost use Rattle.qolb_model.specs.Calls.{IsGrantedOrTold};
 ghost use Rattle.line_generic.specs.Steps.{ghost_of, SeatAdvances};

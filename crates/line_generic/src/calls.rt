@@ -1,4 +1,4 @@
-//! The calls of `LineSync`, which all locks share.
+//! The calls of `LineSync`, written once for all kinds of lines.
 ghost use Rattle.std.specs.Prelude.{◌≡◌, ◌+◌, IfOk, IfErr, true, false};
 ghost use Rattle.qolb_model.specs.Calls.{MergesViews};
 ghost use Rattle.qolb_model.specs.OneOwner.{turn_after};

@@ -1,4 +1,5 @@
-//! Queue discipline: what a lock adds to the body that all locks share.
+//! The traits of a queue discipline: what one kind of line, with its queue algorithm, adds to the body that all kinds
+//! share.
 ghost use Rattle.std.specs.Prelude.{◌≡◌, ℕ, List, ◌<◌, ◌≤◌, ◌^◌, length, Bool, IfOk};
 ghost use Rattle.line_generic.specs.Laws.{HasAllowedStates, HasHolderWord, HasClosedWord, HasPollOutcome, HasFirstSplit, HasEmptySplit, HasJoin, HasSlots, HasOpening, HasMeeting, HasSlotReturn, HasFinalLine};
 ghost use mathlib.Core.Option.{some};

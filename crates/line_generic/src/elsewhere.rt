@@ -1,4 +1,5 @@
-//! Waiters that park outside the library: the line names the words on which they wait, and its caller unparks them.
+//! Waiters that park outside the library. The line names the words on which they wait, and the line's caller unparks
+//! them.
 ghost use Rattle.std.specs.Prelude.{◌≡◌, Some};
 ghost use Rattle.qolb_model.specs.declared.answer.PortState.TheVariants as port_state;
 ghost use Rattle.qolb_model.specs.declared.view.View.{View};

@@ -1,4 +1,4 @@
-//! Seats that are split and joined.
+//! Ports meet: their seats are joined for one step, which shows what both know, and split again.
 ghost use Rattle.line_generic.specs.Answers.{HaveMet};
 ghost use Rattle.line_generic.specs.Steps.{IsSeatOf, HasNoSlot, IsOfOneNode};
 

@@ -1,4 +1,4 @@
-//! Opens a line.
+//! A program opens a line, and gets a port for each node.
 ghost use Rattle.std.specs.Prelude.{◌≡◌, ◌<◌, ◌≤◌, [], length, vec_capacity, Some, None, IfOk, IfErr};
 ghost use Rattle.qolb_model.specs.declared.config.TheConstants.{MAX_NODES};
 ghost use Rattle.qolb_model.specs.Opening.{MayOpen, MayNotOpen};

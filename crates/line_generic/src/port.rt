@@ -1,4 +1,4 @@
-//! The port of a node.
+//! The port of a node: the value by which its owner calls the line.
 ghost use Rattle.std.specs.Prelude.{◌≡◌, ◌↔◌, IsTrue};
 
 use crate::discipline::DisciplineSpec;

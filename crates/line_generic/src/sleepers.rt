@@ -1,4 +1,5 @@
-//! The counts of a line's waiters that are parked or about to be; what a waiter does before it parks, and a release before it returns.
+//! The counts of a line's sleepers, which are the waiters that are parked or about to park. This file has what a waiter
+//! does before it parks, and what a release does before it returns.
 ghost use Rattle.std.specs.Prelude.{◌≡◌, ℕ, ◌<◌, ◌/◌, ◌%◌, ◌^◌};
 
 use crate::discipline::Discipline;

@@ -1,4 +1,4 @@
-//! The mask of a turn: ghost state, which only proofs read.
+//! The mask of a turn: the bytes that the turn has written. It is ghost state, which only proofs read.
 ghost use Rattle.std.specs.Prelude.{◌≡◌, ℕ, bit_or};
 ghost use Rattle.std.specs.Borrow.{ftrue};
 

@@ -1,4 +1,4 @@
-//! Parked waiters, and the releases that unpark them. No call of this file changes the table.
+//! Waiters park, and releases unpark them. No call of this file changes the table.
 ghost use Rattle.std.specs.Prelude.{◌≡◌, ℕ, ◌<◌, false, Option, None};
 ghost use Rattle.line_generic.specs.Answers.{IsSeatOfNode};
 ghost use Rattle.line_generic.specs.Steps.{IsInState};

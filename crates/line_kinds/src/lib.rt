@@ -1,6 +1,6 @@
-//! The locks by name: code over any line learns from here which locks there are.
+//! The kinds of lines by name. Code that works on any line learns from this crate which kinds there are.
 //!
-//! What else names each lock is listed in docs/CHANGING.md, "Another lock".
+//! The section "Another lock" of docs/CHANGING.md lists the other files that name each kind.
 #![tactic(auto)]
 
 ghost use Rattle.std.specs.Prelude.{◌≡◌, ◌+◌, ◌*◌};

@@ -1,4 +1,5 @@
--- The eight lanes of a line: lane k is the little-endian number of bytes 8k to 8k + 7. (Of this project.)
+-- The eight lanes of a line: lane k is the little-endian number in bytes 8k to 8k + 7. The definitions are this
+-- project's own.
 use Rattle.std.specs.Prelude.{ℕ, ◌+◌, ◌*◌, ◌^◌, ◌<◌, ◌≤◌, List, ◌++◌, map, sum, take, drop}
 use Rattle.std.specs.List.{range_with_len}
 use Rattle.std.specs.Simd.Lanes.{number_l, digits_l}

@@ -1,4 +1,4 @@
--- The promise of a step: a state that shows a queue leads to one that shows a queue after at most one move.
+-- The promise of a step: a state that shows a queue leads to a state that shows a queue after at most one move.
 use Rattle.std.specs.Prelude.{◌≡◌, ◌≢◌, ℕ, ◌+◌, ◌<◌, ◌≤◌, false, List, [], ◌∷◌, ◌++◌, length, take, slice_get, Some}
 use Rattle.qolb_model.specs.declared.config.LineConfig.{LineConfig}
 use Rattle.qolb_model.specs.declared.config.TheConstants.{MAX_NODES}

@@ -1,7 +1,8 @@
--- The queue that a state shows (refinement mapping). Each clause goes by place in the order of requests: those below `length ends` have
--- ended, the one at that place is at its turn, and the open ones from there on are those of the nodes in the list, the oldest first. (The
--- list of a line's requesters, with its head named at home, is of IEEE Std 1596-1992; queueing at the line and handing it over from the
--- tail is of Goodman, Vernon and Woest, 1989; the reversed links, the flags and what is shown by them are of this project.)
+-- The queue that a state shows (a refinement mapping). Each clause goes by place in the order of requests. The requests
+-- at places below `length ends` have ended, and the request at that place is at its turn. The open requests, from there
+-- on, are those of the nodes in the list, with the oldest first. (The list of a line's requesters, with its head named
+-- at home, is from IEEE Std 1596-1992. Queueing at the line and handing it over from the tail is of Goodman, Vernon and
+-- Woest, 1989. The reversed links, the flags, and what they show are this project's own.)
 use Rattle.std.specs.Prelude.{◌≡◌, ◌≢◌, ℕ, ◌+◌, ◌<◌, ◌≤◌, Bool, true, false, ◌||◌, List, [], ◌∷◌, ◌⊎◌, length, Some, slice_get, slice_index_or}
 use Rattle.link_core.specs.declared.point.Point.{Point}
 use Rattle.link_core.specs.declared.point.Point.TheVariants.{Idle, Ready, Linking, Queued, Holding, Leaving, Marking, Granting, Freeing, Left, Rolled, Shut}

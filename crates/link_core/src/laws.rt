@@ -1,4 +1,5 @@
-//! Laws of a core's events, for a lock whose words are those of a core. Each is the contract of a function that does nothing.
+//! Theorems about the events of a core, for a lock whose words are those of a core. Each theorem is the contract of a
+//! function that does nothing.
 
 ghost use Rattle.link_core.specs.Laws.{OpenedShows, EachEventKeeps, MovesAreMade, EventsAreEnabled, EventsHaveOneEffect, AddsFindUnset, NodesFind, SizesStay, LastsHavePlaces, WalksAreShort, EndsClose, RunsMove, FewAreOpen, EventsGoDown, OpenHaveWays, WaysStay, FewAreLeft, PathsAreShort, RunsAreShort};
 

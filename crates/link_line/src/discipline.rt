@@ -1,4 +1,4 @@
-//! The list as a queue discipline.
+//! The queue discipline of the link line.
 ghost use Rattle.link_line.specs.BetweenCalls.{steps_to_ask};
 ghost use Rattle.link_line.specs.Layout as layout;
 ghost use Rattle.link_line.specs.Laws.Lasting as lasting;

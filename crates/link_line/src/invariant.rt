@@ -1,4 +1,4 @@
-//! The queue discipline of a list, its ghost state and its invariant.
+//! The type of the link line's queue discipline, its ghost state, and its invariant.
 ghost use Rattle.link_line.specs.Laws.PortModel as port_model;
 ghost use Rattle.link_line.specs.BetweenCalls as between_calls;
 ghost use Rattle.link_line.specs.Layout as layout;

@@ -1,4 +1,4 @@
-//! The ghost state of a node of a list.
+//! The ghost state of a node of the list.
 use line_generic::Payload;
 use link_core::NodeCall;
 use std::collections::LinkedList;

@@ -1,26 +1,29 @@
-//! The word steps: each is one atomic operation on one word, sequentially consistent. The operation's type argument, from `plays`, is the
-//! ghost transition, which counts the step.
+//! The atomic steps. Each step is one sequentially consistent operation on one word. The type argument of the
+//! operation, from `plays`, is the ghost transition that counts the step.
 //!
-//! - A *node* is a participant. Its queue node (in the sense of MCS) is one word: its *entry*.
-//! - A *seat* is a node's access to the shared table: its node's ghost state (`me.0`, a list of one: `IsOfOneNode`), and
-//!   the slot with the line while the seat has it (`me.1`).
-//! - The *home word* names the last node of the queue, as MCS's tail does, and is 0 if the line is at home. The line's 64 bytes stay in one
-//!   slot: "at home" and "left in an entry" only say whose next step takes them. A holder works on a copy in its port, which its release
-//!   stores back before its first step.
-//! - A *late linker* has swapped the home word and has not linked to its predecessor yet.
-//! - A request is *at its turn* once the line was granted to it, left for it or found at home. Its node's seat *has* the line from the step
-//!   that finds this. Its port *holds* the line only if the line is not closed.
-//! - A request is *joined* once it needs no link any more: it found the line at home, or is linked.
-//! - The *current request* of a release is at first the releasing node's own. To *pass* a withdrawn successor is to make its request the
-//!   current one and to go on from its entry with the line. The step that passes the next one or gives the line up ends the current
-//!   request.
-//! - A node's last request is *clear* if no other node will use the entry on account of it. The next request is then not answered `Busy`.
+//! - A *node* is a participant. Its queue node (in the sense of MCS) is one word, which is called its *entry*.
+//! - A *seat* is a node's access to the shared table. It has the ghost state of the node (`me.0`, a list of one:
+//!   `IsOfOneNode`), and the slot with the line while the seat has it (`me.1`).
+//! - The *home word* names the last node of the queue, as the tail of MCS does, and is 0 if the line is at home. The
+//!   line's 64 bytes stay in one slot: "at home" and "left in an entry" only say whose next step takes them. A holder
+//!   works on a copy in its port, and its release stores the copy back before its first step.
+//! - A *late linker* is a node that has swapped the home word and has not linked to its predecessor yet.
+//! - A request is *at its turn* once the line was granted to it, left for it, or found at home. Its node's seat *has*
+//!   the line from the step that finds this. Its port *holds* the line only if the line is not closed.
+//! - A request is *joined* once it needs no link any more, because it found the line at home or is linked.
+//! - The *current request* of a release is at first the releasing node's own. To *pass* a withdrawn successor is to
+//!   make its request the current one and to go on from its entry with the line. The step that passes the next
+//!   successor or gives the line up ends the current request.
+//! - A node's last request is *clear* once no other node will use the node's entry because of it. The node's next
+//!   request is then not answered `Busy`.
 //! - A view's `count` is the number of its node's requests.
-//! - A node's *point* says which step it takes next: `Idle` or `Shut` reset; `Left` load_left; `Rolled` load_rolled; `Ready` prepend;
-//!   `Linking` link; `Queued` load or roll; `Holding` home, from its own entry, also if it found its turn on a closed line; `Leaving` home,
-//!   from the node that it passed last; `Marking` done; `Granting` grant; `Freeing` free.
+//! - A node's *point* says which step it takes next: `Idle` or `Shut` reset; `Left` load_left; `Rolled` load_rolled;
+//!   `Ready` prepend; `Linking` link; `Queued` load or roll; `Holding` home, from its own entry, also if it found its
+//!   turn on a closed line; `Leaving` home, from the node that it passed last; `Marking` done; `Granting` grant;
+//!   `Freeing` free.
 //!
-//! Each flag, and the link, is added to an entry at most once between two resets, so no addition carries into another field.
+//! Each flag, and the link, is added to an entry at most once between two resets, so no addition carries into another
+//! field.
 ghost use Rattle.std.specs.Prelude.{◌≡◌, ◌≢◌, ◌⊎◌, ℕ, ◌≤◌, ◌∷◌, [], List, true, false};
 ghost use Rattle.qolb_model.specs.declared.request.Request.{Request};
 ghost use Rattle.qolb_model.specs.Enqueueing.{Asks, IsJoined};

@@ -1,4 +1,4 @@
--- The lock word: newcomers and heads take it and leave it.
+-- Newcomers and queue heads take the lock word and leave it.
 use Rattle.std.proofs.Common.{◌≡◌, ◌≢◌, ℕ, ◌+◌, ◌*◌, ◌/◌, ◌%◌, ◌<◌, ◌≤◌, ◌-◌, inr, set, slice_index, sym, refl, ap, ◌∙◌, subst, arith, length-set, get_or-set_same, get_or-set_other, eqb, eq-eqb, ne_eqb, ⊎_elim}
 use mathlib.Core.Option.{none, some}
 use mathlib.Core.Logic.{dite}

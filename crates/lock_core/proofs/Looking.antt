@@ -1,4 +1,4 @@
--- A waiter's steps on its cell: it looks, it counts itself, it takes its count away.
+-- The steps of a waiter on its cell: it looks, counts itself as a sleeper, and takes its count back.
 use Rattle.std.proofs.Common.{◌≡◌, ◌≢◌, ℕ, ◌+◌, ◌-◌, ◌*◌, ◌/◌, ◌%◌, ◌<◌, ◌≤◌, set, slice_index, sym, refl, ap, ◌∙◌, subst, arith, length-set, get_or-set_other, ⊎_elim, inl, inr, eqb, eq-eqb, ne_eqb}
 use mathlib.Core.Logic.{dite}
 use mathlib.Core.Option.{none, some}

@@ -1,4 +1,4 @@
--- What two callers know of one another.
+-- Two callers meet, and each learns what the other knows.
 use Rattle.std.proofs.Common.{◌≡◌, ◌≢◌, ℕ, ◌%◌, ◌<◌, ◌≤◌, List, [], ◌∷◌, ◌++◌, set, slice_index, sym, refl, ap, ◌∙◌, subst, arith, ⊎_elim, max}
 use mathlib.Core.Option.{none, some}
 use lib.ListN.{get_elem?}

@@ -1,4 +1,4 @@
--- What a step finds is noted in the view of its seat, and the invariant does not depend on that.
+-- The view of a seat notes what a step found. The invariant does not depend on these notes.
 use Rattle.std.proofs.Common.{◌≡◌, ◌≢◌, ℕ, zero, suc, ◌+◌, ◌*◌, ◌-◌, ◌/◌, ◌%◌, ◌^◌, ◌<◌, ◌≤◌, List, [], ◌∷◌, set, slice_index, sym, refl, subst, arith, eqb}
 use mathlib.Core.Option.{none, some, some-ne-none}
 use lib.ListN.{get_elem?}

@@ -1,5 +1,5 @@
--- The value in the slot: a step that a table without a slot allows is allowed with one, where whoever is served from then on takes the value, and who ends that
--- gives it back.
+-- The value in the slot. If a table without a slot allows a step, a table with one allows it too: a caller that is
+-- served from that step on takes the value, and a caller that is no longer served gives it back.
 use Rattle.std.proofs.Common.{◌≡◌, ◌≢◌, ℕ, suc, ◌+◌, ◌-◌, ◌*◌, ◌/◌, ◌%◌, ◌^◌, ◌<◌, ◌≤◌, List, [], ◌∷◌, map, length, set, slice_index, sym, refl, ap, ◌∙◌, subst, arith, eqb, length-set, ⊎_elim}
 use mathlib.Core.Logic.{dite}
 use mathlib.Core.Option.{Option, none, some, some-injective}

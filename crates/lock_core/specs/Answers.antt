@@ -1,4 +1,4 @@
--- What the answers of calls say, by their cases.
+-- These definitions say which claim holds for each answer of a call.
 use Rattle.std.specs.Prelude.{◌≡◌, ℕ, Bool, ◌<◌, ◌≤◌}
 use Rattle.lock_core.specs.declared.opening.LockKind.{LockKind}
 use Rattle.lock_core.specs.declared.opening.LockKind.TheVariants as kind

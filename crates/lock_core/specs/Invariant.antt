@@ -1,4 +1,4 @@
--- The invariant that the words and the views keep.
+-- The invariant that relates the words of a lock to the views of its callers.
 use Rattle.std.specs.Prelude.{◌≡◌, ◌≢◌, ℕ, ◌+◌, ◌*◌, ◌/◌, ◌%◌, ◌<◌, ◌≤◌, ◌⊎◌, List, [], ◌∷◌, length, slice_index, ◌==◌}
 use Rattle.std.specs.Int.{bit_at}
 use mathlib.Core.Option.{some}

@@ -1,4 +1,4 @@
--- What a caller's last atomic steps found: so an answer that gives up says what the word showed.
+-- What the last atomic steps of a caller found. By these definitions, a call that gives up can say which word it found.
 use Rattle.std.specs.Prelude.{◌≡◌, ◌≢◌, ℕ, Bool, true, false, ◌+◌, ◌*◌, ◌/◌, ◌%◌, ◌<◌, ◌≤◌, ◌⊎◌}
 use Rattle.atomic_table.specs.Table.{Step}
 use Rattle.atomic_table.specs.declared.shared.Seat.{Seat}

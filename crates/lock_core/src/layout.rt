@@ -1,13 +1,13 @@
-//! The words of a lock, what each packs, and the limits of a lock. Each of these numbers has its name here alone.
+//! The words of a lock, what each word packs, and the limits of a lock. Each of these numbers has its name only here.
 //!
-//! - Word 0 is the lock word. Bit 0: a handoff is requested. Bit 1: the queue head sleeps there. Bits 2 and 3: its state
-//!   (0 free, 1 held, 2 reserved for the queue head). Bit 4: the lock is shut. From bit 5 on: the *newcomers*, which are
-//!   the threads that barged, since the last queue head.
+//! - Word 0 is the lock word. Bit 0 says that a handoff is requested, and bit 1 that the queue head sleeps there. Bits
+//!   2 and 3 are the state: 0 is free, 1 is held, and 2 is reserved for the queue head. Bit 4 says that the lock is
+//!   shut. The bits from 5 on count the *newcomers*, which are the threads that have barged since the last queue head.
 //! - Words 1 to 15 are never written.
-//! - Word 16 is the tail, the number of the next ticket.
-//! - Words 17 to 20 are cells. Ticket t has cell t mod 4, in round t div 4. Bits 0 to 15 of a cell: the withdrawn
-//!   requests, by their round modulo 16. Bits 16 to 31: a count of sleepers. From bit 34 on: the granted rounds modulo
-//!   2^30.
+//! - Word 16 is the tail, which is the number of the next ticket.
+//! - Words 17 to 20 are cells. Ticket t has cell t mod 4, in round t div 4. Bits 0 to 15 of a cell mark the withdrawn
+//!   requests, each by its round modulo 16. Bits 16 to 31 count sleepers. The bits from 34 on count the granted rounds
+//!   modulo 2^30.
 ghost use Rattle.std.specs.Prelude.{◌≡◌, ◌≢◌, ◌+◌, ◌/◌, ◌%◌, ◌^◌, true, false};
 ghost use Rattle.std.specs.Int.{bit_at};
 ghost use Rattle.lock_core.specs.Layout.{cell_at, bit_of, count_of, rounds_of, shut_of, state_of, to_go};

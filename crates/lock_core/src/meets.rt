@@ -1,7 +1,7 @@
 //! The theorems about two callers of a lock.
 //!
-//! A clause speaks of the seat of one caller. A theorem about two callers is therefore a function that is lent both seats
-//! and ensures that the two cannot meet. No program calls these functions; the proof of a caller may.
+//! A clause speaks of the seat of one caller. A theorem about two callers is therefore a function that borrows both
+//! seats and ensures that the two cannot meet. No program calls these functions, but the proof of a caller may.
 ghost use Rattle.std.specs.Prelude.{◌≡◌, ◌<◌, ◌≤◌, []};
 ghost use Rattle.lock_core.specs.Layout.{HasLockWords, IsLockTable};
 ghost use Rattle.lock_core.specs.Views.{view_of, InTime, NeverInTime, LoadGrows, KeepsValue, IsSeatOf, IsIdle, IsOutside, HasTurn, HasTurnAwake, IsNotServed, KnowsShut, LeftQuietly, ServedOpen, SleepsAtLockWord};

@@ -1,4 +1,4 @@
-//! A turn of the queue is released, and the lock word is left.
+//! Releases: the caller at its turn grants the next ticket, and the caller that holds the lock word leaves it.
 ghost use Rattle.std.specs.Prelude.{◌≡◌, ◌+◌, ◌%◌, ◌^◌, ◌≤◌, true, false, ◌≢◌, ◌/◌, ◌<◌};
 ghost use Rattle.lock_core.specs.Layout.{max_passed, HasLockWords, cell_at, count_of, lock_word_at, state_of, asleep_of};
 ghost use Rattle.lock_core.specs.Views.{view_of, InTime, InTimeFrom, LoadGrows, IsSeatOf, IsIdle, IsAtTurn, IsPassing, HasTurnOf, HasGrantedNext, HasNextTicket, HasEnded, IsNotServed, SameRequest, SameNewcomersSeen, SameOvertaking, GrantedAfter, GrantedToNobodyAsleep, SameTurn, IsInside, IsOutside, LeftQuietly, SameNewcomer, SameKnown, LeavesSameTake, SameDoor};

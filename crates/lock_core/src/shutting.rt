@@ -1,4 +1,5 @@
-//! A lock is shut by the caller that is served, and reopened by a caller at its turn with nobody behind it.
+//! Closing: the caller that is served shuts the lock, and a caller at its turn reopens it if no request is behind its
+//! own.
 ghost use Rattle.std.specs.Prelude.{◌≡◌, ◌≢◌, ◌+◌, ◌%◌, ◌^◌, ◌≤◌, true, false};
 ghost use Rattle.lock_core.specs.Layout.{HasLockWords, tail_at};
 ghost use Rattle.lock_core.specs.Views.{view_of, InTime, InTimeFrom, LoadGrows, IsSeatOf, IsAtTurn, HasTurnOf, Kept, KnowsShut, ServedOpen, ServedShut, SameKnown, SameNewcomersSeen, SameSleepAtLockWord, IsLaterEpoch, KeepsValue};

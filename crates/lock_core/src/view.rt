@@ -1,4 +1,4 @@
-//! What a caller knows of a lock. Only proofs see it.
+//! What a caller knows of a lock. These types exist only in proofs.
 
 /// A caller's request, as far as the caller knows.
 pub enum Phase {

@@ -1,4 +1,4 @@
-//! A waiter polls, and announces and retracts its sleep.
+//! Waiting: a waiter polls its cell, announces that it is about to sleep, and retracts the announcement.
 ghost use Rattle.std.specs.Prelude.{◌≡◌, ◌<◌, ◌⊎◌};
 ghost use Rattle.lock_core.specs.Layout.{max_sleepers, HasLockWords, cell_at, count_of, to_go};
 ghost use Rattle.lock_core.specs.Views.{view_of, InTime, InTimeFrom, LoadGrows, IsSeatOf, IsQueued, IsQueuedWithin, IsAsleep, IsAtTurn, IsOvertakenInBounds, SameRequest, SameTurn};

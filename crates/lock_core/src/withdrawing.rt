@@ -1,4 +1,4 @@
-//! A waiter withdraws its request.
+//! Withdrawal: a waiter gives up its request.
 ghost use Rattle.std.specs.Prelude.{◌≡◌, ◌<◌, ◌≤◌, true, false};
 ghost use Rattle.lock_core.specs.Layout.{withdrawal_window, HasLockWords};
 ghost use Rattle.lock_core.specs.Views.{view_of, InTime, InTimeFrom, LoadGrows, IsSeatOf, IsIdle, IsQueuedWithin, IsAtTurn, IsOvertakenInBounds, SameRequest, SameTurn};

@@ -1,6 +1,7 @@
-//! The calls of a lock that many threads share, for C: `c/src/core.h` declares them.
+//! The exports for C of a lock that many threads share. `c/src/core.h` declares them.
 //!
-//! C has a lock by a reference, which it may copy, and a request by a ticket of its own. What C owes for it is in that header.
+//! C has a lock by a reference, which it may copy, and a request by a ticket of its own. That header says what C must
+//! guarantee in return.
 ghost use Rattle.std.specs.Prelude.{◌≡◌, ◌≢◌, true};
 ghost use Rattle.lock_core.specs.Views.{SameRequest};
 ghost use Rattle.qolb_locks.specs.declared.answer.Answer.{Answer};

@@ -1,4 +1,4 @@
--- Two tickets of one lock, that meet. (Of this project.)
+-- What holds if two tickets of one lock meet. The definitions are this project's own.
 use Rattle.std.specs.Prelude.{◌≡◌, ◌≤◌, ◌⊎◌, [], ◌∷◌}
 use Rattle.lock_core.specs.declared.view.View.{View}
 use Rattle.lock_core.specs.Views.{max_newcomers_of}

@@ -1,4 +1,4 @@
-//! The answers of calls.
+//! The answers of the calls, as C gets them.
 
 /// The answer of a call. Its number is C's.
 #[derive(Clone, Copy, Debug, PartialEq, Eq)]

@@ -1,4 +1,4 @@
-//! Barging: a thread takes the lock word without a number of the queue, and overtakes the queue.
+//! Barging: a thread takes the lock word without a number of the queue, and so overtakes the queue.
 //!
 //! A thread that barges is a *newcomer* (`lock_core`).
 ghost use Rattle.qolb_locks.specs.declared.answer.Answer.{Answer};

@@ -1,4 +1,4 @@
-//! The queue head takes the lock word, and announces its sleep there.
+//! The queue head takes the lock word, requests a handoff, and announces its sleep there.
 ghost use Rattle.lock_core.specs.Views.{SameRequest};
 ghost use Rattle.qolb_locks.specs.declared.answer.Answer.{Answer};
 ghost use Rattle.qolb_locks.specs.declared.ticket.State.{State};

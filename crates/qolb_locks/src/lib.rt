@@ -1,7 +1,7 @@
-//! Locks behind handles for C: what a caller has of a lock is a reference to it, and a ticket.
+//! Locks of `lock_core` behind handles for C. A caller has a reference to the lock, and a ticket of its own.
 //!
-//! A call first checks the ticket's state. If that does not allow the call, the answer is `Misuse` and nothing changes. Each call is made of a
-//! fixed number of atomic steps, and none waits.
+//! Each call first checks the state of the ticket. If that state does not allow the call, the answer is `Misuse` and
+//! nothing changes. Each call takes a bounded number of atomic steps, and none waits.
 #![tactic(auto)]
 
 mod answer;

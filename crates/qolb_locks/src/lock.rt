@@ -1,4 +1,4 @@
-//! A lock, as its callers share it.
+//! The type of a lock, as its callers share it.
 ghost use Rattle.std.specs.Prelude.{◌≡◌};
 ghost use Rattle.lock_core.specs.Layout.{IsLockTable};
 

@@ -1,4 +1,4 @@
-//! A turn of the queue is released, and the lock word is left.
+//! Releases: the ticket at its turn grants the next number, and the ticket that holds the lock word leaves it.
 ghost use Rattle.std.specs.Prelude.{◌≡◌, ◌+◌, ◌%◌, ◌^◌, true, false};
 ghost use Rattle.lock_core.specs.Layout.{max_passed};
 ghost use Rattle.lock_core.specs.Views.{HasEnded, HasTurnOf, IsIdle};

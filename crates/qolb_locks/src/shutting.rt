@@ -1,4 +1,4 @@
-//! A lock is shut, and reopened.
+//! Closing: a ticket shuts the lock, looks whether it is open, and reopens it.
 ghost use Rattle.std.specs.Prelude.{◌≡◌, ◌≢◌, ◌+◌, ◌-◌, ◌%◌, ◌^◌, true, false};
 ghost use Rattle.lock_core.specs.Views.{HasTurnOf, ServedOpen, ServedShut};
 ghost use Rattle.qolb_locks.specs.declared.ticket.State.{State};

@@ -1,4 +1,4 @@
-//! A caller's request, as C holds it.
+//! A ticket: the request of one caller, in memory that C holds.
 ghost use Rattle.std.specs.Prelude.{◌≡◌, ◌<◌, ◌≤◌, true, false};
 ghost use Rattle.qolb_locks.specs.declared.answer.Answer.{Answer};
 ghost use Rattle.qolb_locks.specs.Calls.{IsHead};

@@ -1,4 +1,4 @@
-//! A waiter polls, and announces and retracts its sleep.
+//! Waiting: a ticket polls, announces that its thread is about to sleep, and retracts the announcement.
 ghost use Rattle.lock_core.specs.Views.{SameRequest};
 ghost use Rattle.qolb_locks.specs.declared.ticket.State.{State};
 ghost use Rattle.qolb_locks.specs.Calls.{IsMisuse, OnlyRounds, OnlySleep, StepsUpTo, Learns, Looks, AnnouncesSleep};

@@ -1,4 +1,4 @@
-//! A waiter withdraws its request.
+//! Withdrawal: a ticket gives up its request.
 ghost use Rattle.lock_core.specs.Views.{SameRequest};
 ghost use Rattle.qolb_locks.specs.declared.ticket.State.{State};
 ghost use Rattle.qolb_locks.specs.Calls.{IsMisuse, OnlyState, StepsUpTo, Learns, IfGranted, Withdraws};

@@ -1,5 +1,5 @@
--- A port's call on a line whose other ports know its whole history: what it answers is what the state of one owner has, and what
--- the port then knows is the state that this leaves.
+-- A port's call on a line whose other ports know its whole history. The answer is the one that the state of one owner
+-- gives, and what the port knows afterwards is the state that the call leaves.
 use Rattle.std.proofs.Common.{◌≡◌, ◌≢◌, ℕ, ◌≤◌, ◌==◌, ◌⊎◌, inl, inr, Bool, true, false, ◌&&◌, ◌||◌, if◌then◌else◌, List, [], ◌∷◌, ◌++◌, length, Some, slice_get, refl, ap, sym, ◌∙◌, subst, arith}
 use Rattle.std.specs.Option.{option_map_or}
 use Rattle.std.proofs.Math.Bool.{or-false}

@@ -1,4 +1,4 @@
--- The longer of two beginnings of one list, and what ports know once they have met.
+-- The longer of two prefixes of one list, and what ports know once they have met.
 use Rattle.std.proofs.Common.{◌≡◌, ◌<◌, ◌≤◌, inl, inr, cond, List, [], ◌∷◌, length, ap, sym, ◌∙◌, subst, arith}
 use Rattle.std.proofs.lemmas.Bool.{lt-ltb, le-ltb, cases_order}
 use mathlib.Core.List.{IsPrefix}

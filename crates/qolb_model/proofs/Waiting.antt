@@ -1,4 +1,4 @@
--- The nodes that wait are distinct and not more than the line has nodes, whatever step is made.
+-- The waiting nodes are distinct, and no more than the line has nodes, after every step.
 use Rattle.std.proofs.Common.{◌≡◌, ℕ, ◌+◌, ◌<◌, ◌≤◌, ◌==◌, eqb, inl, inr, Bool, true, false, ◌||◌, cond, if◌then◌else◌, List, [], ◌∷◌, ◌++◌, map, length, take, drop, Some, refl, ap, sym, ◌∙◌, arith, Option}
 use Rattle.std.specs.List.{list_any, find, IsDistinct, AllByRecursion}
 use Rattle.std.specs.Option.{is_some}

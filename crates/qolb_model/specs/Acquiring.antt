@@ -1,4 +1,5 @@
--- Acquiring a line with a bounded number of polls. `old` and `new` are the port's views before and after. (Of this project.)
+-- A port acquires a line with a bounded number of polls. `old` and `new` are the port's views before and after. The
+-- definitions are this project's own.
 use Rattle.std.specs.Prelude.{◌≡◌, ◌≢◌, ℕ, ◌<◌, false, List, slice_get, Some}
 use Rattle.qolb_model.specs.declared.write.Write.{Write}
 use Rattle.qolb_model.specs.declared.end.End.{End}

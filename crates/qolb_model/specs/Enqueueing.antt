@@ -1,4 +1,4 @@
--- Requesting the line. (A requester puts itself at the head of the line's list: IEEE Std 1596-1992.)
+-- A node requests the line. (That a requester puts itself at the head of the line's list is from IEEE Std 1596-1992.)
 use Rattle.std.specs.Prelude.{◌≡◌, ◌≢◌, ◌⊎◌, ℕ, ◌+◌, ◌≤◌, length, slice_get, Some}
 use Rattle.qolb_model.specs.declared.answer.PortState.TheVariants.{Left, Rolled}
 use Rattle.qolb_model.specs.declared.view.View.{View}

@@ -1,4 +1,5 @@
--- Histories of a line: an order of requests, and the ends of the first of them. (Of this project.)
+-- A history of a line is an order of requests, together with the ends of the first of them. The definitions are this
+-- project's own.
 use Rattle.std.specs.Prelude.{◌≡◌, ℕ, ◌+◌, ◌<◌, ◌≤◌, List, ◌++◌, [], ◌∷◌, length, take, drop, Option, Some, slice_get}
 use Rattle.qolb_model.specs.declared.request.Request.{Request}
 use Rattle.qolb_model.specs.declared.end.End.{End}

@@ -1,4 +1,5 @@
--- Laws of histories, and of views of one history: the least that the definitions must imply. (Of this project.)
+-- Theorems about histories, and about views of one history. The definitions must imply at least these. The theorems are
+-- this project's own.
 use Rattle.std.specs.Prelude.{◌≡◌, ◌≢◌, ℕ, ◌+◌, ◌<◌, ◌≤◌, true, false, List, [], ◌∷◌, length, take, slice_get, filter, Option, None, Some}
 use Rattle.std.specs.List.{sum_by}
 use mathlib.Core.List.{IsPrefix}

@@ -1,4 +1,5 @@
--- Leases: a line may be opened for a number of served turns, the last of which closes it. (Of this project.)
+-- Leases: a program may open a line with a limit on the number of served turns, and the last of these turns closes the
+-- line. The definitions are this project's own.
 use Rattle.std.specs.Prelude.{ℕ, ◌+◌, ◌-◌, ◌≤◌, ◌==◌, Bool, false, ◌||◌, List, Option, Some, None, count_by}
 use Rattle.qolb_model.specs.declared.end.End.{End}
 use Rattle.qolb_model.specs.EndKinds.{is_served}

@@ -1,4 +1,5 @@
--- Enqueueing in two calls: a request is made, and then linked to its predecessor's. (The prepend of IEEE Std 1596-1992.)
+-- A node may request the line in two calls: the first makes the request, and the second links it to its predecessor's.
+-- (The first call is the prepend of IEEE Std 1596-1992.)
 use Rattle.std.specs.Prelude.{◌≡◌}
 use Rattle.qolb_model.specs.declared.answer.PortState.TheVariants.{Linking}
 use Rattle.qolb_model.specs.declared.view.View.{View}

@@ -1,4 +1,4 @@
--- Views of ports that are all true of one history of a line. (Of this project.)
+-- When the views of several ports are all true of one history of a line. The definitions are this project's own.
 use Rattle.std.specs.Prelude.{◌≡◌, ℕ, ◌≤◌, false, List, [], length, slice_get, Some}
 use mathlib.Core.List.{IsPrefix}
 use Rattle.qolb_model.specs.declared.answer.PortState.TheVariants.{Holding}

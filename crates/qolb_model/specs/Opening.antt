@@ -1,4 +1,4 @@
--- Opening a line, and the first views of its ports. (Of this project.)
+-- Opening a line, and the first views of its ports. The definitions are this project's own.
 use Rattle.std.specs.Prelude.{◌≡◌, ◌⊎◌, ℕ, ◌+◌, ◌<◌, ◌≤◌, List, [], length, map, slice_get, Some}
 use Rattle.std.specs.List.{All}
 use Rattle.qolb_model.specs.declared.answer.OpenError.{OpenError}

@@ -1,4 +1,4 @@
--- A port that meets others, one after another. (Of this project.)
+-- A port meets other ports, one after another. The definitions are this project's own.
 use Rattle.std.specs.Prelude.{◌≡◌, ℕ, List, [], ◌∷◌, ◌++◌, length}
 use Rattle.qolb_model.specs.Calls.{MergesViews}
 use Rattle.qolb_model.specs.Whole.{ViewAndTurn}

@@ -1,4 +1,4 @@
--- What is true of a port's view after each call, and so between calls. (Of this project.)
+-- What is true of a port's view after each call, and therefore between calls. The definitions are this project's own.
 use Rattle.std.specs.Prelude.{◌≡◌, ◌⊎◌, ℕ, ◌+◌, ◌<◌, ◌≤◌, false, List, [], ◌∷◌, length, slice_get, Some}
 use Rattle.qolb_model.specs.declared.request.Request.{Request}
 use Rattle.qolb_model.specs.declared.config.LineConfig.{LineConfig}

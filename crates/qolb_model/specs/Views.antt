@@ -1,4 +1,4 @@
--- A port's view of its line, and how it grows. (Of this project.)
+-- What a port knows of its line (its view), and how that knowledge grows. The definitions are this project's own.
 use Rattle.std.specs.Prelude.{◌≡◌, ℕ, List}
 use mathlib.Core.List.{IsPrefix}
 use Rattle.qolb_model.specs.declared.request.Request.{Request}

@@ -1,4 +1,4 @@
-//! The configuration of a line.
+//! The configuration with which a line is opened.
 ghost use Rattle.std.specs.Prelude.{◌≢◌, MatchResult};
 ghost use Rattle.qolb_model.specs.Opening.{MayOpen, MayNotOpen};
 

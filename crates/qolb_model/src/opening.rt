@@ -1,4 +1,4 @@
-//! Lines that can be opened.
+//! The trait of lines that a program can open.
 ghost use Rattle.std.specs.Prelude.{IfOk, IfErr};
 ghost use Rattle.qolb_model.specs.Opening.{MayOpen, MayNotOpen, Opens};
 

@@ -1,4 +1,4 @@
-//! Lines on which a waiter can park.
+//! The trait of lines on which a waiter can park.
 ghost use Rattle.std.specs.Prelude.{◌≡◌};
 
 use crate::answer::PortState;

@@ -1,4 +1,4 @@
-//! The number of a port's polls: ghost state, which only proofs read.
+//! The number of polls of a port. It is ghost state, which only proofs read.
 ghost use Rattle.std.specs.Prelude.{◌≡◌, ℕ, ◌+◌};
 ghost use Rattle.std.specs.Borrow.{ftrue};
 

@@ -1,4 +1,5 @@
-//! The trait of a lock: its calls, the promise of each, and what is true of a port between calls.
+//! The trait `LineSync` of a shared line: its calls, the promise of each call, and what is true of a port between
+//! calls.
 ghost use Rattle.std.specs.Prelude.{◌≡◌, ◌≢◌, ◌↔◌, ℕ, true, false, All, Some, IsTrue, IfOk, IfErr, map};
 ghost use Rattle.qolb_model.specs.declared.config.LineConfig.{LineConfig};
 ghost use Rattle.qolb_model.specs.declared.answer.PortState.{PortState};

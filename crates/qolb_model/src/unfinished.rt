@@ -1,4 +1,4 @@
-//! A line that could not be finished, and the cause.
+//! What `finish` returns if it could not finish a line: the line, its ports, and the cause.
 ghost use Rattle.std.specs.Prelude.{◌≡◌, ℕ};
 
 /// The cause for which a line could not be finished.

@@ -1,4 +1,5 @@
--- The promise of each call of a node of any kind. `was` and `now` are the node before and after. (Of this project.)
+-- The promise of each call of a node of any kind. `was` and `now` are the node before and after the call. The
+-- definitions are this project's own.
 use Rattle.std.specs.Prelude.{◌≡◌, ◌≢◌, ℕ, ◌+◌, ◌<◌, ◌≤◌, List, Bool, true}
 use Rattle.line_lanes.specs.Lane.{lane_of}
 use Rattle.qolb_model.specs.declared.answer.Enq.TheVariants as enq

@@ -1,4 +1,4 @@
-//! A node of a shared line, for any kind of line.
+//! A node of a shared line of one kind.
 ghost use Rattle.std.specs.Prelude.{◌≡◌, ◌<◌, ◌≤◌, Some, MatchOption};
 ghost use Rattle.std.specs.Arc.{arc_value};
 ghost use Rattle.qolb_model.specs.Calls.{Polls};

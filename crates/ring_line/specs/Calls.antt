@@ -1,4 +1,5 @@
--- What a release, and the walk over withdrawn requests in it, require and ensure of the holder's seat: one record for each.
+-- What a release requires and ensures of the holder's seat, and what the walk over withdrawn requests in it does. There
+-- is one record for each of the two.
 use Rattle.std.specs.Prelude.{◌≡◌, ◌≢◌, ℕ, ◌+◌, ◌*◌, ◌≤◌, List, [], ◌∷◌, length}
 use Rattle.atomic_table.specs.Seated.{TableId}
 use Rattle.qolb_model.specs.declared.config.TheConstants.{MAX_NODES}

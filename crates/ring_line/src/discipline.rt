@@ -1,4 +1,4 @@
-//! The ring as a queue discipline.
+//! The queue discipline of the ring.
 ghost use Rattle.std.specs.Prelude.{◌≡◌};
 ghost use Rattle.qolb_model.specs.PortStates as states;
 ghost use Rattle.ring_line.specs.Layout.{word_count, cell_of};

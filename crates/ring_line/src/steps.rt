@@ -1,17 +1,19 @@
-//! The word steps: each is one atomic operation on one word, sequentially consistent. The operation's type argument is its play: the ghost
-//! transition, which counts the step.
+//! The atomic steps. Each step is one sequentially consistent operation on one word. The type argument of the operation
+//! is its play, which is the ghost transition that counts the step.
 //!
-//! - A *node* is a participant. To *free* a node is to set its *node word*, which is 0 before: then its withdrawn request is clear.
-//! - A *seat* is a node's access to the shared table: its node's ghost state (`me.0`, a list of one: `IsOfOneNode`), and
-//!   the slot with the line while the seat has it (`me.1`).
-//! - A *cell* is the word at which a request waits (a slot of Anderson's): 0, `GRANTED`, the node that withdrew there times
-//!   `WITHDRAWN_UNIT`, or the sum. The *slot* has the line's 64 bytes, and whether the line is closed.
-//! - A request is *at its turn* once its cell is granted. Its node's seat *has* the line from the step that finds this. Its port *holds*
-//!   the line only if the line is not closed.
-//! - To *pass* a withdrawn request is to go on from its cell with the line. Each grant ends the request at its turn: at first the releasing
-//!   node's own, then each that was passed.
-//! - A node's last request is *clear* if no other node will use the node's word on account of it. The next request is then not answered
-//!   `Busy`.
+//! - A *node* is a participant. To *free* a node is to set its *node word*, which is 0 until then. Afterwards the
+//!   node's withdrawn request is clear.
+//! - A *seat* is a node's access to the shared table. It has the ghost state of the node (`me.0`, a list of one:
+//!   `IsOfOneNode`), and the slot with the line while the seat has it (`me.1`).
+//! - A *cell* is the word at which a request waits (a slot of Anderson's). It is 0, `GRANTED`, `WITHDRAWN_UNIT` times
+//!   the node that withdrew there, or the sum of the last two. The *slot* has the line's 64 bytes, and whether the line
+//!   is closed.
+//! - A request is *at its turn* once its cell is granted. Its node's seat *has* the line from the step that finds this
+//!   grant. Its port *holds* the line only if the line is not closed.
+//! - To *pass* a withdrawn request is to go on from its cell with the line. Each grant ends the request at its turn:
+//!   first the releasing node's own request, then each request that was passed.
+//! - A node's last request is *clear* once no other node will use the node's word because of it. The node's next
+//!   request is then not answered `Busy`.
 //! - A view's `count` is the number of its node's requests.
 ghost use Rattle.std.specs.Prelude.{◌≡◌, ◌≢◌, ◌⊎◌, ℕ, ◌≤◌, ◌∷◌, [], List, true, false};
 ghost use Rattle.qolb_model.specs.declared.request.Request.{Request};

@@ -1,5 +1,6 @@
-//! Each call of each lock. The answers are written once, over any line. A lock is named by its queue discipline: the prover sees once that a
-//! line of any discipline is a line, and at each named line again.
+//! Each call of each kind of line. The answers are written once, over any line. A test names a kind by its queue
+//! discipline, because the prover then sees only once that a line of any discipline is a line; it would see that again
+//! at each named line.
 
 mod asleep;
 mod did;

@@ -1,4 +1,5 @@
--- What each step of a release requires and ensures of the holder's seat: one record for each, by the table `t` and the law `allows`.
+-- What each step of a release requires and ensures of the holder's seat. There is one record for each step, over the
+-- table `t` and the line's rule `allows`.
 use Rattle.std.specs.Prelude.{◌≡◌, ◌≢◌, ◌⊎◌, ℕ, ◌+◌, ◌*◌, ◌≤◌, List, [], ◌∷◌, length}
 use Rattle.qolb_model.specs.declared.config.TheConstants.{MAX_NODES}
 use Rattle.qolb_model.specs.declared.request.Request.{Request}

@@ -1,4 +1,4 @@
--- What each word step of a port tells it, as far as it depends on tickets.
+-- What each atomic step tells the port that takes it, as far as that depends on ticket numbers.
 use Rattle.std.specs.Prelude.{◌≡◌, ◌≢◌, ℕ, ◌+◌, ◌%◌, ◌^◌, List, length}
 use Rattle.atomic_table.specs.Table.{Step}
 use Rattle.atomic_table.specs.Seated.{TableId}

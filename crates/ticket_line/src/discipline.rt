@@ -1,4 +1,4 @@
-//! Partitioned tickets as a queue discipline.
+//! The queue discipline of the ticket line.
 ghost use Rattle.std.specs.Prelude.{◌≡◌};
 ghost use Rattle.qolb_model.specs.PortStates as states;
 ghost use Rattle.line_cells.specs.Counting.{mask_for};

@@ -1,4 +1,4 @@
-//! The slots of a line: a holder's copy of its own, and the last one of a table that is finished.
+//! The slots of a ticket line: a holder's copy of its own slot, and the last slot of a table that is finished.
 ghost use Rattle.std.specs.Prelude.{◌≡◌};
 ghost use mathlib.Core.Option.{some};
 ghost use lib.ListN.{get_elem?};

@@ -1,4 +1,5 @@
-//! How waiters sleep: a line with hooks that note each sleep, and a clock that advances by a tick at each reading.
+//! How waiters sleep: the tests use a line with hooks that note each sleep, and a clock that advances by one tick at
+//! each reading.
 ghost use Rattle.std.specs.Prelude.{IfSome, IsTrue};
 ghost use Rattle.qolb_model.specs.PortStates.{may_ask};
 

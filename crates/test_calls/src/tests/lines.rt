@@ -1,4 +1,4 @@
-//! The answers of each line, called by one thread, node by node.
+//! The answers of each kind of line, called by one thread, node by node.
 
 use crate::checked_line::{CheckedLine, Instrumented};
 use crate::tests::did::{CallOutcome, expect};
