@@ -9,8 +9,8 @@ use crate::layout::{bit, cell_word, is_round_of};
 use crate::plays::SetWithdrawn;
 use crate::releasing::clear_withdrawn;
 
-/// Withdraws a request that was found within the window of withdrawal: one atomic step, which is the last access to the
-/// lock's memory. `false`: the ticket had been granted, which takes two atomic steps.
+/// Withdraws a request that was found within the window of withdrawal. One atomic step, which is the last access to the
+/// lock's memory. `false` means that the ticket had already been granted; this takes two atomic steps.
 #[inline(always)]
 pub fn withdraw<T>(
     table: &SharedValue<T>,
