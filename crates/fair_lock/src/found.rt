@@ -7,12 +7,13 @@ ghost use Rattle.fair_lock.specs.Found.{ShowsTaken};
 
 use lock_core::ValueSeat;
 
-/// The lock was taken: another thread was served, waited, or drew a ticket at that moment. The caller was outside.
+/// The lock was taken: another thread was served, waited, or drew a ticket at that moment. The caller itself was
+/// outside.
 #[derive(Drop)]
 pub(crate) struct FoundTaken(());
 
 impl FoundTaken {
-    /// Makes the token by the last steps of the seat.
+    /// Makes the token from the last steps of the seat.
     pub(crate) fn by<T>(seat: &ValueSeat<T>) -> FoundTaken
         requires taken { ShowsTaken seat.now }
         requires out { InTime seat.now IsOut }

@@ -5,7 +5,7 @@ ghost use Rattle.std.specs.Prelude.{◌≡◌};
 use std::rt::Clock;
 use std::time::Instant;
 
-/// What the clock showed; none if it could not be read.
+/// What the clock showed, or `None` if it could not be read.
 #[derive(Drop)]
 pub(crate) struct Reading {
     at: Option<Instant>,

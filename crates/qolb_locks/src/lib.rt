@@ -19,10 +19,10 @@ mod ticket;
 mod waiting;
 mod withdrawing;
 
-/// The most requests that are open when a call with a timeout, or a task, draws a ticket.
+/// The most requests that may be open when a call with a timeout, or a task, draws a ticket.
 ///
-/// C abandons the ticket of such a call if the window of withdrawal does not reach it, and one release passes all abandoned tickets: this is the
-/// number of them that a release passes in some 2 ms.
+/// C abandons the ticket of such a call if the window of withdrawal does not reach it, and one release has to pass all
+/// abandoned tickets. A release passes this number of them in some 2 ms.
 pub const MAX_OPEN_WITH_TIMEOUT: u64 = 12_288;
 
 pub use answer::Answer;

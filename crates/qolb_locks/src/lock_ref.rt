@@ -8,7 +8,7 @@ ghost use Rattle.qolb_locks.specs.Shared.{lock_coded, refers};
 use crate::lock::Lock;
 use std::marker::Model;
 
-/// A lock that C refers to.
+/// A reference to a lock, as C has it.
 #[repr(C)]
 #[derive(Drop)]
 pub struct LockRef {

@@ -9,9 +9,9 @@ use crate::lock::Lock;
 use crate::ticket::{State, Ticket};
 use lock_core::layout::WITHDRAWAL_WINDOW;
 
-/// Withdraws a request that was within the window of withdrawal when it last looked.
+/// Withdraws a request that was within the window of withdrawal when its caller last looked.
 ///
-/// `Far` if it was beyond the window, and `Granted` if it is at its turn.
+/// The answer is `Far` if the request was beyond the window, and `Granted` if it is at its turn.
 #[inline(always)]
 pub fn withdraw(lock: &Lock, ticket: &mut Ticket) -> Answer
     requires { IsKnown lock.now ticket.old }
