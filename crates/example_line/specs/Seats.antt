@@ -10,7 +10,7 @@ use Rattle.example_line.specs.declared.capacity.TheConstants.{SEATS}
 abbrev pub IsWithin : List ℕ → Type 0
 IsWithin bytes = lane_of bytes 0 ≤ SEATS
 
--- a turn that finds the law kept leaves it kept
+-- a turn that finds the data invariant kept leaves it kept
 abbrev pub StaysWithin : List ℕ → List ℕ → Type 0
 StaysWithin old new = IsWithin old → IsWithin new
 

@@ -22,7 +22,7 @@ pub const SEATS: u64 = 100;
 /// All bytes of a line. The first lane counts the seats that are sold.
 const WHOLE: Mask = Mask(0xffff_ffff_ffff_ffff);
 
-/// The law that at most `SEATS` seats are sold.
+/// The data invariant that at most `SEATS` seats are sold.
 pub struct SeatLimit;
 
 impl Keep for SeatLimit {

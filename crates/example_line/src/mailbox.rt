@@ -27,7 +27,7 @@ const WHOLE: Mask = Mask(0xffff_ffff_ffff_ffff);
 pub enum Acquired {
     /// The node holds the line.
     Granted,
-    /// The node withdrew its request, or made none because an earlier withdrawn request is not passed yet.
+    /// The node withdrew its request, or made none because an earlier withdrawn request has not been passed yet.
     Late,
     /// The line is closed.
     Closed,

@@ -48,7 +48,8 @@ module _ {Port : Type 0} (view : Port → View) where
     pub pays : reply ≢ NoAccount → ChangesPort (line_of account) (λ v w. PaysOut v w (lane_in account) amount old.paid_out new.paid_out reply) old.ports new.ports
     pub paid_in : new.paid_in ≡ old.paid_in
 
-  -- `transfer`: in one turn if both accounts are of one line; else in one turn of each line, of which the lower is asked for first
+  -- `transfer`: in one turn if both accounts are of one line; otherwise in one turn of each line, of which the lower is
+  -- asked for first
   pub record Transfers (lines source target amount : ℕ) (old new : DeskOf Port) (reply : Reply) : Type 0 where
     pub unknown : reply ≡ NoAccount → ((8 * lines ≤ source) ⊎ (8 * lines ≤ target)) × (new ≡ old)
     pub same : reply ≡ SameAccount → (source < 8 * lines) × (source ≡ target) × (new ≡ old)

@@ -36,7 +36,8 @@ pub record IsDeskOver {Line Port : Type 0} (belongs : Line → Port → Type 0) 
 pub record ArePatient {Port : Type 0} (counters : Port → Counters) (patience : ℕ) (old new : List Port) : Type 0 where
   pub each : (i : ℕ) (before after : Port) → slice_get old i ≡ Some before → slice_get new i ≡ Some after → (counters after).poll_count ≤ (counters before).poll_count + patience
 
--- since `old` each port was polled some times, and has taken no more word steps than these polls and three calls more may take
+-- since `old` each port was polled some times, and has taken no more atomic steps than these polls and three calls more
+-- may take
 pub record AreWithinCalls {Line Port : Type 0} (counters : Port → Counters) (max_steps : Line → ℕ) (lines : List Line) (old new : List Port) : Type 0 where
   pub each : (i : ℕ) (line : Line) (before after : Port) → slice_get lines i ≡ Some line → slice_get old i ≡ Some before → slice_get new i ≡ Some after → IsWithinCalls (max_steps line) 3 (counters before) (counters after)
 

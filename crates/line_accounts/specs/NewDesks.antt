@@ -45,7 +45,7 @@ module _ {Line Port : Type 0} (count : ℕ) (opened : List (Line × Vec Port Glo
     pub short : vec_len line.1 < count
     pub before : (j : ℕ) (other : Line × Vec Port Global) → j < i → slice_get opened j ≡ Some other → count ≤ vec_len other.1
 
-  -- why there are no desks: a line has too few ports; or, only if none has, want of memory
+  -- why there are no desks: a line has too few ports; or, only if none has, lack of memory
   abbrev pub MayHaveNoDesks : OpenDesksError → Type 0
   MayHaveNoDesks (Few i) = IsFirstShort i
   MayHaveNoDesks Memory = AreEnough

@@ -46,12 +46,12 @@ module _ {Line Port : Type 0} (view : Port → View) (config_of : Line → LineC
     pub least : IsLeast (config_of line).nodes (LacksPort view desks i) (HasPort view desks i) node
     pub before : (j : ℕ) (other : Line) → j < i → slice_get lines j ≡ Some other → EachNode (config_of other).nodes (HasPort view desks j)
 
-  -- why nothing is settled: a node has no port; or, only if each has one, want of memory
+  -- why nothing is settled: a node has no port; or, only if each has one, lack of memory
   abbrev pub MayNotSettle : SettleError → Type 0
   MayNotSettle (Missing i node) = IsFirstMissing i node
   MayNotSettle Memory = AreAllThere
 
--- what `settle` hands back with an error: all that was passed, and for want of memory nothing
+-- what `settle` hands back with an error: all that was passed, and for lack of memory nothing
 abbrev pub IsBack : {X : Type 0} → X → SettleError → Option X → Type 0
 IsBack all (Missing i node) back = back ≡ Some all
 IsBack all Memory back = back ≡ None

@@ -10,7 +10,7 @@ use qolb_model::{Acquired, LineSync, acquire_bounded};
 
 /// Asks for the line, and polls at most `patience` times; then withdraws the request. Does not allocate.
 ///
-/// Returns `Ok` if the port holds the line, else the reply that says why it does not: `Late`, `Closed` or `Busy`.
+/// Returns `Ok` if the port holds the line, otherwise the reply that says why it does not: `Late`, `Closed` or `Busy`.
 pub fn ask<L: LineSync<AccountLaw>>(
     line: &L,
     port: &mut L::Port,

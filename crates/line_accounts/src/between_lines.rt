@@ -107,7 +107,7 @@ fn carry<L: LineSync<AccountLaw>>(
     Reply::Done
 }
 
-/// Moves the amount to the higher line if `up`, else to the lower one. Asks for the lower line first.
+/// Moves the amount to the higher line if `up`, otherwise to the lower one. Asks for the lower line first.
 pub fn move_between<L: LineSync<AccountLaw>>(
     low: &L,
     low_port: &mut L::Port,

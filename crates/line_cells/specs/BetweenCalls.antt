@@ -63,7 +63,7 @@ enqueue_steps state enq.Queued steps = requests_in state steps
 enqueue_steps state enq.Closed steps = Unit {0}
 enqueue_steps state enq.Busy steps = steps ≡ 1
 
--- a release takes `each` word steps for each end that it makes
+-- a release takes `each` atomic steps for each end that it makes
 module _ (each : ℕ) where
   -- but one fewer
   abbrev pub release_steps : ℕ → ℕ → ℕ → Type 0

@@ -33,6 +33,6 @@ ticket_of place = place % 2 ^ 64
 abbrev pub cell_of : ℕ → ℕ → ℕ
 cell_of cells ticket = ticket % cells
 
--- the words of a new line: the first cell is granted, and all else is blank
+-- the words of a new line: the first cell is granted, and all other words are blank
 abbrev pub AreFirst : ℕ → ℕ → List ℕ → Type 0
 AreFirst cells granted words = (slice_index words (cell_at 0) ≡ granted) × ((i : ℕ) → i < word_count cells → i ≢ cell_at 0 → slice_index words i ≡ 0)

@@ -53,11 +53,11 @@ IsAt point seat = IsOfOneNode seat.me × ((ghost_of seat).own.point ≡ point)
 abbrev pub IsSeatOfNode : (ℕ → ℕ) → ℕ → TableId → ℕ → ArraySeat → Type 0
 IsSeatOfNode cells nodes table_id node seat = answers.IsSeatOfNode (λ n. word_count (cells n)) nodes table_id initial node seat
 
--- after n word steps of its node the seat still has one node, whose view is extended
+-- after n atomic steps of its node the seat still has one node, whose view is extended
 abbrev pub Advances : (List ℕ → List ℕ → Type 0) → SeatContents → SeatContents → ℕ → Type 0
 Advances allows old new steps = line.Advances allows initial old new steps
 
--- both are the same seat, n word steps later
+-- both are the same seat, n atomic steps later
 abbrev pub SeatAdvances : (List ℕ → List ℕ → Type 0) → ArraySeat → ArraySeat → ℕ → Type 0
 SeatAdvances allows old new steps = line.SeatAdvances allows initial old new steps
 
@@ -87,7 +87,7 @@ pub record TellsIfClear (v : ArrayGhost) (found : ℕ) (w : ArrayGhost) : Type 0
   pub unclear : found ≡ 0 → Lacks w.view.clear (own w.view)
   pub clear : found ≢ 0 → Has w.view.clear (own w.view)
 
--- the end that the next grant makes: of the node's own request if it has passed none, else of a withdrawn one
+-- the end that the next grant makes: of the node's own request if it has passed none, otherwise of a withdrawn one
 abbrev pub end_of : List ℕ → Bool → Payload → End
 end_of [] closed y = own_end closed y
 end_of (p ∷ ps) closed y = Gone
@@ -100,7 +100,8 @@ abbrev pub after_walk : List ℕ → Point
 after_walk [] = Idle
 after_walk (p ∷ ps) = Freeing
 
--- `y` is the payload after the end that the release makes next: that end is legal, and the change obeys the line's law
+-- `y` is the payload after the end that the release makes next: that end is legal, and the change obeys the line's data
+-- invariant
 pub record IsNextPayload (allows : List ℕ → List ℕ → Type 0) (v : ArrayGhost) (y : Payload) : Type 0 where
   pub bytes : bytes_after v.view.config.opening.bytes (v.view.ends ++ next_end v y ∷ []) ≡ y.bytes.bytes
   pub closed : is_closed (v.view.ends ++ next_end v y ∷ []) ≡ y.closed
@@ -179,7 +180,8 @@ module _ (allows : List ℕ → List ℕ → Type 0) where
         × (waits (single m.0).own.place n → (m'.1 ≡ m.1) × IsRolled token_of (token_of (single m.0).own.place) (single m'.0))
         × (shows_turn (single m.0).own.place n → (y : Payload) × slot_layout.slots_at_grant (single m.0).own.place y m'.1 × IsAtTurn token_of (token_of (single m.0).own.place) (single m'.0) y)
 
-  -- The next cell is granted. By its place, the old word is read as 0 if no node withdrew there, and else names that node.
+  -- The next cell is granted. By its place, the old word is read as 0 if no node withdrew there, and otherwise names
+  -- that node.
   module _ (slot_layout : SlotLayout) (seen withdrawn_by : ℕ → ℕ → ℕ) where
     abbrev pub granted : Step Payload → SeatContents → ℕ → SeatContents → Type 0
     granted st m n m' = Advances allows m m' 1

@@ -91,8 +91,8 @@ pub fn is_freed(word: u64) -> bool
     word != 0
 }
 
-/// Any two words of a table are at least 8 words apart; the ticket counter is where a node 0 would
-/// have its word. A law: the contract of a function that does nothing.
+/// Any two words of a table are at least 8 words apart; the ticket counter is where a node 0 would have its word. A
+/// theorem: the contract of a function that does nothing.
 pub fn words_are_apart()
     ensures ticket { layout.ticket_at ≡ layout.node_at 0 }
     ensures nodes { (m n : ℕ) → m < n → n ≤ MAX_NODES
@@ -103,7 +103,7 @@ pub fn words_are_apart()
         → layout.cell_at c + 8 ≤ layout.node_at n }
 {}
 
-/// `NO_WORD` is none of the words of a table. A law.
+/// `NO_WORD` is none of the words of a table. A theorem.
 pub fn no_word_is_none()
     ensures { WORDS ≤ NO_WORD }
 {}

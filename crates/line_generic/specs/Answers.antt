@@ -33,7 +33,7 @@ IsSeatOfNode word_count nodes table_id initial node s = IsSeatOf (word_count nod
 abbrev pub HasNodes : View → Type 0
 HasNodes v = (1 ≤ v.config.nodes) × (v.config.nodes ≤ MAX_NODES)
 
--- a request takes `steps` word steps, as its lock says by state and answer, and four at most
+-- a request takes `steps` atomic steps, as its lock says by state and answer, and four at most
 pub record CountsRequest (enqueue_steps : PortState → Enq → ℕ → Type 0) (state : PortState) (answer : Enqueued) (steps : ℕ) : Type 0 where
   pub busy : answer ≡ enqueued.Busy → enqueue_steps state enq.Busy steps
   pub queued : answer ≡ enqueued.Queued → enqueue_steps state enq.Queued steps

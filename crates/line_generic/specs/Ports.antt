@@ -53,11 +53,11 @@ port_model initial s y steps count token went_to = record {
   went_to = went_to;
 }
 
--- a poll of a node at rest takes one step if its last request may be busy, else none
+-- a poll of a node at rest takes one step if its last request may be busy, otherwise none
 abbrev pub looks_at_rest_in : PortState → ℕ → Type 0
 looks_at_rest_in state n = ((state ≡ port_state.Left) ⊎ (state ≡ port_state.Rolled) → n ≡ 1) × (state ≢ port_state.Left → state ≢ port_state.Rolled → n ≡ 0)
 
--- the number of word steps of a call, by its lock's counts of requests and releases, and the maximum
+-- the number of atomic steps of a call, by its lock's counts of requests and releases, and the maximum
 abbrev pub call_steps : (PortState → Enq → ℕ → Type 0) → (ℕ → ℕ → ℕ → Type 0) → ℕ → Call → View → View → ℕ → Type 0
 call_steps enqueue_steps release_steps max_steps (asks answer) old new n = (answer ≢ enq.Closed → enqueue_steps old.state answer n) × (n ≤ max_steps + 3)
 call_steps enqueue_steps release_steps max_steps (polls answer) old new n = (answer ≢ poll.Closed → n ≡ 1) × (n ≤ max_steps)
@@ -90,7 +90,7 @@ pub record IsPort {O : Type 0} (q : PortPhases O) (label node : ℕ) (s : LineSe
   pub label_is : (ghost_of q.initial s).view.label ≡ label
   pub node_is : (ghost_of q.initial s).view.node ≡ node
 
--- the line was accepted: the port holds it, open and without a write, at no further word step
+-- the line was accepted: the port holds it, open and without a write, at no further atomic step
 abbrev pub IsHeld : {O : Type 0} → PortPhases O → LineSeat O → LocalCopy → ℕ → Type 0
 IsHeld q s y token = Holds q s y token × ((ghost_of q.initial s).view.state ≡ port_state.Holding) × IsGranted (ghost_of q.initial s).view (write_in y)
 

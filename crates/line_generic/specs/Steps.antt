@@ -67,14 +67,15 @@ pub record IsInState {O : Type 0} (q : PortPhases O) (state : PortState) (token 
   pub shows_state : (ghost_of q.initial s).view.state ≡ state
   pub slot : HasNoSlot s
 
--- After n word steps of its node the seat still has one node: its view is extended, stays true of the history, and the steps are counted.
+-- After n atomic steps of its node the seat still has one node: its view is extended, stays true of the history, and
+-- the steps are counted.
 pub record Advances {O : Type 0} (allows : List ℕ → List ℕ → Type 0) (initial : O) (old new : SeatContents O) (n : ℕ) : Type 0 where
   pub of_one_node : IsOfOneNode initial new
   pub extends : Extends (single initial old.0).view (single initial new.0).view
   pub continues : (v : View) → Continues allows v (single initial old.0).view → Continues allows v (single initial new.0).view
   pub steps : (single initial new.0).steps ≡ (single initial old.0).steps + n
 
--- both are the same seat, n word steps later
+-- both are the same seat, n atomic steps later
 pub record SeatAdvances {O : Type 0} (allows : List ℕ → List ℕ → Type 0) (initial : O) (s t : LineSeat O) (n : ℕ) : Type 0 where
   pub seat : IsSameSeat s t
   pub advances : Advances allows initial s.me t.me n
@@ -116,13 +117,13 @@ pub record IsAtTurn {O : Type 0} (holds_open : ℕ → ℕ → O → Type 0) (ho
 abbrev pub write_of : Payload → Write
 write_of y = record { mask = record { 0 = y.mask.bits }; bytes = y.bytes }
 
--- the end of a holder's own request: told, if the line is closed, else served with the turn's write
+-- the end of a holder's own request: told, if the line is closed, otherwise served with the turn's write
 abbrev pub own_end : Bool → Payload → End
 own_end true y = Told
 own_end false y = Served (write_of y) y.closed
 
--- `y` is what a release must publish: the payload after the node's own end. That end is legal after the known ones, and the change obeys
--- the line's law.
+-- `y` is what a release must publish: the payload after the node's own end. That end is legal after the known ones, and
+-- the change obeys the line's data invariant.
 pub record IsNextPayload (allows : List ℕ → List ℕ → Type 0) (v : View) (y : Payload) : Type 0 where
   pub bytes : bytes_after v.config.opening.bytes (v.ends ++ own_end (is_closed v.ends) y ∷ []) ≡ y.bytes.bytes
   pub closed : is_closed (v.ends ++ own_end (is_closed v.ends) y ∷ []) ≡ y.closed
@@ -143,8 +144,9 @@ after_meet allows initial st m n m' = let v = single initial m.0 in let u = sing
 abbrev pub slots_returned : {O : Type 0} → Step Payload → SeatContents O → ℕ → SeatContents O → Type 0
 slots_returned st m n m' = (m'.0 ≡ m.0) × (m'.1 ≡ [])
 
--- The outcome of a poll by a waiting node with this token: if the lower half of the word found says so (`signals_turn`), the request is at
--- its turn with the line; else the node still waits. The half is all that the kernel compares before it parks a thread.
+-- The outcome of a poll by a waiting node with this token: if the lower half of the word found says so
+-- (`signals_turn`), the request is at its turn with the line; otherwise the node still waits. The half is all that the
+-- kernel compares before it parks a thread.
 pub record PollOutcome {O : Type 0} (q : PortPhases O) (signals_turn : ℕ → ℕ → Bool) (token found : ℕ) (new : SeatContents O) : Type 0 where
   pub queued : signals_turn token (found % 2 ^ 32) ≡ false → (new.1 ≡ []) × IsStillQueued q.in_state token (single q.initial new.0)
   pub at_turn : signals_turn token (found % 2 ^ 32) ≡ true → (y : Payload) × q.slots_at_grant (single q.initial new.0).view.config.nodes token y new.1 × IsAtTurn q.holds_open q.holds_closed token (single q.initial new.0) y

@@ -260,8 +260,9 @@ impl<K: Keep, Q: Discipline<K>, W: WakePolicy> LineSync<K> for Line<K, Q, W> {
 impl<K: Keep, Q: Discipline<K>, W: WakePolicy> Line<K, Q, W> {
     /// Releases the line, and closes it if `shut`: `shut` and `deqolb` in one call.
     ///
-    /// Stores the holder's payload for the successor, as closed if `shut` is set or the lease ends with this turn, hands the line over and unparks
-    /// the next holder. At least one word step, at most `max_steps - 1`. Does not block.
+    /// Stores the holder's payload for the successor, as closed if `shut` is set or the lease ends with this turn,
+    /// hands the line over and unparks the next holder. At least one atomic step, at most `max_steps - 1`. Does not
+    /// block.
     #[inline(always)]
     pub fn release_with(&self, port: &mut Port<Q, W>, shut: bool)
         requires { IsHoldingPort K.Keep self.now.table.shared port.old }

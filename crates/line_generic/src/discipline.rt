@@ -35,7 +35,7 @@ pub enum Enqueued {
     Busy,
 }
 
-/// A request that was made: the answer, the port's new token, and the word steps taken.
+/// A request that was made: the answer, the port's new token, and the atomic steps taken.
 #[derive(Clone, Copy)]
 pub struct EnqueueResult {
     pub answer: Enqueued,
@@ -45,7 +45,7 @@ pub struct EnqueueResult {
 
 /// The result of a poll of a node at rest.
 ///
-/// `clear`: the last request is clear. `state`: the state in which the port is left. `steps`: the word steps taken.
+/// `clear`: the last request is clear. `state`: the state in which the port is left. `steps`: the atomic steps taken.
 #[derive(Clone, Copy)]
 pub struct Rested {
     pub clear: bool,
@@ -53,16 +53,17 @@ pub struct Rested {
     pub steps: u64,
 }
 
-/// A release that is over: the port's new state, the word steps taken, and the duty to unpark.
+/// A release that is over: the port's new state, the atomic steps taken, and the duty to unpark.
 pub struct Released {
     pub state: PortState,
     pub steps: u64,
     pub unpark: UnparkHandle,
 }
 
-/// The ghost state of a queue's nodes, independent of the line's law.
+/// The ghost state of a queue's nodes, independent of the line's data invariant.
 ///
-/// A port stores one number for its discipline, its *token*: the cell of its request, for example, or the predecessor's node.
+/// A port stores one number for its discipline, its *token*: the cell of its request, for example, or the predecessor's
+/// node.
 pub trait DisciplineSpec {
     /// What the invariant knows of a node beside its port's view.
     type Local;
@@ -82,14 +83,16 @@ pub trait DisciplineSpec {
     /// The states that a port can show.
     ghost allowed_states: { PortState → Type 0 };
 
-    /// `enqueue_steps state answer steps`: a request by a port in `state`, answered by `answer`, takes `steps` word steps. Leaves `Closed`
-    /// open, which includes a release.
+    /// `enqueue_steps state answer steps`: a request by a port in `state`, answered by `answer`, takes `steps` atomic
+    /// steps. Leaves `Closed` open, which includes a release.
     ghost enqueue_steps: { PortState → Enq → ℕ → Type 0 };
 
-    /// `release_steps before after steps`: a release with `before` ends before it and `after` ends after it takes `steps` word steps.
+    /// `release_steps before after steps`: a release with `before` ends before it and `after` ends after it takes
+    /// `steps` atomic steps.
     ghost release_steps: { ℕ → ℕ → ℕ → Type 0 };
 
-    /// `max_steps nodes`: the maximum of word steps of a poll, with the release of a closed line. A release alone takes at least one fewer.
+    /// `max_steps nodes`: the maximum of atomic steps of a poll, with the release of a closed line. A release alone
+    /// takes at least one fewer.
     ghost max_steps: { ℕ → ℕ };
 
     /// A new node is idle.
@@ -114,9 +117,10 @@ pub trait DisciplineSpec {
     ghost max_steps_fits: { (nodes : ℕ) → nodes ≤ MAX_NODES → max_steps nodes < 2 ^ 32 };
 }
 
-/// The invariant of a queue's table under the law `K`. A trait apart from `Discipline`, whose calls step by this invariant.
+/// The invariant of a queue's table under the data invariant `K`. A trait apart from `Discipline`, whose calls step by
+/// this invariant.
 pub trait DisciplineInvariant<K: Keep>: DisciplineSpec {
-    /// The invariant between any two word steps, of all interleavings.
+    /// The invariant between any two atomic steps, of all interleavings.
     ghost holds: { TableKey → State Payload (List (NodeGhost Self.Local)) → Type 0 };
 }
 
@@ -160,7 +164,7 @@ pub trait Discipline<K: Keep>: DisciplineInvariant<K> {
 
     /// Copies the granted line from its slot to `payload`, for a turn without a write yet.
     ///
-    /// No word step. A closed line is stored for the successor at once.
+    /// No atomic step. A closed line is stored for the successor at once.
     fn take(
         table: &SharedTable<K, Self>,
         seat: &mut LineSeat<Self::Local>,
@@ -172,7 +176,7 @@ pub trait Discipline<K: Keep>: DisciplineInvariant<K> {
         ensures { Takes Self.phases table.now.key.config.nodes token seat.old seat.new
             payload.new };
 
-    /// Stores `payload` in the successor's slot when a turn is over, as closed if `closed` is set. No word step.
+    /// Stores `payload` in the successor's slot when a turn is over, as closed if `closed` is set. No atomic step.
     fn put(
         table: &SharedTable<K, Self>,
         seat: &mut LineSeat<Self::Local>,
@@ -228,7 +232,8 @@ pub trait Discipline<K: Keep>: DisciplineInvariant<K> {
             seat.old }
         ensures { HasLooked Self.phases table.now K.allows token seat.old seat.new result };
 
-    /// Withdraws the request in one word step. Returns `true` if the request was at its turn, and is then not withdrawn.
+    /// Withdraws the request in one atomic step. Returns `true` if the request was at its turn, and is then not
+    /// withdrawn.
     fn roll(
         table: &SharedTable<K, Self>,
         seat: &mut LineSeat<Self::Local>,
@@ -298,7 +303,7 @@ pub trait Discipline<K: Keep>: DisciplineInvariant<K> {
 pub trait SplitEnqueue<K: Keep>: Discipline<K> {
     ghost use Rattle.line_generic.specs.Calls.{IsNodeAtRest, IsSuccessor, HasPrepended, HasLinked};
 
-    /// The number of word steps by which a port in this state prepends its request.
+    /// The number of atomic steps by which a port in this state prepends its request.
     ghost prepend_steps: { PortState → ℕ };
 
     /// Makes a request, unless the node's last one is not clear. Behind a predecessor the request is still to be linked.
@@ -312,7 +317,7 @@ pub trait SplitEnqueue<K: Keep>: Discipline<K> {
         ensures { HasPrepended Self.phases table.now K.allows prepend_steps state seat.old
             seat.new result };
 
-    /// Links the request to its predecessor's in one word step.
+    /// Links the request to its predecessor's in one atomic step.
     ///
     /// Returns `true` if the predecessor had released and left the line for this request, which is then at its turn.
     fn link(

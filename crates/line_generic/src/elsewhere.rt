@@ -63,7 +63,7 @@ impl WakePolicy for SleepersElsewhere {
 }
 
 impl<K: Keep, Q: Discipline<K>, W: WakePolicy> Line<K, Q, W> {
-    /// Returns the word on which the port's node waits. No word step.
+    /// Returns the word on which the port's node waits. No atomic step.
     ///
     /// If the port holds, this is the word on which it was granted.
     pub fn wait_word(&self, port: &Port<Q, W>) -> usize

@@ -29,9 +29,9 @@ pub struct TableWidth<K: Keep, Q: Discipline<K>> {
 
 /// A queue lock that hands 64 bytes from holder to holder, by the discipline `Q`.
 ///
-/// Between any two word steps there is one history of the line: an order of requests, and the ends of a prefix of them. If no node holds
-/// the line, its slot has the bytes after those ends. Each port's view is a prefix of this history, and each node has at most one open
-/// request.
+/// Between any two atomic steps there is one history of the line: an order of requests, and the ends of a prefix of
+/// them. If no node holds the line, its slot has the bytes after those ends. Each port's view is a prefix of this
+/// history, and each node has at most one open request.
 #[derive(Drop)]
 pub struct Line<K: Keep, Q: Discipline<K>, W: WakePolicy = Parking> {
     pub(crate) table: LineTable<K, Q>,
@@ -48,7 +48,7 @@ pub struct Line<K: Keep, Q: Discipline<K>, W: WakePolicy = Parking> {
 }
 
 impl<K: Keep, Q: Discipline<K>, W: WakePolicy> Line<K, Q, W> {
-    /// Returns the number of word steps of the port's last call; 0 before the first.
+    /// Returns the number of atomic steps of the port's last call; 0 before the first.
     ///
     /// Counted are requests, polls, withdrawals and releases.
     pub fn steps(&self, port: &Port<Q, W>) -> u64

@@ -10,8 +10,8 @@ use std::marker::Model;
 
 /// A node's handle of the line: its calls go through this port.
 ///
-/// `payload` is the line if the port holds it, else its last copy. It is the first field, so that its bytes are copied from an aligned
-/// place; `state` is the last.
+/// `payload` is the line if the port holds it, otherwise its last copy. It is the first field, so that its bytes are
+/// copied from an aligned place; `state` is the last.
 #[derive(Drop)]
 pub struct Port<Q: DisciplineSpec, W: WakePolicy = Parking> {
     pub(crate) payload: LocalCopy,
@@ -20,7 +20,7 @@ pub struct Port<Q: DisciplineSpec, W: WakePolicy = Parking> {
     pub(crate) token: u64,
     pub(crate) label: u64,
     pub(crate) node: u64,
-    /// The number of word steps of the last call.
+    /// The number of atomic steps of the last call.
     pub(crate) steps: u64,
     /// The words of the next holder, if the line's wake policy notes them.
     pub(crate) note: W::Note,

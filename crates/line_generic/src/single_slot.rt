@@ -19,7 +19,7 @@ use std::alloc::Global;
 
 /// Copies the line from the single slot to `payload`, for a turn without a write yet.
 ///
-/// No word step. A closed line is left there for the successor.
+/// No atomic step. A closed line is left there for the successor.
 #[inline]
 pub fn load_from_slot<K: Keep, Q: DisciplineInvariant<K>>(
     table: &SharedTable<K, Q>,
@@ -83,8 +83,8 @@ pub fn take_from_closed(closed: Closed<Payload, Global>) -> Payload
 
 /// Returns the holder's slots to the table, because a seat that has slots cannot be joined to another.
 ///
-/// The table takes slots back only as part of a word step; this one loads word 0 and ignores the value. Reached only in a branch that the
-/// proof shows dead.
+/// The table takes slots back only as part of an atomic step; this one loads word 0 and ignores the value. Reached only
+/// in a branch that the proof shows dead.
 pub(crate) fn return_slots<K: Keep, Q: Discipline<K>>(
     table: &SharedTable<K, Q>,
     seat: &mut LineSeat<Q::Local>,

@@ -71,11 +71,11 @@ pub struct NodeGhost<O> {
     pub view: View,
     /// The discipline's own ghost state of the node.
     pub own: O,
-    /// The number of word steps that the node took in its calls of all kinds.
+    /// The number of atomic steps that the node took in its calls of all kinds.
     pub steps: u64,
 }
 
-/// The table rule of a line under the law `K`: its invariant is the discipline's.
+/// The table rule of a line under the data invariant `K`: its invariant is the discipline's.
 pub struct Rule<K, Q> {
     law: PhantomData<(K, Q)>,
 }

@@ -12,7 +12,7 @@ const BITS: [u8; 32] = [
     8, 16, 32, 64, 128,
 ];
 
-/// Writes `new` over `old` under the mask: byte k is `new`'s if bit k of the mask is set, else `old`'s.
+/// Writes `new` over `old` under the mask: byte k is `new`'s if bit k of the mask is set, otherwise `old`'s.
 #[inline]
 pub fn merge(old: &Line64, new: &Line64, mask: Mask) -> Line64
     ensures { result.bytes ≡ merged old.now.bytes new.now.bytes mask.0 }
@@ -77,7 +77,7 @@ fn two_bytes(mask: u64) -> u8x16
         .swizzle([0, 0, 0, 0, 0, 0, 0, 0, 1, 1, 1, 1, 1, 1, 1, 1])
 }
 
-/// Takes the new byte if the mask's byte there has the bit of that place, else the old one.
+/// Takes the new byte if the mask's byte there has the bit of that place, otherwise the old one.
 fn blend(old: u8x32, new: u8x32, mask: u8x32) -> u8x32
     ensures { (k : ℕ) → k < 32 → slice_index result k
         ≡ (if is_masked (slice_index mask k) (k % 8) then slice_index new k

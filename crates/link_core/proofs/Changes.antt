@@ -40,7 +40,7 @@ changed_seat c n s i a = record {
   entry_other = λ m ne. refl;
 }
 
--- so it is if the words and the line change, too
+-- therefore it is if the words and the line change, too
 pub moved_both : (c : State) (hm : ℕ) (pl : Place) (cl : Bool) (mk : Mask) (lf : Option ℕ) (n : ℕ) (s : NodeCall) (k : ℕ) (w : Entry) → IsWide c → IsNode c n → IsNode c k → Changed c (put_seat n s (put_entry k w (record c { home = hm; place = pl; closed = cl; mask = mk; left = lf }))) n s k w
 moved_both c hm pl cl mk lf n s k w i a b = record {
   nodes = refl;

@@ -16,7 +16,7 @@ pub record Spared (c d : State) (q r : Queue) (n : ℕ) : Type 0 where
   -- the seats of the others, and the line if one of them has it, are unchanged
   pub seats : (m : ℕ) → m ≢ n → seat d m ≡ seat c m
   pub line : (m : ℕ) → m ≢ n → IsNode c m → has_line (point c m) ≡ true → (d.bytes ≡ c.bytes) × (d.closed ≡ c.closed) × (d.mask ≡ c.mask) × (d.left ≡ c.left) × (r.ends ≡ q.ends)
-  -- so are the numbers of their requests, the last of each, and those that are marked
+  -- therefore are the numbers of their requests, the last of each, and those that are marked
   pub asks : (m : ℕ) → m ≢ n → count_of m r.order ≡ count_of m q.order
   pub last : (m p : ℕ) → m ≢ n → IsLast q.order m p → IsLast r.order m p
   pub back : (m p : ℕ) → m ≢ n → IsLast r.order m p → IsLast q.order m p

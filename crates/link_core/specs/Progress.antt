@@ -104,7 +104,7 @@ is_pending_at w Shut = false
 abbrev pub pending : State → ℕ
 pending c = sum_over c.nodes (λ n. if is_pending_at (entry c n) (point c n) then 1 else 0)
 
--- 1 if the event makes a request, else 0
+-- 1 if the event makes a request, otherwise 0
 abbrev pub asked_by : Event → ℕ
 asked_by (event.Prepend n) = 1
 asked_by _ = 0
@@ -117,8 +117,8 @@ pub record GoesDown (c d : State) (q r : Queue) (e : Event) (t : Told) : Type 0 
   pub most_at : (p : ℕ) → p < length q.order → length r.ends ≤ p → rank_at d r.order p ≤ rank_at c q.order p
   pub falls_at : (p : ℕ) → p < length q.order → length r.ends ≤ p → is_productive e t ≡ true → asks_behind q.order p (node_of e) ≡ false → rank_at d r.order p < rank_at c q.order p
 
--- The next node to act: the node that has the line in its hand; else the node in whose mailbox the line is, granted; else the node that is
--- to link to the entry in whose mailbox the line is.
+-- The next node to act: the node that has the line in its hand; otherwise the node in whose mailbox the line is,
+-- granted; otherwise the node that is to link to the entry in whose mailbox the line is.
 pub data ActsNext (c : State) : Event → Type 0 where
   holds : (n : ℕ) → c.place ≡ Hand n → point c n ≡ Holding → ActsNext c (event.Home n)
   leaves : (n e : ℕ) → c.place ≡ Hand n → point c n ≡ Leaving e → ActsNext c (event.Home n)

@@ -80,8 +80,9 @@ abbrev pub IsCarried : LineConfig → State → List Request → List End → �
 IsCarried config c order ends n r [] = IsHeld config c ends n r
 IsCarried config c order ends n r (m ∷ ms) = IsWhole config c ends × EndedBy order ends n r × (r ≡ Refused → is_closed ends ≡ true)
 
--- The place of the line. With no open request it is at home. Else it is in the hand of n, whose release has reached the request at its
--- turn; or in the mailbox of t, whose turn it is, which waits; or in the mailbox of q, for t to find when it links.
+-- The place of the line. With no open request it is at home. Otherwise it is in the hand of n, whose release has
+-- reached the request at its turn; or in the mailbox of t, whose turn it is, which waits; or in the mailbox of q, for t
+-- to find when it links.
 pub data Lies (config : LineConfig) (c : State) (order : List Request) (ends : List End) : Type 0 where
   at_home : length ends ≡ length order → c.place ≡ Home → IsWhole config c ends → Lies config c order ends
   in_hand : (n : ℕ) → length ends < length order → IsNode c n → c.place ≡ Hand n → has_line (point c n) ≡ true → requester_at order (length ends) ≡ current c n → IsCarried config c order ends n (seat c n).reason (seat c n).passed → Lies config c order ends

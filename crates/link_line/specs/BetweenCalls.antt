@@ -60,21 +60,22 @@ wake_word v = word_of v.joined (turn_of v.order v.ends)
 abbrev pub allowed_states : PortState → Type 0
 allowed_states state = Unit {0}
 
--- the number of word steps to make a request, by the port's state
+-- the number of atomic steps to make a request, by the port's state
 abbrev pub steps_to_ask : PortState → ℕ
 steps_to_ask port_state.Left = 3
 steps_to_ask port_state.Rolled = 3
 steps_to_ask _ = 2
 
--- the number of word steps to enqueue: a request that waits has been linked, by one step more
+-- the number of atomic steps to enqueue: a request that waits has been linked, by one step more
 abbrev pub enqueue_steps : PortState → Enq → ℕ → Type 0
 enqueue_steps state enq.Busy steps = steps ≡ 1
 enqueue_steps state enq.Queued steps = steps ≡ steps_to_ask state + 1
 enqueue_steps state enq.Granted steps = steps ≤ steps_to_ask state + 1
 enqueue_steps state enq.Closed steps = Unit {0}
 
--- A release that made after - before ends took four word steps for each, less one to three: home, done, grant and freed for each withdrawn
--- request that it passed; and for the last end home, or home and done, or home, done and grant.
+-- A release that made after - before ends took four atomic steps for each, less one to three: home, done, grant and
+-- freed for each withdrawn request that it passed; and for the last end home, or home and done, or home, done and
+-- grant.
 abbrev pub release_steps : ℕ → ℕ → ℕ → Type 0
 release_steps before after steps = (4 * after ≤ 4 * before + steps + 3) × (steps + 1 + 4 * before ≤ 4 * after)
 

@@ -91,8 +91,8 @@ pub record MayServe (s : NodeCall) : Type 0 where
   pub passed : s.passed ≡ []
   pub serves : serves s.reason ≡ true
 
--- The core after the last word step, and the queue that it shows; the requests that are joined; and the withdrawn ones whose nodes were
--- freed: those that were not clear then, and those that were.
+-- The core after the last atomic step, and the queue that it shows; the requests that are joined; and the withdrawn
+-- ones whose nodes were freed: those that were not clear then, and those that were.
 pub record History : Type 0 where
   pub core : Core
   pub queue : Queue

@@ -69,7 +69,7 @@ impl<K: Keep> Discipline<K> for LinkQueue {
         take_from_closed(closed)
     }
 
-    /// Makes a request and links it to its predecessor's: two to four word steps; one if busy.
+    /// Makes a request and links it to its predecessor's: two to four atomic steps; one if busy.
     #[inline]
     fn ask(
         table: &SharedTable<K>,

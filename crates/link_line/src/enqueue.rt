@@ -63,7 +63,7 @@ pub(crate) fn request<K: Keep>(
     }
 }
 
-/// Resets the node's entry for a new request, and returns the word steps taken: 1 or 2.
+/// Resets the node's entry for a new request, and returns the atomic steps taken: 1 or 2.
 ///
 /// Returns `None`, after one step, if the last request is not clear.
 #[inline]
@@ -124,7 +124,7 @@ pub(crate) fn look_at_rest<K: Keep>(
     }
 }
 
-/// Returns the result of a poll of a node in `state`: it is idle again if its last request is clear. One word step.
+/// Returns the result of a poll of a node in `state`: it is idle again if its last request is clear. One atomic step.
 fn rested(state: PortState, clear: bool) -> Rested
     ensures clear { result.clear ≡ clear }
     ensures idle { clear ≡ true → result.state ≡ PortState.Idle }

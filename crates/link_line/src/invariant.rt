@@ -10,11 +10,11 @@ use std::collections::LinkedList;
 
 /// A list-based queue lock: an MCS swap of the home word, with links made late by the younger of two neighbours.
 ///
-/// A request is one swap of the home word, which names the newest requester. Later its node is linked: it adds its number to the
-/// predecessor's entry. A release looks at its own entry once and never waits for the link: if the link is missing, the release leaves the
-/// line there with a flag, and the late linker takes it. Between any two word steps the table shows one history of the line: an order of
-/// requests, and the ends of a prefix of them. Each port's view is a prefix of it. A port's token is the predecessor's node, to which its
-/// request is still to be linked.
+/// A request is one swap of the home word, which names the newest requester. Later its node is linked: it adds its
+/// number to the predecessor's entry. A release looks at its own entry once and never waits for the link: if the link
+/// is missing, the release leaves the line there with a flag, and the late linker takes it. Between any two atomic
+/// steps the table shows one history of the line: an order of requests, and the ends of a prefix of them. Each port's
+/// view is a prefix of it. A port's token is the predecessor's node, to which its request is still to be linked.
 pub struct LinkQueue;
 
 impl DisciplineSpec for LinkQueue {

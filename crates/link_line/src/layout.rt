@@ -89,15 +89,15 @@ pub(crate) fn link_of(word: u64) -> u64
     word / LINK_UNIT
 }
 
-/// Any two words of a list are at least 8 words apart; the home word is where a node 0 would have its entry. A law: the contract of a
-/// function that does nothing.
+/// Any two words of a list are at least 8 words apart; the home word is where a node 0 would have its entry. A theorem:
+/// the contract of a function that does nothing.
 pub fn words_are_apart()
     ensures home { layout.home_at ≡ layout.entry_at 0 }
     ensures entries { (m n : ℕ) → m < n → n ≤ MAX_NODES
         → layout.entry_at m + 8 ≤ layout.entry_at n }
 {}
 
-/// `NO_WORD` is none of a list's words. A law.
+/// `NO_WORD` is none of a list's words. A theorem.
 pub fn no_word_is_none()
     ensures { layout.word_count MAX_NODES ≤ NO_WORD }
 {}

@@ -23,7 +23,8 @@ use qolb_model::{Keep, MAX_NODES, PortState};
 /// The maximum number of requests that a release passes: those of all nodes but its own.
 const MAX_PASSED: usize = MAX_NODES as usize - 1;
 
-/// A release has room for the nodes of all requests that it may pass, and for no more. A law: the contract of a function that does nothing.
+/// A release has room for the nodes of all requests that it may pass, and for no more. A theorem: the contract of a
+/// function that does nothing.
 pub fn passed_nodes_have_room()
     ensures { MAX_PASSED + 1 ≡ MAX_NODES }
 {}
@@ -50,7 +51,7 @@ pub(crate) enum Handoff {
 /// The end of a walk. Its 16 bytes are returned in registers, so a release without withdrawn successors sets up no room for them.
 #[derive(Clone, Copy)]
 struct Walked {
-    /// The word steps of the release.
+    /// The atomic steps of the release.
     steps: u64,
     /// The word of the granted entry, or `HOME`.
     word: u32,
@@ -85,9 +86,10 @@ impl Handoff {
 
 /// Releases the line that this seat has. Never waits for a link.
 ///
-/// `closed`: the line is closed, by this turn or an earlier one. At most `4 * nodes - 3` word steps: three for each passed node and one to
-/// free it; the last attempt takes one to three, and only one if all other nodes were passed. The line is given up before the first node is
-/// freed. Returns the port's state, the word steps, and the words whose waiters are to be unparked.
+/// `closed`: the line is closed, by this turn or an earlier one. At most `4 * nodes - 3` atomic steps: three for each
+/// passed node and one to free it; the last attempt takes one to three, and only one if all other nodes were passed.
+/// The line is given up before the first node is freed. Returns the port's state, the atomic steps, and the words whose
+/// waiters are to be unparked.
 #[inline]
 pub(crate) fn release<K: Keep>(
     table: &SharedTable<K>,
@@ -125,8 +127,8 @@ pub(crate) fn release<K: Keep>(
 
 /// Tries to hand the line to the successor of node `from`.
 ///
-/// If there is none, the line is put home. If the successor has not linked yet, the line is left in `from`'s entry. A withdrawn
-/// successor is passed, and the caller goes on from it. One to three word steps, added to `steps`.
+/// If there is none, the line is put home. If the successor has not linked yet, the line is left in `from`'s entry. A
+/// withdrawn successor is passed, and the caller goes on from it. One to three atomic steps, added to `steps`.
 #[inline]
 fn try_handoff<K: Keep>(
     table: &SharedTable<K>,
@@ -175,12 +177,14 @@ fn try_handoff<K: Keep>(
     }
 }
 
-/// Hands the line on from the passed node `first`, past the withdrawn requests directly behind it, and then frees all passed nodes.
+/// Hands the line on from the passed node `first`, past the withdrawn requests directly behind it, and then frees all
+/// passed nodes.
 ///
-/// `steps` are the word steps of the first attempt; the result counts them, too. The port is never `Left` after it: a walk can leave the
-/// line only in the entry of a passed node, never in the releasing node's own.
+/// `steps` are the atomic steps of the first attempt; the result counts them, too. The port is never `Left` after it: a
+/// walk can leave the line only in the entry of a passed node, never in the releasing node's own.
 ///
-/// Cold and not inlined: it has an array of the passed nodes, which a release without withdrawn successors should not set up.
+/// Cold and not inlined: it has an array of the passed nodes, which a release without withdrawn successors should not
+/// set up.
 #[cold]
 #[inline(never)]
 fn walk<K: Keep>(table: &SharedTable<K>, seat: &mut LinkSeat, steps: u64, first: u64) -> Walked
@@ -204,7 +208,7 @@ fn walk<K: Keep>(table: &SharedTable<K>, seat: &mut LinkSeat, steps: u64, first:
     }
 }
 
-/// Frees the nodes of all passed requests, in their order. One word step for each.
+/// Frees the nodes of all passed requests, in their order. One atomic step for each.
 fn free_passed<K: Keep>(table: &SharedTable<K>, seat: &mut LinkSeat, nodes: &[u64])
     requires table { IsSeatOf table.now.key.config.nodes table.now.table_id seat.old }
     requires point { IsAt Freeing seat.old }
@@ -221,7 +225,8 @@ fn free_passed<K: Keep>(table: &SharedTable<K>, seat: &mut LinkSeat, nodes: &[u6
     }
 }
 
-/// Returns the state after a release that did not leave the line in the node's own entry: `Shut` if the line is closed, else `Idle`.
+/// Returns the state after a release that did not leave the line in the node's own entry: `Shut` if the line is closed,
+/// otherwise `Idle`.
 ///
 /// `closed`: the line is closed, by this turn or an earlier one.
 #[inline]

@@ -57,8 +57,9 @@ pub(crate) fn reset<K: Keep>(table: &SharedTable<K>, seat: &mut LinkSeat, node: 
 
 /// Puts the request at the queue's end by a swap of the home word (MCS): the linearization point of the request.
 ///
-/// Returns the word's old value: 0 if the request is at its turn, else the predecessor's node. The swap puts the request into the order;
-/// the link is made later and does not affect the order. SCI calls this step prepend, as its list begins with the newest request.
+/// Returns the word's old value: 0 if the request is at its turn, otherwise the predecessor's node. The swap puts the
+/// request into the order; the link is made later and does not affect the order. SCI calls this step prepend, as its
+/// list begins with the newest request.
 pub(crate) fn prepend<K: Keep>(table: &SharedTable<K>, seat: &mut LinkSeat, node: u64) -> u64
     requires seat { IsSeatOfNode table.now.key.config.nodes table.now.table_id node seat.old }
     requires point { IsAt Ready seat.old }

@@ -223,7 +223,7 @@ pub extern "C" fn qolb_core_check_open_proved_(lock: &LockRef, ticket: &mut Tick
 
 /// Takes the lock word without waiting, if it is as the ticket guesses, free for barging threads, and open.
 ///
-/// Else the ticket has the word that was found.
+/// Otherwise the ticket has the word that was found.
 #[unsafe(no_mangle)]
 pub extern "C" fn qolb_core_barge_proved_(lock: &LockRef, ticket: &mut Ticket) -> u32
     requires { Of lock.now.lock (λ l. IsKnown l ticket.old) }
@@ -265,7 +265,7 @@ pub extern "C" fn qolb_core_take_lock_word_proved_(lock: &LockRef, ticket: &mut 
 
 /// Leaves the lock word, if it is as the ticket guesses.
 ///
-/// Else the ticket has the word that was found, and the call must be made again.
+/// Otherwise the ticket has the word that was found, and the call must be made again.
 #[unsafe(no_mangle)]
 pub extern "C" fn qolb_core_leave_lock_word_proved_(lock: &LockRef, ticket: &mut Ticket) -> u32
     requires { Of lock.now.lock (λ l. IsKnown l ticket.old) }

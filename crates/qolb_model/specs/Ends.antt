@@ -20,7 +20,7 @@ MayEnd closed last (Served write shut) = (closed ≡ false) × (last ≡ true �
 MayEnd closed last Gone = Unit {0}
 MayEnd closed last Told = closed ≡ true
 
--- the bytes after a masked write: a byte of the write if the mask has its place, else the old byte
+-- the bytes after a masked write: a byte of the write if the mask has its place, otherwise the old byte
 abbrev pub written : List ℕ → Write → List ℕ
 written bytes write = merged bytes write.bytes.bytes write.mask.0
 

@@ -46,20 +46,21 @@ pub record IsLeast (nodes : ℕ) (Fails IsFine : ℕ → Type 0) (node : ℕ) : 
   pub fails : Fails node
   pub before : (m : ℕ) → 1 ≤ m → m < node → IsFine m
 
--- with these ports only want of memory can prevent finishing: they are of the line, each node has one, and none waits or holds
+-- with these ports only lack of memory can prevent finishing: they are of the line, each node has one, and none waits
+-- or holds
 abbrev pub MayFinish : ℕ → ℕ → List View → Type 0
 MayFinish label nodes views = AreOfLine label views × EachNode nodes (IsThere views) × EachNode nodes (IsQuiet views)
 
--- the cause of a refusal, in this order: a port of another line; a node without a port; a node that is not quiet; want of memory only if
--- there is no other
+-- the cause of a refusal, in this order: a port of another line; a node without a port; a node that is not quiet; lack
+-- of memory only if there is no other
 abbrev pub MayRefuse : ℕ → ℕ → List View → FinishError → Type 0
 MayRefuse label nodes views (Missing zero) = HasOther label views
 MayRefuse label nodes views (Missing (suc n)) = AreOfLine label views × IsLeast nodes (IsMissing views) (IsThere views) (suc n)
 MayRefuse label nodes views (Unquiet n) = AreOfLine label views × EachNode nodes (IsThere views) × IsLeast nodes (IsUnquiet views) (IsQuiet views) n
 MayRefuse label nodes views Memory = MayFinish label nodes views
 
--- The end of a line, by the views of all its nodes: they are of different nodes and of one history, in which every request has ended and
--- every turn kept the law. The bytes are those after all ends, and good.
+-- The end of a line, by the views of all its nodes: they are of different nodes and of one history, in which every
+-- request has ended and every turn kept the data invariant. The bytes are those after all ends, and good.
 pub record IsFinalLine (good : List ℕ → Type 0) (allows : List ℕ → List ℕ → Type 0) (config : LineConfig) (views : List View) (bytes : List ℕ) : Type 0 where
   pub may_open : MayOpen config
   pub once : EachNodeOnce views
@@ -70,8 +71,9 @@ pub record IsFinalLine (good : List ℕ → Type 0) (allows : List ℕ → List 
   pub result : bytes ≡ bytes_after config.opening.bytes history.ends
   pub is_good : good bytes
 
--- The line is finished: there is no cause of refusal, and each node has one port. All ports are of one history of the line, in which every
--- request has ended and every turn kept the law. The bytes are the opening ones changed by all served writes in order, and good.
+-- The line is finished: there is no cause of refusal, and each node has one port. All ports are of one history of the
+-- line, in which every request has ended and every turn kept the data invariant. The bytes are the opening ones changed
+-- by all served writes in order, and good.
 pub record IsFinished (good : List ℕ → Type 0) (allows : List ℕ → List ℕ → Type 0) (label : ℕ) (config : LineConfig) (views : List View) (bytes : List ℕ) : Type 0 where
   pub of_line : AreOfLine label views
   pub may_open : MayOpen config

@@ -51,7 +51,7 @@ OpenLineHasTurns = (lease : Option ℕ) (order : List Request) (ends : List End)
 abbrev pub OnlyServedEndsWrite : Type 0
 OnlyServedEndsWrite = (bytes : List ℕ) (ends : List End) → bytes_after bytes (filter is_served ends) ≡ bytes_after bytes ends
 
--- bytes that are good stay good under turns that keep the law
+-- bytes that are good stay good under turns that keep the data invariant
 abbrev pub GoodStaysGood : (List ℕ → Type 0) → (List ℕ → List ℕ → Type 0) → Type 0
 GoodStaysGood good allows = (bytes : List ℕ) (ends : List End) → good bytes → AreAllowed allows bytes ends → good (bytes_after bytes ends)
 

@@ -47,8 +47,8 @@ is_open q node = has (open_of q.order q.ends) (last_of node q.order)
 abbrev pub is_rolled : Queue → ℕ → Bool
 is_rolled q node = is_open q node && has q.marked (last_of node q.order)
 
--- A node with an open request is Holding if that was answered granted, Rolled if it was withdrawn, else Queued. Any other node is Idle, or
--- Shut once the line is closed.
+-- A node with an open request is Holding if that was answered granted, Rolled if it was withdrawn, otherwise Queued.
+-- Any other node is Idle, or Shut once the line is closed.
 abbrev pub state_of : OwnerState → ℕ → PortState
 state_of s node =
     if is_open s.queue node
@@ -88,8 +88,8 @@ after_poll poll.Granted s = after_grant s
 after_poll poll.Waiting s = s
 after_poll poll.Closed s = after_end (after_moves (ends_with Told s.queue) s)
 
--- `enqolb`: busy while the last request is withdrawn and has no end; else the node makes a request, and the answer is as by `poll`, with
--- queued for waiting
+-- `enqolb`: busy while the last request is withdrawn and has no end; otherwise the node makes a request, and the answer
+-- is as by `poll`, with queued for waiting
 abbrev pub as_enq : Poll → Enq
 as_enq poll.Granted = enq.Granted
 as_enq poll.Waiting = enq.Queued
@@ -111,7 +111,7 @@ enq_moves s node = if is_rolled s.queue node then [] else ask node ∷ poll_move
 abbrev pub after_enq : OwnerState → ℕ → OwnerState
 after_enq s node = if is_rolled s.queue node then s else after_poll (poll_answer (after_ask s node) node) (after_ask s node)
 
--- `withdraw`: a request that is not at its turn is marked; else the answer is as by `poll`
+-- `withdraw`: a request that is not at its turn is marked; otherwise the answer is as by `poll`
 abbrev pub as_out : Poll → Out
 as_out poll.Granted = out.Granted
 as_out poll.Waiting = out.Withdrawn

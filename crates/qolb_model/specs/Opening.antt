@@ -19,7 +19,7 @@ pub record MayOpen (config : LineConfig) : Type 0 where
   pub nodes : AreNodes config.nodes
   pub lease : IsLease config.lease
 
--- the cause for which a line is not opened, in this order: its number of nodes, its lease, want of memory
+-- the cause for which a line is not opened, in this order: its number of nodes, its lease, lack of memory
 abbrev pub MayNotOpen : LineConfig → OpenError → Type 0
 MayNotOpen config Nodes = (config.nodes < 1) ⊎ (MAX_NODES < config.nodes)
 MayNotOpen config Lease = AreNodes config.nodes × (config.lease ≡ Some 0)

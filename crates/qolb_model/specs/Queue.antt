@@ -26,8 +26,8 @@ pub data Move : Type 0 where
   mark : (request : Request) → Move
   finish : (end : End) → Move
 
--- the ends that the request at its turn may have: Gone if it is marked; else served while the line is open, where the last turn of the
--- lease closes it; else told
+-- the ends that the request at its turn may have: Gone if it is marked; otherwise served while the line is open, where
+-- the last turn of the lease closes it; otherwise told
 abbrev pub EndsAs : Option ℕ → Queue → Request → End → Type 0
 EndsAs lease q r (Served write shut) = Lacks q.marked r × (is_closed q.ends ≡ false) × (is_last_turn lease q.ends ≡ true → shut ≡ true)
 EndsAs lease q r Gone = Has q.marked r

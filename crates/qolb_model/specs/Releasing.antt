@@ -17,9 +17,10 @@ use Rattle.qolb_model.specs.AtTurn.{IsClearBefore}
 abbrev pub SuccessorUnlinked : View → Type 0
 SuccessorUnlinked v = (r : Request) × (turn_of v.order v.ends ≡ Some r) × Lacks v.joined r
 
--- What holds after a release that has passed the withdrawn requests from place `from` on. The port knows each request that it ended. The
--- next request is not withdrawn. Each passed one is freed, and clear too, but perhaps not the last if the successor is unlinked. The line
--- stays in the node's own mailbox only if the successor is unlinked and none was passed; else the node's request is clear.
+-- What holds after a release that has passed the withdrawn requests from place `from` on. The port knows each request
+-- that it ended. The next request is not withdrawn. Each passed one is freed, and clear too, but perhaps not the last
+-- if the successor is unlinked. The line stays in the node's own mailbox only if the successor is unlinked and none was
+-- passed; otherwise the node's request is clear.
 pub record AfterRelease (from : ℕ) (leaves : PortState) (new : View) : Type 0 where
   pub known : length new.ends ≤ length new.order
   pub unmarked : (r : Request) → turn_of new.order new.ends ≡ Some r → Lacks new.marked r

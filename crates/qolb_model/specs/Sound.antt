@@ -18,8 +18,8 @@ IsFreedClear v = (p : ℕ) (r next : Request) → slice_get v.order p ≡ Some r
 abbrev pub KnowsOwnHistory : View → Type 0
 KnowsOwnHistory v = (p : ℕ) (r : Request) → slice_get v.order p ≡ Some r → r.node ≡ v.node → (p < length v.ends) ⊎ (Has v.marked r ⊎ ((r ≡ own v) × (may_ask v.state ≡ false)))
 
--- what every call keeps: the port forgets nothing, its view is true of some history, all turns in that kept the law, and it knows the
--- outcome of its own requests
+-- what every call keeps: the port forgets nothing, its view is true of some history, all turns in that kept the data
+-- invariant, and it knows the outcome of its own requests
 pub record Continues (allows : List ℕ → List ℕ → Type 0) (old new : View) : Type 0 where
   pub extends : Extends old new
   pub history : OneHistory (new ∷ [])

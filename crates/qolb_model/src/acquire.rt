@@ -22,9 +22,10 @@ pub enum Acquired {
     Busy,
 }
 
-/// Requests the line, polls at most `patience` times, and then withdraws the request if it still waits. Does not allocate.
+/// Requests the line, polls at most `patience` times, and then withdraws the request if it still waits. Does not
+/// allocate.
 ///
-/// Takes the word steps of its polls and of at most two calls more.
+/// Takes the atomic steps of its polls and of at most two calls more.
 pub fn acquire_bounded<K: Keep, L: LineSync<K>>(
     line: &L,
     port: &mut L::Port,

@@ -22,7 +22,7 @@ pub struct LineConfig {
 impl LineConfig {
     /// Checks the number of nodes, then the lease.
     ///
-    /// Returns `Nodes` if there are not 1 to `MAX_NODES` nodes, else `Lease` if the lease is 0.
+    /// Returns `Nodes` if there are not 1 to `MAX_NODES` nodes, otherwise `Lease` if the lease is 0.
     pub fn check(&self) -> Result<(), OpenError>
         ensures { MatchResult result (λ _. MayOpen self.now) (λ error.
             (error ≢ OpenError.Memory) × MayNotOpen self.now error) }

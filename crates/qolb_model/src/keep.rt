@@ -1,6 +1,6 @@
 ghost use Rattle.std.specs.Prelude.{List, ℕ};
 
-/// The law of a line: which bytes are good, and which changes a turn may make.
+/// The data invariant of a line: which bytes are good, and which changes a turn may make.
 pub trait Keep {
     /// The bytes are good.
     ghost good: { List ℕ → Type 0 };
@@ -15,7 +15,7 @@ pub trait Keep {
     ghost allows_same: { (bytes : List ℕ) → good bytes → allows bytes bytes };
 }
 
-/// The law that allows everything.
+/// The data invariant that allows everything.
 pub struct Free;
 
 impl Keep for Free {

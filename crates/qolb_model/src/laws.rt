@@ -31,7 +31,7 @@ pub fn only_served_ends_write()
     ensures { OnlyServedEndsWrite }
 {}
 
-/// Good bytes stay good if every turn keeps the law.
+/// Good bytes stay good if every turn keeps the data invariant.
 pub fn good_stays_good<K: Keep>()
     ensures { GoodStaysGood K.good K.allows }
 {}

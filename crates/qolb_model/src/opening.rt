@@ -8,13 +8,15 @@ use crate::keep::Keep;
 use crate::sync::LineSync;
 use std::alloc::Global;
 
-/// A line that can be opened under the law `K`, and that nodes then share.
+/// A line that can be opened under the data invariant `K`, and that nodes then share.
 pub trait OpenLine<K: Keep>: LineSync<K> {
-    /// Opens a line by `config`, with a port for each of its nodes, in their order. Only this call and `finish` allocate.
+    /// Opens a line by `config`, with a port for each of its nodes, in their order. Only this call and `finish`
+    /// allocate.
     ///
     /// # Errors
     ///
-    /// `Nodes` if the number of nodes is not 1 to `MAX_NODES`, else `Lease` if the lease is 0, else `Memory` if memory is short.
+    /// `Nodes` if the number of nodes is not 1 to `MAX_NODES`, otherwise `Lease` if the lease is 0, otherwise `Memory`
+    /// if memory is short.
     fn open_with(
         alloc: Global,
         label: u64,

@@ -25,20 +25,22 @@ use std::alloc::Global;
 
 /// A FIFO queue lock that hands 64 bytes from holder to holder.
 ///
-/// Each node calls it through its own port. `enqolb` and `deqolb` are QOLB's (Scalable Coherent Interface, IEEE 1596; as QOSB by Goodman,
-/// Vernon and Woest 1989); the call that withdraws (after SCI's rollout), closing and leases are this project's. `K` says which bytes the
-/// line may have and which changes a turn may make. `enqolb`, `poll`, `withdraw`, `is_clear`, `deqolb`, `shut` and `meet` promise one
-/// record of `specs/Calls` each, about the views before and after the call, with a field for each answer. A node is a participant, not a
-/// queue node in the sense of MCS.
+/// Each node calls it through its own port. `enqolb` and `deqolb` are QOLB's (Scalable Coherent Interface, IEEE 1596;
+/// as QOSB by Goodman, Vernon and Woest 1989); the call that withdraws (after SCI's rollout), closing and leases are
+/// this project's. `K` says which bytes the line may have and which changes a turn may make. `enqolb`, `poll`,
+/// `withdraw`, `is_clear`, `deqolb`, `shut` and `meet` promise one record of `specs/Calls` each, about the views before
+/// and after the call, with a field for each answer. A node is a participant, not a queue node in the sense of MCS.
 ///
-/// A word step is one atomic operation on a word that nodes share, sequentially consistent in all locks. Calls are wait-free: one takes at
-/// most `max_steps` of them, whatever other nodes do meanwhile. A call that releases the line (`deqolb`, `shut`, or one that answers
-/// `Closed`) takes, beyond a constant, two to four steps for each withdrawn request that it passes, by the lock. All others have a constant
-/// bound. Only `finish` allocates. No call parks: parking takes a `Wait`, which no call has as an argument. A wrapper that keeps a `Wait`
-/// may park in its `poll`, which is then not wait-free. A call changes no port but its arguments.
+/// An atomic step is one atomic operation on a word that nodes share, sequentially consistent in all locks. Calls are
+/// wait-free: one takes at most `max_steps` of them, whatever other nodes do meanwhile. A call that releases the line
+/// (`deqolb`, `shut`, or one that answers `Closed`) takes, beyond a constant, two to four steps for each withdrawn
+/// request that it passes, by the lock. All others have a constant bound. Only `finish` allocates. No call parks:
+/// parking takes a `Wait`, which no call has as an argument. A wrapper that keeps a `Wait` may park in its `poll`,
+/// which is then not wait-free. A call changes no port but its arguments.
 ///
-/// A request is at its turn once all before it have ended. To free a node is to promise that the release which passed the node's withdrawn
-/// request uses the node's word no more. The request is then clear, unless another node has still to use that word.
+/// A request is at its turn once all before it have ended. To free a node is to promise that the release which passed
+/// the node's withdrawn request uses the node's word no more. The request is then clear, unless another node has still
+/// to use that word.
 pub trait LineSync<K: Keep> {
     /// A node's handle of the line.
     type Port;
@@ -49,16 +51,17 @@ pub trait LineSync<K: Keep> {
     /// The line's bytes in the holder's port, with the mask of what this turn has written.
     ghost turn: { Self.Port → Write };
 
-    /// The port's counters of word steps and polls.
+    /// The port's counters of atomic steps and polls.
     ghost counters: { Self.Port → Counters };
 
     /// The states that a port may show.
     ghost allowed_states: { PortState → Type 0 };
 
-    /// `call_steps line call before after n`: the call may take `n` word steps, by the port's views before and after it.
+    /// `call_steps line call before after n`: the call may take `n` atomic steps, by the port's views before and after
+    /// it.
     ghost call_steps: { Self → Call → View → View → ℕ → Type 0 };
 
-    /// The maximum number of word steps of one call of a port, whatever other nodes do meanwhile.
+    /// The maximum number of atomic steps of one call of a port, whatever other nodes do meanwhile.
     ghost max_steps: { Self → ℕ };
 
     /// The port was opened with the line.
@@ -106,7 +109,8 @@ pub trait LineSync<K: Keep> {
         ensures left { result ≡ turns_left (config_of self.now).lease (view port.now).ends }
         ensures not_zero { result ≢ Some 0 };
 
-    /// Writes those of `bytes` that `mask` selects, in the holder's port. Other nodes see them after the release. No word step.
+    /// Writes those of `bytes` that `mask` selects, in the holder's port. Other nodes see them after the release. No
+    /// atomic step.
     fn write(port: &mut Self::Port, mask: Mask, bytes: &Line64)
         requires { (view port.old).state ≡ PortState.Holding }
         ensures view { view port.new ≡ view port.old }
@@ -153,8 +157,8 @@ pub trait LineSync<K: Keep> {
 
     /// Returns `true` if the port's last request is clear, so that the next is not answered `Busy`. Makes no request.
     ///
-    /// A request is clear once no other node will use, because of it, the word that belongs to its node. At most one word step; the port's
-    /// view records what the look found.
+    /// A request is clear once no other node will use, because of it, the word that belongs to its node. At most one
+    /// atomic step; the port's view records what the look found.
     fn is_clear(&self, port: &mut Self::Port) -> bool
         requires belongs { belongs self.now port.old }
         requires state { IsTrue (may_ask (view port.old).state) }

@@ -68,7 +68,7 @@ impl Handle {
         }
     }
 
-    /// Frees the handle's node, if it neither waits nor holds; else the node stays.
+    /// Frees the handle's node, if it neither waits nor holds; otherwise the node stays.
     pub fn close(&mut self, alloc: Global) -> Answer
         ensures { HasClosed self.old.held self.new.held result }
     {

@@ -95,7 +95,7 @@ impl<Q: Discipline<Free>> Node<LineFor<Q>> {
         LineFor::<Q>::state(&self.port)
     }
 
-    /// Returns `Done` if the node's last request is clear, so that the next is not answered `Busy`; else `Busy`.
+    /// Returns `Done` if the node's last request is clear, so that the next is not answered `Busy`; otherwise `Busy`.
     ///
     /// `Misuse` if the node waits or holds.
     pub fn is_clear(&mut self) -> Answer

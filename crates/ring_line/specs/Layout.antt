@@ -12,7 +12,7 @@ withdrawn_by word = word / WITHDRAWN_UNIT
 abbrev pub signals_turn : ℕ → ℕ → Bool
 signals_turn token low = not (low == 0)
 
--- the words of a new line: the first cell is granted, and all else is blank
+-- the words of a new line: the first cell is granted, and all other words are blank
 abbrev pub AreFirst : List ℕ → Type 0
 AreFirst words = array.AreFirst CELLS 1 words
 

@@ -75,7 +75,7 @@ impl<K: Keep> Discipline<K> for RingQueue {
         take_from_closed(closed)
     }
 
-    /// Takes a ticket and loads its cell: two word steps; four after a withdrawal; one if busy.
+    /// Takes a ticket and loads its cell: two atomic steps; four after a withdrawal; one if busy.
     #[inline]
     fn ask(
         table: &SharedTable<K>,
@@ -104,7 +104,7 @@ impl<K: Keep> Discipline<K> for RingQueue {
         }
     }
 
-    /// Returns `true` unless the node's last request was withdrawn and is not passed yet.
+    /// Returns `true` unless the node's last request was withdrawn and has not been passed yet.
     #[inline]
     fn look_at_rest(
         table: &SharedTable<K>,

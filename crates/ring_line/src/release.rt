@@ -19,12 +19,14 @@ use qolb_model::{Keep, MAX_NODES, PortState};
 /// The maximum number of requests that a release passes: those of all nodes but its own.
 const MAX_PASSED: usize = MAX_NODES as usize - 1;
 
-/// A release has room for the nodes of all requests that it may pass, and for no more. A law: the contract of a function that does nothing.
+/// A release has room for the nodes of all requests that it may pass, and for no more. A theorem: the contract of a
+/// function that does nothing.
 pub fn passed_nodes_have_room()
     ensures { MAX_PASSED + 1 ≡ MAX_NODES }
 {}
 
-/// The word steps taken, and the cell granted last. The request there is at its turn: its node may be parked, or may not have made it yet.
+/// The atomic steps taken, and the cell granted last. The request there is at its turn: its node may be parked, or may
+/// not have made it yet.
 #[derive(Clone, Copy)]
 pub(crate) struct Handoff {
     pub(crate) steps: u64,
@@ -33,8 +35,8 @@ pub(crate) struct Handoff {
 
 /// Sets the node's own word back to 0 for a new request, if the last one is clear.
 ///
-/// Returns the word steps taken: `Some(0)` if the last request was not withdrawn, or there was none; `Some(2)` if it was withdrawn and is
-/// clear. Returns `None`, after one step, if it is not clear yet.
+/// Returns the atomic steps taken: `Some(0)` if the last request was not withdrawn, or there was none; `Some(2)` if it
+/// was withdrawn and is clear. Returns `None`, after one step, if it is not clear yet.
 #[inline]
 pub(crate) fn try_reset<K: Keep>(
     table: &SharedTable<K>,
@@ -61,7 +63,7 @@ pub(crate) fn try_reset<K: Keep>(
 
 /// Gives the line to the next request that is not withdrawn, made already or not.
 ///
-/// Two word steps, and three more for each passed request. Does not block.
+/// Two atomic steps, and three more for each passed request. Does not block.
 #[inline]
 pub(crate) fn release<K: Keep>(table: &SharedTable<K>, seat: &mut RingSeat, cell: u64) -> Handoff
     requires { IsReleaser K.allows table.now.table_id cell seat.old }
@@ -84,9 +86,11 @@ pub(crate) fn release<K: Keep>(table: &SharedTable<K>, seat: &mut RingSeat, cell
     }
 }
 
-/// Passes withdrawn requests, up to the first cell without a withdrawal, and frees their nodes. Three word steps for each.
+/// Passes withdrawn requests, up to the first cell without a withdrawal, and frees their nodes. Three atomic steps for
+/// each.
 ///
-/// Cold and not inlined: it has an array of the passed nodes, which a release without withdrawn successors should not set up.
+/// Cold and not inlined: it has an array of the passed nodes, which a release without withdrawn successors should not
+/// set up.
 #[cold]
 #[inline(never)]
 fn walk<K: Keep>(table: &SharedTable<K>, seat: &mut RingSeat, cell: u64, found: u64) -> Handoff

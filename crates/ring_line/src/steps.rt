@@ -99,10 +99,12 @@ pub(crate) fn clear<K: Keep>(table: &SharedTable<K>, seat: &mut RingSeat, cell: 
     table.store::<Clear>(seat, cell_word(cell), 0);
 }
 
-/// Ends the request at its turn, the caller's or one that it passes, and grants the next cell. The linearization point of an end.
+/// Ends the request at its turn, the caller's or one that it passes, and grants the next cell. The linearization point
+/// of an end.
 ///
-/// Returns the old word of that next cell. 0: its request has the line, whether it was made already or not. Else the cell names the node
-/// that withdrew there (`withdrawn_by`): the caller still has the line, and must pass that request.
+/// Returns the old word of that next cell. 0: its request has the line, whether it was made already or not. Otherwise
+/// the cell names the node that withdrew there (`withdrawn_by`): the caller still has the line, and must pass that
+/// request.
 pub(crate) fn grant<K: Keep>(table: &SharedTable<K>, seat: &mut RingSeat, cell: u64) -> u64
     requires table { IsSeatOf word_count table.now.table_id seat.old }
     requires point { IsAt Cleared seat.old }

@@ -284,7 +284,7 @@ fn a_value_lies_in_its_lane(rt: HostRuntime) -> Result<(), Fail> {
 
 #[test]
 fn no_more_seats_are_sold_than_there_are(rt: HostRuntime) -> Result<(), Fail> {
-    // What a law allows does not depend on the lock.
+    // What a data invariant allows does not depend on the lock.
     the_house_is_sold_out::<HostRuntime, TicketLine<SeatLimit>>(&rt, rt.alloc());
     Ok(())
 }

@@ -21,8 +21,8 @@ use std::process::Abort;
 use std::sync::Wait;
 use std::test::Fail;
 
-/// What differs between the locks: the word steps of a release that passes two withdrawn nodes of three, and of one that passes 199 of 200;
-/// and the bytes of the table of a line with four nodes.
+/// What differs between the locks: the atomic steps of a release that passes two withdrawn nodes of three, and of one
+/// that passes 199 of 200; and the bytes of the table of a line with four nodes.
 #[derive(Drop)]
 struct Known {
     few: u64,

@@ -32,7 +32,7 @@ signals_turn ticket low = low == granted_word ticket % 2 ^ 32
 abbrev pub number_before : ℕ → ℕ → ℕ
 number_before nodes place = (place + 1 - cells_for nodes) % NUMBERS
 
--- the words of a new line: the first cell is granted to the first ticket, and all else is blank
+-- the words of a new line: the first cell is granted to the first ticket, and all other words are blank
 abbrev pub AreFirst : ℕ → List ℕ → Type 0
 AreFirst nodes words = array.AreFirst (cells_for nodes) (granted_word 0) words
 

@@ -85,7 +85,7 @@ impl<K: Keep> Discipline<K> for TicketQueue {
         take_final(closed, nodes)
     }
 
-    /// Takes a ticket and loads its cell: two word steps; four after a withdrawal; one if busy.
+    /// Takes a ticket and loads its cell: two atomic steps; four after a withdrawal; one if busy.
     #[inline]
     fn ask(
         table: &SharedTable<K>,
@@ -114,7 +114,7 @@ impl<K: Keep> Discipline<K> for TicketQueue {
         }
     }
 
-    /// Returns `true` unless the node's last request was withdrawn and is not passed yet.
+    /// Returns `true` unless the node's last request was withdrawn and has not been passed yet.
     #[inline]
     fn look_at_rest(
         table: &SharedTable<K>,

@@ -19,7 +19,7 @@ use qolb_model::{Keep, MAX_NODES, PortState};
 /// The maximum number of requests that a release passes: those of all nodes but its own.
 const MAX_PASSED: usize = MAX_NODES as usize - 1;
 
-/// The word steps taken, and the ticket that has the line now. Its request may be parked, or not made yet.
+/// The atomic steps taken, and the ticket that has the line now. Its request may be parked, or not made yet.
 #[derive(Clone, Copy)]
 pub(crate) struct Handoff {
     pub(crate) steps: u64,
@@ -28,8 +28,8 @@ pub(crate) struct Handoff {
 
 /// Sets the node's own word back to 0 for a new request, if the last one is clear.
 ///
-/// Returns the word steps taken: `Some(0)` if the last request was not withdrawn, or there was none; `Some(2)` if it was withdrawn and is
-/// clear. Returns `None`, after one step, if it is not clear yet.
+/// Returns the atomic steps taken: `Some(0)` if the last request was not withdrawn, or there was none; `Some(2)` if it
+/// was withdrawn and is clear. Returns `None`, after one step, if it is not clear yet.
 #[inline]
 pub(crate) fn try_reset<K: Keep>(
     table: &SharedTable<K>,
@@ -56,8 +56,8 @@ pub(crate) fn try_reset<K: Keep>(
 
 /// Grants the next ticket. The caller has put the line into the slot of that ticket already.
 ///
-/// One word step if the successor has not withdrawn; two more, and a copy of the line, for each passed request. At most
-/// `2 * nodes - 1` word steps. Does not block.
+/// One atomic step if the successor has not withdrawn; two more, and a copy of the line, for each passed request. At
+/// most `2 * nodes - 1` atomic steps. Does not block.
 #[inline]
 pub(crate) fn release<K: Keep>(
     table: &SharedTable<K>,
@@ -86,10 +86,11 @@ pub(crate) fn release<K: Keep>(
 
 /// Passes withdrawn requests, up to the first ticket that is not withdrawn, taken or not, and frees their nodes.
 ///
-/// The first one, `ticket` of `node`, was granted already, and found withdrawn. Two word steps for each passed request: the next grant, and
-/// the freeing.
+/// The first one, `ticket` of `node`, was granted already, and found withdrawn. Two atomic steps for each passed
+/// request: the next grant, and the freeing.
 ///
-/// Cold and not inlined: it has an array of the passed nodes, which a release without withdrawn successors should not set up.
+/// Cold and not inlined: it has an array of the passed nodes, which a release without withdrawn successors should not
+/// set up.
 #[cold]
 #[inline(never)]
 fn walk<K: Keep>(
@@ -136,7 +137,7 @@ pub(crate) fn copy_to_next_slot<K: Keep>(
     *seat.slot_mut(table, slot_of(table, cell_mask, ticket_after(ticket))) = line;
 }
 
-/// Frees the nodes of all passed requests, in their order. One word step for each.
+/// Frees the nodes of all passed requests, in their order. One atomic step for each.
 fn free_passed<K: Keep>(table: &SharedTable<K>, seat: &mut TicketSeat, nodes: &[u64])
     requires { MayFreeAll table.now nodes.now seat.old }
     ensures { HasFreedAll K.allows nodes.now seat.old seat.new }

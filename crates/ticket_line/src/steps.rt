@@ -106,8 +106,8 @@ pub(crate) fn roll<K: Keep>(
 
 /// Ends the request at its turn, the caller's or one that it passes, and grants ticket `next` in that ticket's cell.
 ///
-/// The linearization point of an end. Returns 0 if `next` now has the line, whether a node has taken that ticket or not; else the node that
-/// had withdrawn it: the caller still has the line, and must pass that request.
+/// The linearization point of an end. Returns 0 if `next` now has the line, whether a node has taken that ticket or
+/// not; otherwise the node that had withdrawn it: the caller still has the line, and must pass that request.
 pub(crate) fn grant<K: Keep>(
     table: &SharedTable<K>,
     seat: &mut TicketSeat,

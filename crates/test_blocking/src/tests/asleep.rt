@@ -27,7 +27,7 @@ enum Manner {
     Asleep,
     /// With this time limit.
     Timed(u64),
-    /// With the limit if the round plus the place is divisible by 3, else without.
+    /// With the limit if the round plus the place is divisible by 3, otherwise without.
     Mixed(u64),
 }
 

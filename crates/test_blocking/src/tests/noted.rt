@@ -491,7 +491,7 @@ where
     Some(look_behind(&line, &mut one, &mut two))
 }
 
-/// A poll of a `ParkOnPoll` sleeps once if the request still waits, and else not at all.
+/// A poll of a `ParkOnPoll` sleeps once if the request still waits, and otherwise not at all.
 fn each_look_in_vain_sleeps_once<R: Wait + Abort, L: SleepLine>(rt: &R, alloc: Global)
 where
     L::Port: Drop,

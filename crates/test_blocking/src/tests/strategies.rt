@@ -202,7 +202,7 @@ where
     all_see_hooked::<R, &Polls, L, Tired>(rt, alloc, 3, polls, &tired, &let_go)
 }
 
-/// A port that was busy for long polls 65 times before it sleeps, as any other: its wait begins anew.
+/// A port that was busy for long polls 65 times before it sleeps, as any other: its wait begins again.
 pub(super) fn a_wait_begins_anew_after_busy_tries<
     R: Threads + Wait + Abort + Sync,
     L: SleepLine + Sync,

@@ -496,8 +496,8 @@ where
     Some((paid, found))
 }
 
-/// Settles in a room that grows by the heap's grain: refused for want of memory, without returning the lines, until the room holds all that
-/// it allocates.
+/// Settles in a room that grows by the heap's grain: refused for lack of memory, without returning the lines, until the
+/// room holds all that it allocates.
 pub(super) fn settling_is_refused_for_want_of_memory<R: Abort, L: OpenLine<AccountLaw> + Drop>(
     rt: &R,
     alloc: Global,
