@@ -7,7 +7,7 @@ use Rattle.qolb_model.specs.declared.view.View.{View}
 use Rattle.qolb_model.specs.Ends.{written}
 use Rattle.qolb_model.specs.Views.{bytes_of}
 
--- the data invariant allows each served turn's change of the bytes before it
+-- the data invariant allows the change that each served turn makes of the bytes before it
 abbrev pub AreAllowed : (List ℕ → List ℕ → Type 0) → List ℕ → List End → Type 0
 AreAllowed allows bytes [] = Unit {0}
 AreAllowed allows bytes (Served write shut ∷ ends) = allows bytes (written bytes write) × AreAllowed allows (written bytes write) ends
@@ -18,6 +18,6 @@ AreAllowed allows bytes (Told ∷ ends) = AreAllowed allows bytes ends
 abbrev pub IsKept : (List ℕ → List ℕ → Type 0) → View → Type 0
 IsKept allows v = AreAllowed allows v.config.opening.bytes v.ends
 
--- the data invariant allows the change that this turn has made of its first bytes
+-- the data invariant allows the change that this turn has made of the bytes that it found
 abbrev pub MayRelease : (List ℕ → List ℕ → Type 0) → View → Write → Type 0
 MayRelease allows v turn = allows (bytes_of v) turn.bytes.bytes

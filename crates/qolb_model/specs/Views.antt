@@ -18,7 +18,7 @@ bytes_of v = bytes_after v.config.opening.bytes v.ends
 abbrev pub IsSubset : List Request → List Request → Type 0
 IsSubset xs ys = (r : Request) → Has xs r → Has ys r
 
--- the new view is of the same port as the old one, and knows all that the old one knew
+-- the new view is of the same port as the old one, and knows all that the old view knew
 pub record Extends (old new : View) : Type 0 where
   pub label : new.label ≡ old.label
   pub config : new.config ≡ old.config
