@@ -33,8 +33,8 @@ pub(crate) struct Accepted<A> {
 impl<K: Keep, Q: Discipline<K>, W: WakePolicy> Line<K, Q, W> {
     /// Accepts the line at the request's turn: copies it to `payload`, or forwards it if it is closed.
     ///
-    /// An open line leaves the port `Holding`, costs no atomic step and answers `granted`. A closed line is forwarded
-    /// at once, its steps are counted, and the answer is `closed`.
+    /// Accepting an open line leaves the port `Holding`, takes no atomic step, and answers `granted`. A closed line is
+    /// forwarded at once: the forwarding steps are counted, and the answer is `closed`.
     #[inline(always)]
     pub(crate) fn accept<A: Copy>(
         &self,
@@ -93,7 +93,8 @@ impl<K: Keep, Q: Discipline<K>, W: WakePolicy> Line<K, Q, W> {
     }
 }
 
-/// Forwards a closed line to the successor. Cold and not inlined, as most turns are of an open line.
+/// Forwards a closed line to the successor. The function is cold and not inlined, because most turns are of an open
+/// line.
 #[cold]
 #[inline(never)]
 fn forward_closed<K: Keep, Q: Discipline<K>>(
