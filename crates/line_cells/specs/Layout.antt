@@ -13,7 +13,7 @@ node_at n = STRIDE * n
 abbrev pub cell_at : ℕ → ℕ
 cell_at c = BEHIND + STRIDE * c
 
--- the number of words for n cells, which are more than the nodes
+-- the number of words for n cells; there are more cells than nodes
 abbrev pub word_count : ℕ → ℕ
 word_count cells = STRIDE * cells
 

@@ -49,7 +49,8 @@ ghost_of seat = line.ghost_of initial seat
 abbrev pub IsAt : Point → ArraySeat → Type 0
 IsAt point seat = IsOfOneNode seat.me × ((ghost_of seat).own.point ≡ point)
 
--- the seat is of the table of a line of n nodes, with the cells that these need, and has this node's ghost state
+-- the seat belongs to the table of a line of n nodes, with the cells that these nodes need, and has this node's ghost
+-- state
 abbrev pub IsSeatOfNode : (ℕ → ℕ) → ℕ → TableId → ℕ → ArraySeat → Type 0
 IsSeatOfNode cells nodes table_id node seat = answers.IsSeatOfNode (λ n. word_count (cells n)) nodes table_id initial node seat
 
@@ -69,7 +70,7 @@ pub record TakesTicket (v w : ArrayGhost) : Type 0 where
   pub joined : Has w.view.joined (own w.view)
 
 module _ (token_of : ℕ → ℕ) where
-  -- the request is not at its turn, and not withdrawn; it is at its turn; it is not at its turn, and withdrawn
+  -- the request is not at its turn and not withdrawn; or it is at its turn; or it is not at its turn and withdrawn
   abbrev pub IsStillQueued : ℕ → ArrayGhost → Type 0
   IsStillQueued token w = line.IsStillQueued (in_state token_of) token w
 
@@ -87,7 +88,8 @@ pub record TellsIfClear (v : ArrayGhost) (found : ℕ) (w : ArrayGhost) : Type 0
   pub unclear : found ≡ 0 → Lacks w.view.clear (own w.view)
   pub clear : found ≢ 0 → Has w.view.clear (own w.view)
 
--- the end that the next grant makes: of the node's own request if it has passed none, otherwise of a withdrawn one
+-- the end that the next grant makes: that of the node's own request if it has passed none, and otherwise that of a
+-- withdrawn request
 abbrev pub end_of : List ℕ → Bool → Payload → End
 end_of [] closed y = own_end closed y
 end_of (p ∷ ps) closed y = Gone
@@ -95,7 +97,7 @@ end_of (p ∷ ps) closed y = Gone
 abbrev pub next_end : ArrayGhost → Payload → End
 next_end v y = end_of v.own.passed (is_closed v.view.ends) y
 
--- a release ends here if no passed node is to be freed
+-- a release ends here if it has no passed node to free
 abbrev pub after_walk : List ℕ → Point
 after_walk [] = Idle
 after_walk (p ∷ ps) = Freeing
@@ -136,7 +138,7 @@ pub record Passes (v : ArrayGhost) (node : ℕ) (w : ArrayGhost) : Type 0 where
   pub few : length w.own.passed + 1 ≤ w.view.config.nodes
   pub nodes : w.view.config.nodes ≤ MAX_NODES
 
--- the node of the first passed request is freed, and that request is clear; ps are the passed ones that are left
+-- the node of the first passed request is freed, and that request is clear; ps are the passed requests that are left
 pub record Frees (v : ArrayGhost) (ps : List ℕ) (r : Request) (w : ArrayGhost) : Type 0 where
   pub point : w.own.point ≡ after_walk ps
   pub passed : w.own.passed ≡ ps
@@ -167,8 +169,8 @@ module _ (allows : List ℕ → List ℕ → Type 0) where
   abbrev pub loaded_node : Step Payload → SeatContents → ℕ → SeatContents → Type 0
   loaded_node st m n m' = (m'.1 ≡ m.1) × Advances allows m m' 1 × TellsIfClear (single m.0) n (single m'.0)
 
-  -- The node's own cell is loaded, or written. By the place of its request, the old word says that the node waits on, or that the
-  -- line is granted.
+  -- The node loads its own cell, or writes it. By the place of the node's request, the old word says that the node
+  -- still waits, or that the line is granted to it.
   module _ (token_of : ℕ → ℕ) (slot_layout : SlotLayout) (waits shows_turn : ℕ → ℕ → Type 0) where
     abbrev pub loaded : Step Payload → SeatContents → ℕ → SeatContents → Type 0
     loaded st m n m' = Advances allows m m' 1 × ((single m'.0).view.count ≡ (single m.0).view.count)
@@ -180,8 +182,8 @@ module _ (allows : List ℕ → List ℕ → Type 0) where
         × (waits (single m.0).own.place n → (m'.1 ≡ m.1) × IsRolled token_of (token_of (single m.0).own.place) (single m'.0))
         × (shows_turn (single m.0).own.place n → (y : Payload) × slot_layout.slots_at_grant (single m.0).own.place y m'.1 × IsAtTurn token_of (token_of (single m.0).own.place) (single m'.0) y)
 
-  -- The next cell is granted. By its place, the old word is read as 0 if no node withdrew there, and otherwise names
-  -- that node.
+  -- The next cell is granted. By the place of that cell, the old word is read as 0 if no node withdrew there, and
+  -- otherwise names the node that did.
   module _ (slot_layout : SlotLayout) (seen withdrawn_by : ℕ → ℕ → ℕ) where
     abbrev pub granted : Step Payload → SeatContents → ℕ → SeatContents → Type 0
     granted st m n m' = Advances allows m m' 1

@@ -39,6 +39,6 @@ slot_layout nodes = record {
   slots_at_release = λ ended. slots_at_release nodes (ticket_of ended);
 }
 
--- at the end the line is in the slot of the ticket that would be taken next
+-- at the end, the line is in the slot of the ticket that would be taken next
 abbrev pub last : ℕ → List ℕ → ℕ
 last nodes words = slot_of nodes (slice_index words ticket_at)
