@@ -40,7 +40,7 @@ pub record IsWide (c : State) : Type 0 where
   pub entries : c.nodes < length c.entries
   pub seats : c.nodes < length c.seats
 
--- the node whose entry the release is at: the last that it passed, or itself
+-- the node whose entry the release has reached, which is the last node that it passed, or itself
 abbrev pub last_or : ℕ → List ℕ → ℕ
 last_or n [] = n
 last_or n (m ∷ ms) = last_or m ms
@@ -48,7 +48,7 @@ last_or n (m ∷ ms) = last_or m ms
 abbrev pub current : State → ℕ → ℕ
 current c n = last_or n (seat c n).passed
 
--- the last request of a node at this point, with this entry, may be followed by another
+-- the node at this point, with this entry, may make another request after its last one
 abbrev pub is_clear : Point → Entry → Bool
 is_clear Idle w = true
 is_clear Ready w = true
@@ -73,7 +73,7 @@ put_seat n s c = record c { seats = slice_set c.seats n s }
 abbrev pub at_point : ℕ → Point → State → State
 at_point n p c = put_seat n (record (seat c n) { point = p }) c
 
--- no byte of a line
+-- the mask without any byte
 abbrev pub no_mask : Mask
 no_mask = record { 0 = 0 }
 

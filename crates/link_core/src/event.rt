@@ -24,7 +24,7 @@ pub enum Event {
     Roll(u64),
     /// A release adds the flag freed to the entry of a node that it passed.
     Freed(u64),
-    /// The holder writes the bytes, at the places of the mask.
+    /// The holder writes the bytes at the places of the mask.
     Write(u64, Mask, Line64),
     /// The holder closes the line.
     Close(u64),
