@@ -15,7 +15,7 @@ lane_in account = account % 8
 abbrev pub AreBalances : List ℕ → Type 0
 AreBalances line = (k : ℕ) → k < 8 → lane_of line k ≤ MAX_BALANCE
 
--- the change of a turn: balances before and after it
+-- the change that a turn may make: all lanes are balances before it and after it
 abbrev pub StayBalances : List ℕ → List ℕ → Type 0
 StayBalances old new = AreBalances old × AreBalances new
 

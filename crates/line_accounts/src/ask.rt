@@ -8,9 +8,10 @@ use crate::answer::Reply;
 use crate::law::AccountLaw;
 use qolb_model::{Acquired, LineSync, acquire_bounded};
 
-/// Asks for the line, and polls at most `patience` times; then withdraws the request. Does not allocate.
+/// Requests the line, polls at most `patience` times, and then withdraws the request. Does not allocate.
 ///
-/// Returns `Ok` if the port holds the line, otherwise the reply that says why it does not: `Late`, `Closed` or `Busy`.
+/// Returns `Ok` if the port holds the line, and otherwise the reply that says why it does not: `Late`, `Closed` or
+/// `Busy`.
 pub fn ask<L: LineSync<AccountLaw>>(
     line: &L,
     port: &mut L::Port,

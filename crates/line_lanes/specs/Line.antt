@@ -12,7 +12,7 @@ line_by byte = map byte (range_with_len 0 64)
 abbrev pub zeros : List ℕ
 zeros = line_by (λ _. 0)
 
--- byte k is the new line's if bit k of the mask is set, otherwise the old line's
+-- byte k comes from the new line if bit k of the mask is set, and otherwise from the old line
 abbrev pub merged : List ℕ → List ℕ → ℕ → List ℕ
 merged old new mask = line_by (λ k. if is_masked mask k then slice_index new k else slice_index old k)
 
