@@ -69,7 +69,7 @@ impl<K: Keep, L: ParkingLine<K>> WaitStrategy<K, L> for Backoff {
     fn on_waiting<R: Wait>(&mut self, rt: &R, line: &L, port: &L::Port) {
         if !self.pause() {
             line.sleep(rt, port, Duration::MAX);
-            // A release may have woken the waiter one turn before its own, so it polls as often again before it sleeps.
+            // A release may have woken it one turn ahead of its own: it polls as often again before it sleeps.
             *self = Backoff::new();
         }
     }
