@@ -1,4 +1,4 @@
--- What an export of a lock's call says of the lock that it is called with. (Of this project.)
+-- What an export promises of the lock that C calls it with. The definitions are this project's own.
 use Rattle.std.specs.Prelude.{◌≡◌, ℕ, Option, Some}
 use Rattle.qolb_locks.specs.declared.answer.Answer.{Answer}
 use Rattle.qolb_locks.specs.declared.answer.Answer.TheVariants as answer

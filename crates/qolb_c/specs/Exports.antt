@@ -1,4 +1,5 @@
--- The promise of each call from C for its handle: what it does with the node, if there is one. (Of this project.)
+-- The promise of each export for its handle: what it does with the node, if there is one. The definitions are this
+-- project's own.
 use Rattle.std.specs.Prelude.{◌≡◌, ℕ, true, false, Option, Some, None}
 use Rattle.qolb_model.specs.PortStates.{may_ask}
 use Rattle.qolb_nodes.specs.declared.answer.Answer.{Answer}
@@ -8,7 +9,8 @@ use Rattle.qolb_nodes.specs.Calls.{view_of, state_of, TellsTurns, TellsWord}
 use Rattle.qolb_nodes.specs.Waits.{nowhere, went_to_of}
 use Rattle.qolb_c.specs.Numbers.{number_of, state_number}
 
--- a call of an empty handle is misuse, and the handle stays empty; else its node is called, and the number of the answer is returned
+-- a call of an empty handle is misuse, and the handle stays empty; otherwise its node is called, and the number of the
+-- answer is returned
 abbrev pub Calls : (AnyNode → AnyNode → Answer → Type 0) → Option AnyNode → Option AnyNode → ℕ → Type 0
 Calls Does None now n = (now ≡ None) × (n ≡ number_of answer.Misuse)
 Calls Does (Some was) now n = (node : AnyNode) × (a : Answer) × (now ≡ Some node) × (n ≡ number_of a) × Does was node a

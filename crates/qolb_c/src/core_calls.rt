@@ -1,6 +1,7 @@
-//! The calls of a lock that many threads share, for C: `c/src/core.h` declares them.
+//! The exports for C of a lock that many threads share. `c/src/core.h` declares them.
 //!
-//! C has a lock by a reference, which it may copy, and a request by a ticket of its own. What C owes for it is in that header.
+//! C has a lock by a reference, which it may copy, and a request by a ticket of its own. That header says what C must
+//! guarantee in return.
 ghost use Rattle.std.specs.Prelude.{◌≡◌, ◌≢◌, true};
 ghost use Rattle.lock_core.specs.Views.{SameRequest};
 ghost use Rattle.qolb_locks.specs.declared.answer.Answer.{Answer};
@@ -222,7 +223,7 @@ pub extern "C" fn qolb_core_check_open_proved_(lock: &LockRef, ticket: &mut Tick
 
 /// Takes the lock word without waiting, if it is as the ticket guesses, free for barging threads, and open.
 ///
-/// Else the ticket has the word that was found.
+/// Otherwise the ticket has the word that was found.
 #[unsafe(no_mangle)]
 pub extern "C" fn qolb_core_barge_proved_(lock: &LockRef, ticket: &mut Ticket) -> u32
     requires { Of lock.now.lock (λ l. IsKnown l ticket.old) }
@@ -264,7 +265,7 @@ pub extern "C" fn qolb_core_take_lock_word_proved_(lock: &LockRef, ticket: &mut 
 
 /// Leaves the lock word, if it is as the ticket guesses.
 ///
-/// Else the ticket has the word that was found, and the call must be made again.
+/// Otherwise the ticket has the word that was found, and the call must be made again.
 #[unsafe(no_mangle)]
 pub extern "C" fn qolb_core_leave_lock_word_proved_(lock: &LockRef, ticket: &mut Ticket) -> u32
     requires { Of lock.now.lock (λ l. IsKnown l ticket.old) }

@@ -1,7 +1,8 @@
-//! The lock for C: a static library. `c/src/proved.h` declares these calls, and `c/src` calls them by these names.
+//! The exports for C: nodes of lines, as a static library. `c/src/proved.h` declares these functions, and `c/src` calls
+//! them by these names.
 //!
-//! C has a node by a handle, a struct of one pointer that is null if there is no node. Each call is made of the handle's node. If the node's
-//! state does not allow a call, the answer is `Misuse` and nothing changes.
+//! C has a node by its handle, a struct of one pointer that is null if there is no node. Each export calls the handle's
+//! node. If the node's state does not allow the call, the answer is `Misuse` and nothing changes.
 #![tactic(auto)]
 
 ghost use Rattle.std.specs.Prelude.{◌≡◌, true, false, None};

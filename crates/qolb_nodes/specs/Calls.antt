@@ -1,4 +1,5 @@
--- The promise of each call of a node of any kind. `was` and `now` are the node before and after. (Of this project.)
+-- The promise of each call of a node of any kind. `was` and `now` are the node before and after the call. The
+-- definitions are this project's own.
 use Rattle.std.specs.Prelude.{◌≡◌, ◌≢◌, ℕ, ◌+◌, ◌<◌, ◌≤◌, List, Bool, true}
 use Rattle.line_lanes.specs.Lane.{lane_of}
 use Rattle.qolb_model.specs.declared.answer.Enq.TheVariants as enq
@@ -33,14 +34,14 @@ view_of node = (info_of node).port.view
 abbrev pub turn_of : AnyNode → Write
 turn_of node = (info_of node).port.turn
 
--- the node's counters of word steps and polls
+-- the node's counters of atomic steps and polls
 abbrev pub counters_of : AnyNode → Counters
 counters_of node = (info_of node).port.counters
 
 abbrev pub poll_count_of : AnyNode → ℕ
 poll_count_of node = (counters_of node).poll_count
 
--- the most word steps that one call of the node's line takes
+-- the most atomic steps that one call of the node's line takes
 abbrev pub max_steps_of : AnyNode → ℕ
 max_steps_of node = (info_of node).max_steps (info_of node).nodes + 3
 
@@ -124,7 +125,8 @@ WritesLane k value was now a =
 abbrev pub WritesLaneAt : ℕ → ℕ → AnyNode → AnyNode → Answer → Type 0
 WritesLaneAt k value was now a = IsDone (state_of was ≡ Holding) ((view_of now ≡ view_of was) × (turn_of now ≡ with_lane (turn_of was) k value)) was now a
 
--- `add_lane`: if the node holds, `by` is added to a lane modulo 2^64, and what the lane had before is written to `out`; else `out` is unchanged
+-- `add_lane`: if the node holds, `by` is added to a lane modulo 2^64, and what the lane had before is written to `out`;
+-- otherwise `out` is unchanged
 abbrev pub AddsLane : ℕ → ℕ → ℕ → ℕ → AnyNode → AnyNode → Answer → Type 0
 AddsLane k by out_was out_now was now a =
     IsDone ((state_of was ≡ Holding) × (k < 8)) ((view_of now ≡ view_of was) × (turn_of now ≡ with_added (turn_of was) k by) × (out_now ≡ lane_of (turn_of was).bytes.bytes k)) was now a
@@ -134,7 +136,7 @@ AddsLane k by out_was out_now was now a =
 abbrev pub Releases : Bool → AnyNode → AnyNode → Answer → Type 0
 Releases shut was now a = IsDone (state_of was ≡ Holding) (line.Releases anything shut (view_of was) (view_of now) (turn_of was) × CallsOnce was now × NamesNext now) was now a
 
--- the number of turns left, with the holder's own, if the node holds the line, and so at least 1; else 0
+-- the number of turns left, with the holder's own, if the node holds the line, and so at least 1; otherwise 0
 pub record TellsTurns (node : AnyNode) (n : ℕ) : Type 0 where
   pub holds : state_of node ≡ Holding → n ≡ turns_number (turns_left (view_of node).config.lease (view_of node).ends)
   pub some : state_of node ≡ Holding → 1 ≤ n

@@ -1,4 +1,5 @@
--- The memory that a handle owns: none if it is null, else that of a box of its node. (Of this project.)
+-- The memory that a handle owns: none if it is null, and otherwise the memory of a box with its node. The definitions
+-- are this project's own.
 use base.Fml.{Fml, ftrue, ffalse}
 use base.Stored.{Coded}
 use denote.RawPtr.{Ptr, block_ptr, null_ptr}

@@ -1,4 +1,4 @@
--- A handle that lends its node. (Of this project.)
+-- A handle that lends its node to a call. The definitions are this project's own.
 use Rattle.std.specs.Prelude.{Option, Some}
 use Rattle.std.specs.Borrow.{Fml, MutBor, LendsIf}
 use Rattle.qolb_nodes.specs.contracts.any_node.AnyNode as node

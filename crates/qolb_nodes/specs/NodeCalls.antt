@@ -1,4 +1,5 @@
--- The promise of each call of a node of one kind of line, by the node's port. `was` and `now` are the node before and after. (Of this project.)
+-- The promise of each call of a node of one kind of line, by the node's port. `was` and `now` are the node before and
+-- after the call. The definitions are this project's own.
 use Rattle.std.specs.Prelude.{◌≡◌, ℕ, ◌+◌, ◌<◌, List, Bool, true}
 use Rattle.line_lanes.specs.declared.line.Line64.{Line64}
 use Rattle.qolb_model.specs.declared.answer.Enq.{Enq}
@@ -94,7 +95,8 @@ abbrev pub Node : {K Q O W N : Type 0} → discipline.Ghosts Q K O → wake.Ghos
 Node {K} {Q} {O} {W} {N} q w = NodeOf (Line K Q W O N q w) PortModel
 
 module _ {K Q O W N : Type 0} {q : discipline.Ghosts Q K O} {w : wake.Ghosts W N} where
-  -- the node made one call of its line, which did not poll, and took at most three word steps more than `max_steps` of its line's nodes
+  -- the node made one call of its line, which did not poll, and took at most three atomic steps more than `max_steps`
+  -- of its line's nodes
   abbrev pub CallsOnce : (ℕ → ℕ) → Node q w → Node q w → Type 0
   CallsOnce max_steps was now = IsOneCall (max_steps was.line.table.shared.key.config.nodes + 3) was.port.counters now.port.counters
 

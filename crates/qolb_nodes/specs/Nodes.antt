@@ -1,4 +1,4 @@
--- A node as its callers see it, for any kind of line. (Of this project.)
+-- A node as its callers see it, for any kind of line. The definitions are this project's own.
 use Rattle.std.specs.Prelude.{◌≡◌, ℕ, ◌+◌, ◌*◌, ◌%◌, ◌^◌, ◌<◌, ◌≤◌, List, Option, Some, None}
 use Rattle.line_lanes.specs.Lane.{lane_of, with_lane_of}
 use Rattle.line_lanes.specs.Mask.{placed_mask}
@@ -13,14 +13,15 @@ pub record NodeOf (Line Port : Type 0) : Type 0 where
   pub line : Line
   pub port : Port
 
--- the law of these lines: any bytes are good, and a turn may make any change
+-- the data invariant of these lines: any bytes are good, and a turn may make any change
 abbrev pub any_bytes : List ℕ → Type 0
 any_bytes bytes = Unit {0}
 
 abbrev pub anything : List ℕ → List ℕ → Type 0
 anything old new = Unit {0}
 
--- the counters of a port after one call of the line that does not poll: it took at most `max` word steps, and they are counted
+-- the counters of a port after one call of the line that does not poll: it took at most `max` atomic steps, and they
+-- are counted
 pub record IsOneCall (max : ℕ) (old new : Counters) : Type 0 where
   pub bound : new.steps ≤ max
   pub total_steps : new.total_steps ≡ old.total_steps + new.steps

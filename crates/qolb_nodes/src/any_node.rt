@@ -117,7 +117,7 @@ impl AnyNode {
         of_any!(self, node => node.withdraw())
     }
 
-    /// Returns `Done` if the node's last request is clear, else `Busy`. Makes no request.
+    /// Returns `Done` if the node's last request is clear, otherwise `Busy`. Makes no request.
     pub fn is_clear(&mut self) -> Answer
         ensures { LooksIfClear self.old self.new result }
     {

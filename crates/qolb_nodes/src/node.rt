@@ -1,4 +1,4 @@
-//! A node of a shared line, for any kind of line.
+//! A node of a shared line of one kind.
 ghost use Rattle.std.specs.Prelude.{◌≡◌, ◌<◌, ◌≤◌, Some, MatchOption};
 ghost use Rattle.std.specs.Arc.{arc_value};
 ghost use Rattle.qolb_model.specs.Calls.{Polls};
@@ -95,7 +95,7 @@ impl<Q: Discipline<Free>> Node<LineFor<Q>> {
         LineFor::<Q>::state(&self.port)
     }
 
-    /// Returns `Done` if the node's last request is clear, so that the next is not answered `Busy`; else `Busy`.
+    /// Returns `Done` if the node's last request is clear, so that the next is not answered `Busy`; otherwise `Busy`.
     ///
     /// `Misuse` if the node waits or holds.
     pub fn is_clear(&mut self) -> Answer

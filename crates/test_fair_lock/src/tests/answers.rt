@@ -1,4 +1,4 @@
-//! Each answer, by one thread.
+//! Each answer of a fair lock, in one thread.
 use super::{Answer, add, add_within, enter, enter_within, lock_of, try_add, try_enter};
 use fair_lock::{FairLock, NewError, OpenError};
 use std::rt::Clock;
