@@ -125,7 +125,7 @@ fn main(rt: HostRuntime) -> anyhow::Result<()> {
 }
 
 /// Returns the number of files here whose names end so.
-fn files_that_end<R: Files + AllocGlobal>(rt: &R, end: &str) -> anyhow::Result<usize> {
+fn files_that_end<R: Files + AllocGlobal + Clone>(rt: &R, end: &str) -> anyhow::Result<usize> {
     let mut files = 0usize;
     for entry in fs::read_dir(rt, ".")? {
         if entry?.file_name().ends_with(end) {
