@@ -7,6 +7,7 @@ pub mod Pushing
 pub mod Rows
 pub mod SameRuns
 pub mod Shapes
+pub mod States
 pub mod StepCovering
 pub mod StepTexts
 pub mod StepsWithin

@@ -1,11 +1,10 @@
 -- How a command changes the list of nodes with open requests and the node at its turn, and how these follow from the nodes' states.
-use Rattle.std.proofs.Common.{◌≡◌, ℕ, zero, suc, ◌+◌, ◌≤◌, ◌==◌, ◌&&◌, ◌||◌, Bool, true, false, cond, is_some, take_while, List, [], ◌∷◌, ◌++◌, length, map, drop, Option, Some, None, slice_get, remove, refl, sym, ap, ◌∙◌, subst, arith, append-nil, length-append}
+use Rattle.std.proofs.Common.{◌≡◌, ℕ, zero, suc, ◌+◌, ◌≤◌, ◌==◌, ◌&&◌, ◌||◌, Bool, true, false, cond, is_some, take_while, List, [], ◌∷◌, ◌++◌, length, map, drop, Option, Some, None, slice_get, refl, sym, ap, ◌∙◌, subst, arith, append-nil, length-append}
 use Rattle.std.specs.List.{list_any, find}
 use Rattle.std.proofs.lemmas.List.{drop-append-le, drop-drop, drop-map, map-append}
 use Rattle.std.proofs.lemmas.Simd.{map-map}
 use Rattle.std.proofs.lemmas.List.Folds.{list_any-append}
 use Rattle.std.proofs.lemmas.Bool.Decides.{nat_tests}
-use Rattle.qolb_model.specs.declared.answer.PortState.{PortState}
 use Rattle.qolb_model.specs.declared.answer.PortState.TheVariants as port
 use Rattle.qolb_model.specs.declared.answer.Enq.{Enq}
 use Rattle.qolb_model.specs.declared.answer.Enq.TheVariants as enq
@@ -36,7 +35,7 @@ use Rattle.qolb_script.specs.Reply.{is_queued, is_holding, said_of, after_comman
 use Rattle.qolb_draw.specs.declared.symbol.Change.{Change}
 use Rattle.qolb_draw.specs.LineRuns.{waiting_nodes}
 use Rattle.qolb_draw.specs.Following as following
-use Rattle.qolb_draw.specs.Following.{has_asked, after_ended, state_ended, Follows}
+use Rattle.qolb_draw.specs.Following.{has_asked, after_ended, Follows}
 use Rattle.qolb_draw.proofs.Bars.{or_none}
 
 -- these requests were made, and some more have ended
@@ -277,12 +276,3 @@ none_behind b xs ys m e same = same ∙ sym (append-nil xs) ∙ ap (λ v. xs ++ 
 pub same_change : (a b : ℕ) (k l : Said) (t u : Bool) (x y z w : Option ℕ) → a ≡ b → k ≡ l → t ≡ u → x ≡ y → z ≡ w
     → let r : Change = record { node = a; said = k; told = t; before = x; after = z } in let q : Change = record { node = b; said = l; told = u; before = y; after = w } in r ≡ q
 same_change a b k l t u x y z w p j q r v = cc
-
--- a node at the front without an open request was removed
-pub one_passed : (line : PlainView) (waiting left : List ℕ) (state : PortState) → state_ended line (slice_get waiting 0) ≡ Some state → left ≡ remove waiting 0 → after_ended line left ≡ after_ended line waiting
-one_passed line [] left state ended rest = absurd (let no : None ≡ Some state = ended in cc no)
-one_passed line (x ∷ xs) left state ended rest = ap (after_ended line) rest ∙ by (following.is_open (node_state line x)) refl
-  where
-    by : (b : Bool) → following.is_open (node_state line x) ≡ b → after_ended line xs ≡ cond b (x ∷ xs) (after_ended line xs)
-    by false e = refl
-    by true e = absurd (let no : None ≡ Some state = ap (λ b. cond b None (Some (node_state line x))) (sym e) ∙ ended in cc no)

@@ -1,5 +1,5 @@
 -- A plain line whose commands are recorded. (Of this project.)
-use Rattle.std.specs.Prelude.{◌≡◌, ℕ, Bool, true, false, if◌then◌else◌, List, [], ◌∷◌, Option, Some, None}
+use Rattle.std.specs.Prelude.{◌≡◌, ◌≢◌, ◌<◌, ◌+◌, ◌==◌, ◌⊎◌, length, ℕ, Bool, true, false, not, if◌then◌else◌, List, [], ◌∷◌, Option, Some, None}
 use Rattle.qolb_model.specs.declared.answer.PortState.{PortState}
 use Rattle.qolb_model.specs.declared.answer.PortState.TheVariants as port
 use Rattle.qolb_model.specs.declared.answer.Enq.TheVariants as enq
@@ -7,6 +7,7 @@ use Rattle.qolb_model.specs.Plain.{PlainView, node_state, Agrees}
 use Rattle.qolb_model.specs.OneOwner.{OwnerState}
 use Rattle.qolb_script.specs.declared.reply_text.Said.{Said}
 use Rattle.qolb_script.specs.declared.reply_text.Said.TheVariants as said
+use Rattle.std.specs.List.{list_any, slice_index_or}
 use Rattle.qolb_draw.specs.LineRuns.{waiting_nodes}
 
 -- answers to a node that has made a request
@@ -40,3 +41,50 @@ state_ended line (Some n) = if is_open (node_state line n) then None else Some (
 pub record Follows (line : PlainView) (waiting : List ℕ) (s : OwnerState) : Type 0 where
   pub agrees : Agrees line s
   pub waiting_are : waiting ≡ waiting_nodes s
+
+-- these are the states of the line's nodes, by their numbers
+abbrev pub AreStates : PlainView → List PortState → Type 0
+AreStates line states = (n : ℕ) → n < length states → slice_index_or states n port.Idle ≡ node_state line n
+
+-- all that is kept of a line is as the line has it
+pub record HasStates (line : PlainView) (states : List PortState) (closed : Bool) : Type 0 where
+  pub size : length states ≡ line.nodes + 1
+  pub are : AreStates line states
+  pub closed_is : closed ≡ line.closed
+
+-- the node is among these
+abbrev pub is_among : ℕ → List ℕ → Bool
+is_among n nodes = list_any (λ m. m == n) nodes
+
+-- The nodes at the front of those that waited were passed. Each state is as the line has it, or was left as it was: that of a node which
+-- waits still if it waited.
+pub record ArePassed (line : PlainView) (waited waiting : List ℕ) (old new : List PortState) : Type 0 where
+  pub size : length new ≡ length old
+  pub states : (n : ℕ) → n < length old → (slice_index_or new n port.Idle ≡ node_state line n)
+      ⊎ ((slice_index_or new n port.Idle ≡ slice_index_or old n port.Idle) × (is_among n waiting ≡ is_among n waited))
+
+-- Each state is as the line has it, or was left as it was: that of another node than this one, if not all were looked at.
+pub record AreLookedAt (line : PlainView) (node : ℕ) (all : Bool) (old new : List PortState) : Type 0 where
+  pub size : length new ≡ length old
+  pub states : (n : ℕ) → n < length old → (slice_index_or new n port.Idle ≡ node_state line n)
+      ⊎ ((slice_index_or new n port.Idle ≡ slice_index_or old n port.Idle) × (n ≢ node) × (all ≡ false))
+
+-- the state of this node was set, if there is one
+pub record IsKept (node : ℕ) (state : PortState) (old new : List PortState) : Type 0 where
+  pub size : length new ≡ length old
+  pub states : (n : ℕ) → n < length old → slice_index_or new n port.Idle ≡ (if n == node then state else slice_index_or old n port.Idle)
+
+-- a node in this state has no request, and the line is closed
+abbrev pub is_shut : PortState → Bool
+is_shut port.Idle = false
+is_shut port.Linking = false
+is_shut port.Queued = false
+is_shut port.Holding = false
+is_shut port.Left = false
+is_shut port.Rolled = false
+is_shut port.Shut = true
+
+-- one of these holds, and not the other
+abbrev pub differs : Bool → Bool → Bool
+differs true b = not b
+differs false b = b

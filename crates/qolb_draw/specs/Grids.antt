@@ -1,6 +1,8 @@
 -- The marks of a line, command by command, and the texts of its picture. (Of this project.)
 use Rattle.std.specs.Prelude.{◌≡◌, ℕ, ◌+◌, ◌-◌, ◌*◌, ◌==◌, min, List, [], ◌∷◌, ◌++◌, length, map, filter, flat_map, take, drop, codes}
 use Rattle.std.specs.List.{list_any, range_with_len, slice_index_or}
+use Rattle.qolb_model.specs.declared.answer.PortState.{PortState}
+use Rattle.qolb_model.specs.declared.answer.PortState.TheVariants as port
 use Rattle.qolb_model.specs.Plain.{PlainView, node_state}
 use Rattle.qolb_script.specs.Commands.{node_of}
 use Rattle.qolb_draw.specs.declared.symbol.Symbol.{Symbol}
@@ -39,6 +41,10 @@ pub record IsGrid (nodes : ℕ) (steps : List Step) (rows : ℕ) (numbers caller
 -- the marks of all nodes after a command with this change and this line
 abbrev pub column_out_of : PlainView → Change → ℕ → List Symbol
 column_out_of line change nodes = map (λ n. mark_of change (node_state line n) n) (range_with_len 1 nodes)
+
+-- the marks of all nodes after a command with this change, by their states: the first of these is no node's
+abbrev pub column_by : Change → List PortState → List Symbol
+column_by change states = map (λ n. mark_of change (slice_index_or states n port.Idle) n) (range_with_len 1 (length states - 1))
 
 -- the mark of a node after command k of these
 abbrev pub mark_out_of : ℕ → List Symbol → ℕ → ℕ → Symbol

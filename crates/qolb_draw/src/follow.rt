@@ -1,5 +1,5 @@
 //! A plain line that also records what each command changes.
-ghost use Rattle.std.specs.Prelude.{◌≡◌, option_copied};
+ghost use Rattle.std.specs.Prelude.{◌≡◌, ◌⊎◌, length, option_copied};
 ghost use Rattle.qolb_script.specs.Reply as reply;
 ghost use Rattle.qolb_draw.specs.Following as spec;
 
@@ -10,31 +10,43 @@ use qolb_replay::ReplayLine;
 use qolb_script::{Command, Said};
 use std::alloc::{AllocError, Allocator};
 
-/// A plain line, with the order of its open requests, which a plain line does not show.
+/// A plain line, with the order of its open requests, which a plain line does not show, and with the state of each node: to ask the line
+/// for each state after each command would take long, because the line searches its waiting nodes for each.
 #[derive(Drop)]
 pub struct TracedLine<A: Allocator> {
     pub line: PlainLine,
     /// The nodes whose requests have no end yet, oldest first.
     pub waiting: Vec<u64, A>,
+    /// The state of each node, by the node's number.
+    pub states: Vec<PortState, A>,
+    /// `true` if the line is closed.
+    pub closed: bool,
 }
 
-impl<A: Allocator> TracedLine<A> {
-    ghost use Rattle.std.specs.Prelude.{◌≡◌, ◌≤◌, [], IfOk};
+impl<A: Allocator + Copy> TracedLine<A> {
+    ghost use Rattle.std.specs.Prelude.{◌≡◌, ◌≤◌, ◌+◌, [], IfOk, false, replicate};
+    ghost use Rattle.qolb_model.specs.declared.config.TheConstants.{MAX_NODES};
     ghost use Rattle.qolb_model.specs.OneOwner.{OwnerState};
     ghost use Rattle.qolb_script.specs.Commands.{node_of};
     ghost use Rattle.qolb_script.specs.Reply.{after_command};
     ghost use Rattle.qolb_draw.specs.LineRuns.{change_of};
-    ghost use Rattle.qolb_draw.specs.Following.{Follows};
+    ghost use Rattle.qolb_draw.specs.Following.{Follows, HasStates};
 
-    /// Wraps a line that was just opened.
-    pub fn new(alloc: A, line: PlainLine) -> TracedLine<A>
-        ensures line { result.line ≡ line }
-        ensures waiting { result.waiting.items ≡ [] }
+    /// Wraps a line that was just opened for this number of nodes.
+    pub fn new(alloc: A, line: PlainLine, nodes: u64) -> Result<TracedLine<A>, AllocError>
+        requires { nodes ≤ MAX_NODES }
+        ensures line { IfOk result (λ traced. traced.line ≡ line) }
+        ensures waiting { IfOk result (λ traced. traced.waiting.items ≡ []) }
+        ensures states { IfOk result (λ traced.
+            traced.states.items ≡ replicate (nodes + 1) PortState.Idle) }
+        ensures closed { IfOk result (λ traced. traced.closed ≡ false) }
     {
-        TracedLine {
+        Ok(TracedLine {
             line,
             waiting: Vec::new(alloc),
-        }
+            states: vec![in alloc; PortState::Idle; nodes as usize + 1]?,
+            closed: false,
+        })
     }
 
     /// Does a command, and returns what it changed.
@@ -46,6 +58,10 @@ impl<A: Allocator> TracedLine<A> {
         ensures follows { IfOk result (λ change. (s : OwnerState)
             → Follows self.old.line self.old.waiting.items s
             → Follows self.new.line self.new.waiting.items (after_command s command.now)) }
+        ensures states { IfOk result (λ change. (s : OwnerState)
+            → Follows self.old.line self.old.waiting.items s
+            → HasStates self.old.line self.old.states.items self.old.closed
+            → HasStates self.new.line self.new.states.items self.new.closed) }
         ensures nodes { self.new.line.nodes ≡ self.old.line.nodes }
     {
         let before = self.waiting.first().copied();
@@ -53,7 +69,19 @@ impl<A: Allocator> TracedLine<A> {
         if has_asked(&said) {
             self.waiting.push(command.node())?;
         }
-        pass(&mut self.waiting, &self.line);
+        let closed = pass(
+            &mut self.waiting,
+            &mut self.states,
+            &self.line,
+            self.closed,
+        );
+        look(
+            &mut self.states,
+            &self.line,
+            command.node(),
+            differs(self.closed, closed),
+        );
+        self.closed = closed;
         Ok(Change {
             node: command.node(),
             said,
@@ -87,12 +115,56 @@ fn is_told(said: &Said) -> bool
     )
 }
 
-/// Removes the nodes at the front whose requests have ended.
-fn pass<A: Allocator>(waiting: &mut Vec<u64, A>, line: &PlainLine)
-    ensures { waiting.new.items ≡ spec.after_ended line.now waiting.old.items }
+/// Removes the nodes at the front whose requests have ended, and keeps their states. Returns whether the line is closed now.
+fn pass<A: Allocator>(
+    waiting: &mut Vec<u64, A>,
+    states: &mut Vec<PortState, A>,
+    line: &PlainLine,
+    was_closed: bool,
+) -> bool
+    ensures waiting { waiting.new.items ≡ spec.after_ended line.now waiting.old.items }
+    ensures states { spec.ArePassed line.now waiting.old.items waiting.new.items
+        states.old.items states.new.items }
+    ensures closed { (result ≡ line.now.closed)
+        ⊎ ((result ≡ was_closed) × (waiting.new.items ≡ waiting.old.items)) }
 {
-    while let Some(_) = state_ended(waiting.first(), line) {
-        waiting.remove(0);
+    let mut closed = was_closed;
+    while let Some(state) = state_ended(waiting.first(), line) {
+        let node = waiting.remove(0);
+        keep(states, node, state);
+        closed = is_shut(state);
+    }
+    closed
+}
+
+/// Keeps the state of this node, which made a command; and those of all nodes, if the line was closed by that.
+fn look<A: Allocator>(states: &mut Vec<PortState, A>, line: &PlainLine, node: u64, all: bool)
+    ensures { spec.AreLookedAt line.now node all states.old.items states.new.items }
+{
+    if all {
+        look_at_all(states, line);
+    } else {
+        keep(states, node, line.state(node));
+    }
+}
+
+/// Keeps the states of all nodes.
+fn look_at_all<A: Allocator>(states: &mut Vec<PortState, A>, line: &PlainLine)
+    ensures size { length states.new.items ≡ length states.old.items }
+    ensures states { spec.AreStates line.now states.new.items }
+{
+    for node in 0..states.len() {
+        states[node] = line.state(node as u64);
+    }
+}
+
+/// Keeps the state of a node.
+fn keep<A: Allocator>(states: &mut Vec<PortState, A>, node: u64, state: PortState)
+    ensures { spec.IsKept node state states.old.items states.new.items }
+{
+    let place = node as usize;
+    if place < states.len() {
+        states[place] = state;
     }
 }
 
@@ -102,6 +174,20 @@ fn state_ended(node: Option<&u64>, line: &PlainLine) -> Option<PortState>
 {
     let state = line.state(*node?);
     if is_open(state) { None } else { Some(state) }
+}
+
+/// Returns `true` if one of these holds, and not the other.
+fn differs(was: bool, is: bool) -> bool
+    ensures { result ≡ spec.differs was is }
+{
+    if was { !is } else { is }
+}
+
+/// Returns `true` if this is the state of a node without a request at a closed line.
+fn is_shut(state: PortState) -> bool
+    ensures { result ≡ spec.is_shut state }
+{
+    matches!(state, PortState::Shut)
 }
 
 /// Returns `true` if a node in this state has a request without an end.

@@ -3,13 +3,13 @@ ghost use Rattle.std.specs.Prelude.{◌≡◌, ◌<◌, ◌≤◌, ◌*◌, ◌�
 ghost use Rattle.qolb_model.specs.declared.config.TheConstants.{MAX_NODES};
 ghost use Rattle.qolb_script.specs.declared.schedule.TheConstants.{MAX_COMMANDS};
 ghost use Rattle.qolb_draw.specs.LineRuns.{steps_on};
-ghost use Rattle.qolb_draw.specs.Grids.{IsGrid, column_out_of};
+ghost use Rattle.qolb_draw.specs.Grids.{IsGrid, column_by};
 
 use crate::event::Event;
 use crate::follow::TracedLine;
 use crate::symbol::{Change, Symbol};
 use line_lanes::Line64;
-use qolb_model::{LineConfig, PlainLine};
+use qolb_model::{LineConfig, PlainLine, PortState};
 use qolb_script::Schedule;
 use std::alloc::{AllocError, Allocator};
 
@@ -45,8 +45,8 @@ impl<A: Allocator + Copy> Grid<A> {
         }
     }
 
-    /// Adds the command of this event, which left the line in this state.
-    fn push(&mut self, event: &Event, line: &PlainLine) -> Result<(), AllocError>
+    /// Adds the command of this event, after which the nodes are in these states.
+    fn push(&mut self, event: &Event, states: &[PortState]) -> Result<(), AllocError>
         ensures nodes { self.new.nodes ≡ self.old.nodes }
         ensures numbers { OnOk result (self.new.numbers.items
             ≡ self.old.numbers.items ++ event.now.number ∷ []) }
@@ -55,29 +55,26 @@ impl<A: Allocator + Copy> Grid<A> {
         ensures events { OnOk result (self.new.events.items
             ≡ self.old.events.items ++ event.now ∷ []) }
         ensures marks { OnOk result (self.new.marks.items
-            ≡ self.old.marks.items ++ column_out_of line.now event.now.change self.old.nodes) }
+            ≡ self.old.marks.items ++ column_by event.now.change states.now) }
     {
         self.numbers.push(event.number)?;
         self.callers.push(event.change.node)?;
         self.events.push(*event)?;
-        push_column(&mut self.marks, &event.change, line, self.nodes)?;
+        push_column(&mut self.marks, &event.change, states)?;
         Ok(())
     }
 }
 
-/// Appends the marks of all nodes after a command with this change, which left the line in this state.
+/// Appends the marks of all nodes after a command with this change, by their states, of which the first is no node's.
 fn push_column<A: Allocator>(
     marks: &mut Vec<Symbol, A>,
     change: &Change,
-    line: &PlainLine,
-    nodes: u64,
+    states: &[PortState],
 ) -> Result<(), AllocError>
-    ensures { OnOk result (marks.new.items ≡ marks.old.items
-        ++ column_out_of line.now change.now nodes) }
+    ensures { OnOk result (marks.new.items ≡ marks.old.items ++ column_by change.now states.now) }
 {
-    for before in 0..nodes {
-        let node = before + 1;
-        marks.push(change.mark(line.state(node), node))?;
+    for node in 1..states.len() {
+        marks.push(change.mark(states[node], node as u64))?;
     }
     Ok(())
 }
@@ -105,7 +102,7 @@ pub fn draw_line<A: Allocator + Copy>(
     }) else {
         unreachable!();
     };
-    let mut line = TracedLine::new(alloc, line);
+    let mut line = TracedLine::new(alloc, line, schedule.nodes())?;
     let mut grid = Grid::new(alloc, schedule.nodes());
     let mut done = 0;
     for command in schedule.commands() {
@@ -117,7 +114,7 @@ pub fn draw_line<A: Allocator + Copy>(
                 command: *command,
                 change,
             };
-            grid.push(&event, &line.line)?;
+            grid.push(&event, &line.states)?;
         }
     }
     Ok(grid)
