@@ -1,4 +1,4 @@
-use Rattle.std.proofs.Common.{◌≡◌, ◌+◌, ◌-◌, ◌<◌, ◌∷◌, [], ◌++◌, ℕ, List, length, map, get_or, sym, ap, ◌∙◌, append_assoc, arith}
+use Rattle.std.proofs.Common.{◌≡◌, ◌+◌, ◌-◌, ◌∷◌, [], ◌++◌, ℕ, List, length, map, get_or, sym, ap, ◌∙◌, append_assoc, arith}
 use Rattle.std.specs.List.{range_with_len}
 use Rattle.std.proofs.lemmas.List.FromFn.{map-range_with_len_more}
 use Rattle.qolb_model.specs.declared.answer.PortState.{PortState}
@@ -15,8 +15,7 @@ loop-node-preserved g c =
     let k : ℕ = node - 1 in
     let next : 1 + k ≡ node = omega arith in
     let more : (node + 1) - 1 ≡ k + 1 = omega arith in
-    let within : node < length c.args.states.now = omega arith in
-    let is : c.mark.result ≡ mark node = ? in
+    let is : c.mark.result ≡ mark node = c.mark.ensures in
     c.in_ok-push.ensures.items ∙ ap (λ xs. xs ++ c.mark.result ∷ []) c.loop-node.invariant
     ∙ ap (λ m. (before ++ map mark (range_with_len 1 k)) ++ m ∷ []) is ∙ append_assoc before (map mark (range_with_len 1 k)) (mark node ∷ [])
     ∙ ap (λ xs. before ++ xs) (sym (map-range_with_len_more mark 1 k node next))
