@@ -69,12 +69,7 @@ impl<A: Allocator + Copy> TracedLine<A> {
         if has_asked(&said) {
             self.waiting.push(command.node())?;
         }
-        let closed = pass(
-            &mut self.waiting,
-            &mut self.states,
-            &self.line,
-            self.closed,
-        );
+        let closed = pass(&mut self.waiting, &mut self.states, &self.line, self.closed);
         look(
             &mut self.states,
             &self.line,
