@@ -15,13 +15,15 @@ loop-node-preserved g c =
     let k : ℕ = node - 1 in
     let next : 1 + k ≡ node = omega arith in
     let more : (node + 1) - 1 ≡ k + 1 = omega arith in
-    let is : c.mark.result ≡ mark node = c.mark.ensures in
-    c.in_ok-push.ensures.items ∙ ap (λ xs. xs ++ c.mark.result ∷ []) c.loop-node.invariant
-    ∙ ap (λ m. (before ++ map mark (range_with_len 1 k)) ++ m ∷ []) is ∙ append_assoc before (map mark (range_with_len 1 k)) (mark node ∷ [])
-    ∙ ap (λ xs. before ++ xs) (sym (map-range_with_len_more mark 1 k node next))
-    ∙ ap (λ n. before ++ map mark (range_with_len 1 n)) (sym more)
+    record {
+      marks_are = c.in_ok-push.ensures.items ∙ ap (λ xs. xs ++ c.mark.result ∷ []) c.loop-node.invariant.marks_are
+          ∙ ap (λ m. (before ++ map mark (range_with_len 1 k)) ++ m ∷ []) c.mark.ensures ∙ append_assoc before (map mark (range_with_len 1 k)) (mark node ∷ [])
+          ∙ ap (λ xs. before ++ xs) (sym (map-range_with_len_more mark 1 k node next))
+          ∙ ap (λ n. before ++ map mark (range_with_len 1 n)) (sym more);
+      within = omega arith;
+    }
 
 pub returns : goal.returns
 returns g c =
     let at : c.loop-node.node - 1 ≡ length c.args.states.now - 1 = omega arith in
-    c.loop-node.invariant ∙ ap (λ n. c.args.marks.now.items ++ map (λ n. mark_of c.args.change.now (get_or c.args.states.now n port.Idle) n) (range_with_len 1 n)) at
+    c.loop-node.invariant.marks_are ∙ ap (λ n. c.args.marks.now.items ++ map (λ n. mark_of c.args.change.now (get_or c.args.states.now n port.Idle) n) (range_with_len 1 n)) at
