@@ -23,7 +23,7 @@ number_of answer.BadKind = 12
 number_of answer.TooFew = 13
 number_of answer.Occupied = 14
 
--- the number of a node's state; a handle without a node has 0
+-- the number of a node's state; a handle without a node has the number 0
 abbrev pub state_number : PortState → ℕ
 state_number state.Idle = 1
 state_number state.Linking = 2

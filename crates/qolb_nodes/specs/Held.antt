@@ -14,7 +14,7 @@ use Rattle.qolb_nodes.specs.contracts.any_node.AnyNode.{the_row}
 abbrev pub held_coded : Coded (Option the_row.Denot)
 held_coded = coded_option the_row.coded
 
--- the right to free a block of the C library's heap, which is the same by any handle of that heap
+-- the right to free a block of the C library's heap, which is the same through any handle of that heap
 abbrev pub may_free : Ty → Ptr → Fml
 may_free = ghosts.dealloc_token (record { memory = record { seal = tt } })
 

@@ -5,7 +5,7 @@ use Rattle.line_kinds.specs.Locks.{bytes_of}
 use Rattle.line_kinds.specs.declared.Lock.{Lock}
 use Rattle.qolb_nodes.specs.Opens.{lines_at, IsKind}
 
--- the number of bytes of the table of a line of this kind, for n nodes; 0 if no such line is opened
+-- the number of bytes of the table of a line of this kind for n nodes, or 0 if no such line is opened
 pub record TellsMemory (kind nodes bytes : ℕ) : Type 0 where
   pub each : (lines : Lock) → lines_at kind ≡ Some lines → AreNodes nodes → bytes ≡ bytes_of lines nodes
   pub no_kind : ¬ IsKind kind → bytes ≡ 0

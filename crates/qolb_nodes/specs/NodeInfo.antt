@@ -16,8 +16,8 @@ use Rattle.qolb_nodes.specs.declared.any_node.AnyNode.{AnyNode}
 use Rattle.qolb_nodes.specs.declared.any_node.AnyNode.TheVariants as any
 use Rattle.qolb_nodes.specs.NodeCalls.{Node}
 
--- What a node is, whatever its discipline: the kind of its line, how many nodes that has, the node's port, the node
--- with another port, and what its discipline says of words and atomic steps.
+-- What a node is, whatever its discipline: the kind of its line, how many nodes that line has, the node's port, the
+-- node with another port, and what its discipline says of words and atomic steps.
 pub record NodeInfo : Type 0 where
   pub kind : Lock
   pub nodes : ℕ

@@ -68,7 +68,7 @@ impl Handle {
         }
     }
 
-    /// Frees the handle's node, if it neither waits nor holds; otherwise the node stays.
+    /// Frees the handle's node, if the node neither waits nor holds the line. Otherwise the node stays.
     pub fn close(&mut self, alloc: Global) -> Answer
         ensures { HasClosed self.old.held self.new.held result }
     {
@@ -135,5 +135,5 @@ fn free(node: Box<AnyNode>)
     drop(node);
 }
 
-// It owns a box of a node, which may go to another thread.
+// The handle owns a box of a node, which may go to another thread.
 unsafe impl Send for Handle {}
