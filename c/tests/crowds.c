@@ -1,4 +1,4 @@
-/* Tests locks with great numbers: of calls that give up, of tasks and threads that wait, and of locks on the stack.
+/* Tests locks with large numbers of calls that give up, of tasks and threads that wait, and of locks on the stack.
  *
  *   build/crowds [SECONDS [THREADS [LOCKS]]]     1 second of calls that give up at once, 1,000 threads, 20,000 locks
  *
