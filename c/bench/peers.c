@@ -388,7 +388,8 @@ static void print_cell(enum workload workload, int threads, const char *name, st
 
 /* ---- The load of others ---- */
 
-/* The phases with one number of threads: all, those that other machines disturbed, and those of these that count. */
+/* For one number of threads: the number of phases, of those that other machines disturbed, and of those that are
+ * counted although they were disturbed. */
 static int all_phases, disturbed_phases, kept_disturbed;
 
 /* The processor time that other virtual machines took from this one, and that all of its processes used, in seconds. */

@@ -1,5 +1,5 @@
-// Coroutines of C++20 that enter a lock, over an event loop with one thread. It is meant to be copied from. Another
-// thread enters the same lock. Prints 4000.
+// Coroutines of C++20 that enter a lock, over an event loop with one thread. It is meant to serve as a template.
+// Another thread enters the same lock. Prints 4000.
 #include <condition_variable>
 #include <coroutine>
 #include <cstdlib>

@@ -1,5 +1,5 @@
 /* A server on 127.0.0.1 whose connections share a lock or a line, by epoll with one event loop and with four. It is
- * meant to be copied from.
+ * meant to serve as a template.
  *
  * A client sends 'L', and its connection acquires the lock. Then the client receives a number of 8 bytes. It sends 'U',
  * which adds 1 to the number and releases the lock. A client may disconnect at any time. No loop ever waits for the

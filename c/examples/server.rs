@@ -1,5 +1,5 @@
-//! A server on 127.0.0.1 whose connections share a mutex or a line, as futures over a small executor with one thread and with four. It is meant to be copied
-//! from.
+//! A server on 127.0.0.1 whose connections share a mutex or a line, as futures over a small executor with one thread and with four. It is meant to serve as
+//! a template.
 //!
 //! A client sends 'L', and its connection acquires the mutex. Then the client receives a number of 8 bytes. It sends 'U', which adds 1 to the number and
 //! releases the mutex. A client may disconnect at any time: the future that waits for it is then dropped, and this withdraws its request. No thread of the

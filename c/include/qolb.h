@@ -15,7 +15,7 @@
  * RETURN VALUE
  *
  * Most calls return an enum qolb_result. The table lists the results that each call may return, without the prefix
- * QOLB_. The page of a call says when the call returns which.
+ * QOLB_. The page of a call says when it returns which result.
  *
  *     call                          may return
  *     qolb_lock_open                DONE OCCUPIED
@@ -106,8 +106,8 @@
  * lock as an object of its own. It sees lines that have the same label as one object, and also a few lines that have
  * different labels, so it may miss a race between such lines.
  *
- * The tools helgrind and drd of valgrind are told the same by files that are compiled with -DQOLB_HELGRIND or
- * -DQOLB_DRD. They must suppress reports about the library's own accesses to memory:
+ * Files that are compiled with -DQOLB_HELGRIND or -DQOLB_DRD tell the same to helgrind or drd, the tools of valgrind.
+ * These tools must suppress reports about the library's own accesses to memory:
  * valgrind --tool=helgrind --suppressions=PREFIX/share/qolb/valgrind.supp.
  *
  * The proved part of the library has no unwind tables, so a backtrace that begins there may be incomplete.
@@ -183,8 +183,8 @@
  * the thread waits, no call that begins after this step is served before the thread.
  *
  * A barging lock becomes free when its holder leaves, even if other threads wait for it. The next thread that enters
- * takes it. A thread that takes the lock without a ticket is called a barging thread. A thread that finds the lock
- * taken first spins for a few microseconds, and may still take the lock without a ticket. Then it draws a ticket and
+ * takes it. A thread that takes the lock without a ticket is called a barging thread. If a thread finds the lock taken,
+ * it first spins for a few microseconds, and may still take the lock without a ticket. Then it draws a ticket and
  * waits. Waiting threads keep their order among themselves. Once a thread has drawn its ticket, with p requests before
  * its own, barging threads overtake it at most
  *
@@ -219,14 +219,15 @@
  *
  * WAITING
  *
- * A thread with a ticket polls first. If it is the next one, it polls every 90 ns. For each other thread before it, its
- * pause is 150 ns longer. Once it has seen how long a hand-over takes, its pause is three quarters of that time longer
- * instead, but at most 500 ns for each thread. How long the thread polls depends on the number of threads before it,
- * and on the number of processors that the process may use:
+ * A thread with a ticket polls first. If it is the next one, it polls every 90 ns. Each other thread before it makes
+ * the pause between two polls 150 ns longer. Once the thread has seen how long a hand-over takes, each of them makes
+ * the pause longer by three quarters of that time instead, up to 500 ns. How long the thread polls depends on the
+ * number of threads before it, and on the number of processors that the process may use:
  *
- * - If there are fewer threads than processors, it polls for 50 us, or for 1 us for each thread if that is longer.
- * - If there are fewer than twice as many threads as processors, it polls for 50 us.
- * - If there are more threads, it polls for 2 us.
+ * - If fewer threads are before it than there are processors, it polls for 50 us, or for 1 us for each of these threads
+ *   if that is longer.
+ * - If fewer than twice as many threads are before it, it polls for 50 us.
+ * - If more threads are before it, it polls for 2 us.
  *
  * Once a thread in a strict lock has seen as many threads before it as there are processors, it yields instead of
  * pausing before each poll, while fewer than twice as many threads are before it. Each yield counts as 500 ns of
@@ -277,7 +278,7 @@
  * - A qolb::Mutex is not poisoned. Its lock() fails with Stopped::Closed or Stopped::Misuse.
  * - Its lock is on the heap from its first use on, because a value in Rust may move.
  *
- * WHAT YOU MUST KEEP
+ * RULES FOR CALLERS
  *
  * - Initialise a lock or a condition by an initialiser or with zeros. Do not move or copy it once it has been used.
  * - The thread that entered a lock must leave it before the thread ends. If a thread ends while it holds a lock, the
@@ -291,7 +292,7 @@
  *   program opens at run time. A plugin that contains the static library should stay open, because glibc has room for
  *   the thread-local data of two such plugins and does not always get this room back.
  *
- * A call that a lock does not allow for any other reason returns QOLB_MISUSE and changes nothing.
+ * If a lock does not allow a call for any other reason, the call returns QOLB_MISUSE and changes nothing.
  *
  * The next holder of a lock sees everything that a thread wrote before it left the lock. A thread that is answered
  * QOLB_CLOSED sees the same. Let data that many threads change begin at a multiple of 64 bytes, because data behind a
@@ -329,12 +330,13 @@
  *
  * WORDS
  *
- * node: a user of a line. Each thread has its own, and the nodes of a line are numbered from 1.
- * lane: one of the eight 64-bit numbers of a line. Lane k consists of bytes 8k to 8k + 7, the lowest byte first.
- * lease: the number of acquisitions after which a line closes.
- * closed: a closed line serves no later request and answers QOLB_CLOSED to each. A line is closed by qolb_shut, or by
+ * node: A node is a user of a line. Each thread has its own node, and the nodes of a line are numbered from 1.
+ * lane: A lane is one of the eight 64-bit numbers of a line. Lane k consists of bytes 8k to 8k + 7, the lowest byte
+ *     first.
+ * lease: The lease is the number of acquisitions after which a line closes.
+ * closed: A closed line serves no later request, and answers QOLB_CLOSED to each. A line is closed by qolb_shut, or by
  *     the end of its lease.
- * label: a number that the caller chooses for a line.
+ * label: The label of a line is a number that the caller chooses.
  *
  * KINDS
  *
@@ -355,7 +357,7 @@
  *     link              1,232     1,784     5,096    36,008   111,528
  *     ticket            1,360     2,296     7,912    60,328   151,208
  *
- * WHAT YOU MUST KEEP
+ * RULES FOR CALLERS
  *
  * - Initialise a handle with zeros: `qolb_node node = {0};`.
  * - Move a handle by qolb_move. Never copy it.
@@ -366,8 +368,8 @@
  * - The malloc, realloc and free of the program must belong to one allocator, which aligns as the C standard requires.
  * - qolb_lock(3) has the rules for signal handlers, for forks, and for several copies of the library.
  *
- * A call that a handle or its node does not allow for any other reason returns QOLB_MISUSE, or what the call says, and
- * changes nothing.
+ * If a handle or its node does not allow a call for any other reason, the call returns QOLB_MISUSE, or the result that
+ * its description names, and changes nothing.
  *
  * MEMORY ORDER
  *
@@ -403,7 +405,7 @@
  * THREADS THAT END
  *
  * If a thread ends while its node holds the line or waits for it, all nodes behind it wait. Any other thread to which
- * the handle was handed (WHAT YOU MUST KEEP) may go on with it. qolb_state returns the state of the node.
+ * the handle was handed (RULES FOR CALLERS) may go on with it. qolb_state returns the state of the node.
  *
  * SPEED
  *
@@ -411,9 +413,9 @@
  * them. Other data that a thread writes beside the handle of another thread slow down the calls of that thread. Keep
  * such data QOLB_NODE_ALIGN bytes apart.
  *
- * Each call that requests, polls, withdraws or releases takes a bounded number of atomic steps in the proved part of
- * the library, whatever other threads do. On a line of N nodes a release takes at most 2N - 1 such steps in a ticket
- * line, 3N - 1 in a ring, and 4N - 3 in a link line.
+ * Each of qolb_enqolb, qolb_poll, qolb_withdraw, qolb_prepend, qolb_link, qolb_deqolb and qolb_shut takes a bounded
+ * number of atomic steps in the proved part of the library, whatever other threads do. On a line of N nodes, a release
+ * takes at most 2N - 1 such steps in a ticket line, 3N - 1 in a ring, and 4N - 3 in a link line.
  *
  * ==== qolb_task(3): event loops, which are notified and never wait ====
  *
@@ -447,11 +449,11 @@
  * NOTIFICATIONS
  *
  * A notification is one call of a function of the program, `call(arg)`, for a node or a task. The releasing thread
- * makes it, inside the call that releases, after the release. Whatever other locks this thread holds are still held.
- * Therefore these rules apply:
+ * makes it, inside the call that releases, after the release. Any other locks that this thread holds are still held
+ * meanwhile. Therefore these rules apply:
  *
- * - The function passes the news on: it sets a flag, makes a task ready, or writes to a descriptor. It must not wait
- *   for another thread, throw an exception, jump out, or end the thread. The thread is not cancelled in it.
+ * - The function passes the notification on: it sets a flag, makes a task ready, or writes to a descriptor. It must not
+ *   wait for another thread, throw an exception, jump out, or end the thread. The thread is not cancelled in it.
  * - The function may use any node that its thread may use, by calls that do not wait. If it releases a line or a lock,
  *   the notifications of this release are made after the function has returned. They are made earlier if a call for a
  *   node in it returns QOLB_BUSY, and at once if 32 notifications are already put off.
@@ -470,8 +472,8 @@
  * - For a task, this object must exist until qolb_task_poll returns QOLB_GRANTED or QOLB_CLOSED, or qolb_task_cancel
  *   returns. After that no notification is made.
  * - Open an eventfd with EFD_NONBLOCK, because otherwise a full count makes the releasing thread wait. Before you close
- *   it, call qolb_notify_off. For a task, call qolb_task_cancel, or let the task have had its turn. The eventfd may be
- *   readable even then. After a fork, a release in the child also writes to the parent's eventfd.
+ *   it, call qolb_notify_off. For a task, call qolb_task_cancel, or make sure that the task has had its turn. The
+ *   eventfd may be readable even then. After a fork, a release in the child also writes to the parent's eventfd.
  *
  * TASKS
  *
@@ -552,7 +554,7 @@ typedef struct qolb_bytes {
 /* The kinds of lines (KINDS). */
 enum qolb_kind { QOLB_RING = 0, QOLB_LINK = 1, QOLB_TICKET = 2, QOLB_DEFAULT = QOLB_TICKET };
 
-/* The number of kinds of lines. Each number below it is a kind. */
+/* The number of kinds of lines. Every number below it is the number of a kind. */
 #define QOLB_KINDS 3
 
 /* The results of calls (RETURN VALUE). */
@@ -925,7 +927,7 @@ enum qolb_result qolb_lock_shut(qolb_lock *lock);
 
 /* Destroys the lock, so that its memory may be freed.
  *
- * Afterwards the lock is as an initialiser leaves it. Its next use opens it with the limit that it had, and it is not
+ * Afterwards the lock is as an initialiser leaves it. Its next use opens it with the same limit, and then it is not
  * shut. The thread that was granted the lock last, and has left it, may destroy it even if another thread has not yet
  * returned from its call to leave.
  *
@@ -994,16 +996,16 @@ typedef struct qolb_task {
 
 /* Requests the lock for a task, and does not wait for its turn.
  *
- * If the lock is not free, `call(arg)` will be called once, when the task has the lock or is told that the lock is
- * shut (NOTIFICATIONS). Then qolb_task_poll tells which. The call allocates memory if the task has to wait.
+ * If the lock is not free, `call(arg)` will be called once, when the task has the lock or is told that the lock is shut
+ * (NOTIFICATIONS). Then qolb_task_poll tells which of the two it is. The call allocates memory if the task has to wait.
  *
  * Returns:
  * - QOLB_GRANTED: The task holds the lock, and no notification will be made.
  * - QOLB_WAITING: The task waits, and the notification will be made.
  * - QOLB_CLOSED: The lock is shut.
  * - QOLB_MISUSE: The task already waits or holds a lock, or `call` is null.
- * - QOLB_NO_MEMORY: The task would have to wait, and memory is short or too many requests of the lock are open
- *   (TASKS). */
+ * - QOLB_NO_MEMORY: The task would have to wait, and memory is short or too many requests of the lock are open (TASKS).
+ */
 enum qolb_result qolb_task_enter(qolb_task *task, qolb_lock *lock, void (*call)(void *arg), void *arg) QOLB_LOOK;
 
 /* Requests the lock as qolb_task_enter does, with a notification that adds 1 to the eventfd `fd`.
@@ -1058,12 +1060,12 @@ int qolb_task_holds(const qolb_task *task);
 
 /* Gets the version of the library that the program runs with.
  *
- * Returns a number like QOLB_VERSION, which is the version of the header. */
+ * Returns a number of the same form as QOLB_VERSION, which is the version of the header. */
 uint32_t qolb_version(void);
 
-/* Moves the node out of this handle, which is then empty.
+/* Moves the node from one handle to another, which the call returns.
  *
- * Returns the handle that has the node. */
+ * Returns a handle that has the node. The handle `from` is empty afterwards. */
 static inline qolb_node qolb_move(qolb_node *from) {
     qolb_node to = *from;
     from->own = QOLB_NULL_;
@@ -1094,7 +1096,7 @@ void __tsan_release(void *address);
 
 #ifdef QOLB_TOOK_
 
-/* An address for each label. They belong to the library, so all of the program uses the same ones. */
+/* An address for each label. The addresses belong to the library, so that all parts of a program use the same ones. */
 extern char qolb_lines_[1021];
 
 static inline enum qolb_result qolb_took_(qolb_node *node, enum qolb_result got) {

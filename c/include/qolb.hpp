@@ -100,8 +100,8 @@ class Misuse : public std::logic_error {
     explicit Misuse(const char *what) : std::logic_error(what) {}
 };
 
-// Thrown if a thread enters a lock that it already holds, and still holds afterwards. It is not thrown if a task holds
-// the lock for which this thread works: then the thread waits.
+// Thrown if a thread enters a lock that it already holds, and still holds afterwards. It is not thrown if the lock is
+// held by a task for which this thread works. Then the thread waits.
 class Deadlock : public Misuse {
   public:
     Deadlock() : Misuse("qolb: the thread holds the lock") {}

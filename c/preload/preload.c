@@ -1,4 +1,4 @@
-/* The preload library: it replaces the pthread mutexes of a program that was not compiled for it by qolb_locks.
+/* The preload library: it replaces the pthread mutexes of a program by qolb_locks, without compiling the program again.
  *
  *   make -C c && LD_PRELOAD=c/build/preload.so PROGRAM        (glibc, Linux 4.14); installed as LIBDIR/qolb/preload.so
  *
@@ -324,7 +324,7 @@ static int is_waited_at(const struct entry *entry) {
 }
 
 /* Returns the qolb_cond of a condition variable, which is made if it has none, or NULL if there is no memory. After a
- * fork it is made anew, because the threads that waited in the parent are not in the child. */
+ * fork the child makes a new one, because it does not have the threads that waited in the parent. */
 static qolb_cond *cond_of(const pthread_cond_t *condition) {
     atomic_uint *guard = qolb_guard_table_(CONDITIONS, condition);
     struct entry *entry = qolb_find_(CONDITIONS, condition);

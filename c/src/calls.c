@@ -1,6 +1,6 @@
 /* The calls on nodes, as the library exports them. Each makes the proved call of the same name. A call that releases
- * the line then wakes the next holder (line.h). The waits for a turn are also here, and the requests for a callback at
- * it (callbacks.h).
+ * the line then wakes the next holder (line.h). This file also has the waits for a turn, and the requests for a
+ * callback (callbacks.h).
  *
  * line.c opens lines and frees nodes. Only these two calls write to a handle, so handles of different threads may lie
  * side by side. This file is tested and model-checked, and not proved. */
@@ -37,8 +37,9 @@ __attribute__((noinline)) static uint32_t woken(struct node *my, uint32_t got) {
     return got;
 }
 
-/* Ends a call that released the line, unless it was a misuse: wakes whom it has to wake. The load takes place after the
- * release, because the proved call hands the line over by an instruction that no later load overtakes. */
+/* Ends a call that released the line, unless it was a misuse: wakes the threads that have to be woken. The load takes
+ * place after the release, because the proved call hands the line over by an instruction that no later load overtakes.
+ */
 static inline uint32_t let_go(struct node *my, uint32_t got) {
     return atomic_load(&my->line->callbacks.waiting) && got != QOLB_MISUSE ? woken(my, got) : got;
 }

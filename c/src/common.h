@@ -3,7 +3,7 @@
 #ifndef QOLB_COMMON_H
 #define QOLB_COMMON_H
 
-#include <stdint.h> /* a header of the C library says whether it is GNU's */
+#include <stdint.h> /* a header of the C library defines __GLIBC__ if this is glibc */
 
 #define HIDDEN __attribute__((visibility("hidden")))
 

@@ -1,7 +1,7 @@
 /* Tests the heap memory of a line, by kind and number of nodes:
  *
- * - qolb_memory returns the bytes that opening has allocated and keeps. At no time does opening have more than three
- *   times as many.
+ * - qolb_memory returns the bytes that opening has allocated and keeps. Opening never has more than three times this
+ *   number of bytes allocated.
  * - The data of two nodes are in no two cache lines that are fetched together. Each block of the proved part of 128
  *   bytes or more begins at a multiple of 128 bytes.
  * - 100,000 ticket lines of two nodes take less than 260 MB, as malloc_usable_size counts them.

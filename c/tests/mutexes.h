@@ -1,5 +1,5 @@
-/* For the programs that are run alone and with the preload library: mutexes, mutexes_many, mutexes_forked and
- * mutexes_cancelled. It has what they share. */
+/* What the programs share that are run alone and with the preload library: mutexes, mutexes_many, mutexes_forked and
+ * mutexes_cancelled. */
 #include <errno.h>
 #include <pthread.h>
 #include <stdio.h>

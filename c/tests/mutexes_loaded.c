@@ -1,5 +1,5 @@
 /* Tests that the first use of a pthread call does not deadlock with dlopen. A thread that holds a mutex makes the
- * program's first call of another kind, while a second thread is in dlopen and a constructor there wants the mutex.
+ * program's first call of another kind, while a second thread is in dlopen, where a constructor waits for the mutex.
  * Also tested is that such a call does not change what dlerror returns. `make check` runs this program alone and with
  * the preload library (../preload/preload.c). Its plugin is compiled from this file, too. Prints only errors. */
 #define _GNU_SOURCE

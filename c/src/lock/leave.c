@@ -11,8 +11,8 @@
  * task's, the task is due, and its callback is called. A thread that slept for its own turn also wakes the waiter
  * behind the next holder, so that this wake-up overlaps the next holder's critical section.
  *
- * A thread that is told that the lock is shut passes its turn on. To destroy a lock is to try it, and to find no
- * holder, no waiter, and no thread without a ticket in a call. */
+ * A thread that is told that the lock is shut passes its turn on. Destroying a lock tries to enter it, and succeeds if
+ * there is no holder, no waiter, and no thread without a ticket in a call. */
 #include "entries.h"
 
 #define likely(it) __builtin_expect(!!(it), 1)

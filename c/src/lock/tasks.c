@@ -27,7 +27,8 @@ static struct task *task_of(qolb_task *task) { return (struct task *)task; }
 
 static struct link **list_for(const struct entry *e) { return list_of(&qolb_tasks_, (uintptr_t)e->lock, e->number); }
 
-/* Takes the entry out of its list, and its sleep back. Returns the ticket, which WAITS or is AT_TURN. */
+/* Takes the entry out of its list, and takes back the announced sleep. Returns the ticket, which WAITS or is AT_TURN.
+ */
 static struct qolb_ticket ticket_out(struct entry *e) {
     take_out(&qolb_tasks_, list_for(e), find_before(list_for(e), (uintptr_t)e->lock, e->number));
     return e->number == HEAD ? kept_ticket(e->lock, e->task->number, QOLB_TICKET_AT_TURN_) : retracted(e);
