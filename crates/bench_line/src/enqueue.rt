@@ -49,7 +49,7 @@ pub struct TwoCalls {
 }
 
 impl TwoCalls {
-    /// Requests of which none has found the line waiting yet.
+    /// The requests by two calls, none of which has found the line waiting yet.
     pub fn new() -> TwoCalls {
         TwoCalls {
             late: AtomicU64::new(0),

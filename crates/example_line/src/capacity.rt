@@ -52,7 +52,7 @@ fn sell_one<L: LineSync<SeatLimit>>(port: &mut L::Port)
     }
 }
 
-/// Serves `customers` customers, each in a turn of the line, unless the port is told that the line is closed.
+/// Serves `customers` customers, each in one turn of the line, unless the port is told that the line is closed.
 fn serve<R: Wait, L: LineSync<SeatLimit>>(rt: &R, line: &L, port: &mut L::Port, customers: u64)
     requires belongs { L.belongs line.now port.old }
     requires state { IsTrue (may_ask (L.view port.old).state) }

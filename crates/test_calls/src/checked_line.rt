@@ -55,7 +55,7 @@ impl<Q: Discipline<Free>> Instrumented for Line<Free, Q> {
     }
 }
 
-/// A line on which a node can also ask by two calls.
+/// A line on which a node can also make a request by two calls.
 pub trait SplitCalls: Instrumented {
     /// The first half of a request.
     fn prepend(&self, port: &mut Self::Port) -> Prep
@@ -185,7 +185,8 @@ where
 
     /// Returns `Some(true)` if the node's last request is clear.
     ///
-    /// Then asking is not answered `Busy`. Returns `None` if its port is not there or may not ask.
+    /// The node's next request is then not answered `Busy`. Returns `None` if its port is not there or may not make a
+    /// request.
     pub fn is_clear(&mut self, node: u64) -> Option<bool> {
         let mut port = self.take(node)?;
         let may_ask = L::state(&port).may_ask();

@@ -92,8 +92,8 @@ where
     settle_with(alloc, lines, desk)?.ok()
 }
 
-/// Pays in all that an account may hold, and 1 more; pays out of an empty account; transfers to the same account; pays into an account
-/// beyond the line.
+/// Pays in all that an account may hold, and 1 more; pays out of an empty account; transfers to the same account; and
+/// pays into an account beyond the line.
 pub fn limits<L: LineSync<AccountLaw>>(lines: &[L], desk: &mut Desk<L>) -> [Reply; 5]
     requires { IsDeskOver L.belongs L.view lines.now desk.old }
     ensures { IsDeskOver L.belongs L.view lines.now desk.new }

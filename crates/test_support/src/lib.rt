@@ -27,10 +27,11 @@ const PAGE: usize = 1 << 10;
 /// have.
 const PAGES: usize = 1 << 12;
 
-/// Grows this thread's stack by the 4 megabytes that it can rely on. A stack grows page by page when it is touched, into free addresses;
-/// once all addresses are taken, the process ends instead.
+/// Grows this thread's stack by the 4 megabytes that it can rely on. A stack grows page by page when it is touched,
+/// into free addresses. Once all addresses are taken, the process ends instead.
 ///
-/// Returns `true` if the touched bytes are a text. So they are read, and the compiler leaves none of them out.
+/// Returns `true` if the touched bytes are a text. The bytes are read for this, so the compiler leaves none of them
+/// out.
 #[inline(never)]
 fn grow_stack() -> bool {
     let touched = [[0u8; PAGE]; PAGES];
@@ -50,14 +51,15 @@ pub struct MemoryHog {
 }
 
 impl MemoryHog {
-    /// Takes all memory that the process could still have, in at most `most` blocks: the largest that the system gives, then what is left
-    /// between them.
+    /// Takes all memory that the process could still have, in at most `most` blocks: first the largest that the system
+    /// gives, and then what is left between them.
     ///
-    /// Grows this thread's stack by 4 megabytes first. The thread can't rely on more stack until the blocks are dropped.
+    /// The call first grows this thread's stack by 4 megabytes. The thread cannot rely on more stack until the blocks
+    /// are dropped.
     ///
     /// # Errors
     ///
-    /// `AllocError` if the list of blocks itself finds no memory.
+    /// The call fails with `AllocError` if the list of blocks itself finds no memory.
     pub fn of_all(alloc: Global, most: usize) -> Result<MemoryHog, AllocError>
         ensures { IfOk result (λ hog. length hog.blocks.items ≤ most) }
     {
@@ -99,7 +101,7 @@ impl MemoryHog {
     }
 }
 
-/// A process without memory except a room. A test can take all of the room but one block.
+/// A process that has no memory except a room. A test can take all of the room but one block.
 #[derive(Drop)]
 pub struct MemoryLimit {
     _beyond: MemoryHog,

@@ -21,7 +21,7 @@ const BUSY_MILLIS: u64 = 30;
 enum Again {
     Awake,
     Asleep,
-    /// With this time limit.
+    /// The node asks again with this timeout.
     Timed(Duration),
 }
 
@@ -85,7 +85,7 @@ impl<R: Clock> Hooks for &Tries<'_, R> {
     }
 }
 
-/// Node 2 times out while node 1 holds the line, and asks again at once.
+/// Node 2 times out while node 1 holds the line, and requests it again at once.
 #[derive(Drop)]
 struct Asking<'t> {
     again: Again,
@@ -150,9 +150,9 @@ where
     })
 }
 
-/// Asks again with each call, over lines of this type. A parking or timed call sleeps 200 microseconds between two tries: some hundred
-/// tries in 30 milliseconds, hasty only if a sleep ends early. Without the sleeps there would be thousands of tries. The shortest sleep
-/// takes less than `LONG`.
+/// Node 2 asks again with each call, over lines of this type. A parking or timed call sleeps 200 microseconds between
+/// two tries. These are some hundred tries in 30 milliseconds, which are hasty only if a sleep ends early. Without the
+/// sleeps there would be thousands of tries. The shortest sleep takes less than `LONG`.
 pub(super) fn each_manner<R: Threads + Wait + Clock + Abort + Sync, L: SleepLine + Sync>(
     rt: &R,
     alloc: Global,

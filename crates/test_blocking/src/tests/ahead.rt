@@ -109,8 +109,8 @@ where
     Ok(all_see(rt, alloc, &line, ports, &scene, &AtomicU64::new(0)))
 }
 
-/// A release wakes the waiter behind the next holder, and none behind that waiter. So it does whether the next holder sleeps or not, also
-/// if it passes a withdrawn request, and if it closes the line.
+/// A release wakes the waiter behind the next holder, and no waiter behind that one. It does so whether or not the next
+/// holder sleeps, also if the release passes a withdrawn request, and if it closes the line.
 pub(super) fn each_release_wakes_one_ahead<
     R: Threads + Wait + Clock + Abort + Sync,
     L: SleepLine + Sync,

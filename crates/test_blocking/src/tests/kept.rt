@@ -68,8 +68,8 @@ where
     }
 }
 
-/// Hooks that check the order of values: a holder that would release the line with a value that is neither the last one nor its successor
-/// waits for ever, so the test does not end.
+/// Hooks that check the order of values. A holder waits for ever if it would release the line with a value that is
+/// neither the last one nor its successor, so the test then does not end.
 #[derive(Drop)]
 struct InOrder {
     last: AtomicU64,

@@ -338,7 +338,8 @@ where
     }
 }
 
-/// Waits until `count` is not 0. Bounded, because hooks and clocks have no `Wait` that would allow an endless loop.
+/// Waits until `count` is not 0. The loop is bounded, because hooks and clocks have no `Wait` that would allow an
+/// endless one.
 fn wait_for(count: &AtomicU64) {
     for _ in 0..u64::MAX {
         if count.load(Ordering::SeqCst) > 0 {

@@ -143,7 +143,8 @@ where
     Ok(())
 }
 
-/// Returns why a line of two nodes does not finish without the second port, and its bytes when it finishes with that port.
+/// Returns why a line of two nodes does not finish without the second port, and its bytes when it finishes with that
+/// port.
 fn without_a_port<L: Instrumented + Drop>(alloc: Global) -> Option<(FinishError, [u8; 64])>
 where
     L::Port: Drop,
@@ -329,9 +330,9 @@ where
 /// The bytes of a port.
 const PORT: usize = 128;
 
-/// Opens a line in a room that grows by the heap's grain. It is refused for lack of memory until the room holds all
-/// that it allocates, so each of its allocations is refused once. These are its table, two copies of it for a moment,
-/// its ports, and little otherwise.
+/// Opens a line in a room that grows by the heap's grain. Opening is refused for lack of memory until the room holds
+/// all that it allocates, so each of its allocations is refused once. These are the table of the line, two copies of it
+/// for a moment, and the ports of the line, and little else.
 pub(super) fn each_allocation_of_opening_is_refused<R: Abort, L: Instrumented + Drop>(
     rt: &R,
     alloc: Global,

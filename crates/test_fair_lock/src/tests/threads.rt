@@ -72,8 +72,8 @@ pub(super) fn wait_for<R: Wait + Clock>(rt: &R, stage: &AtomicU64, wanted: u64) 
     unreachable!()
 }
 
-/// Holds the lock this often: until that number of threads has come, and then long enough for the others to fall asleep.
-/// Returns how many critical sections there were.
+/// Holds the lock this often: until that number of threads has come, and then long enough for the others to fall
+/// asleep. Returns how many critical sections there were.
 fn hold_while_others_sleep<R: Wait + Clock>(
     rt: &R,
     lock: &FairLock<u64>,

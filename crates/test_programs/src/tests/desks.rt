@@ -371,8 +371,8 @@ where
     Some(busy(&lines, &mut desk, &lines[0], &mut other, 10))
 }
 
-/// Two payments and a transfer ask once each for a line at which the desk's node is busy, whatever their `patience`: at this line a call
-/// that asks more often does not end.
+/// Two payments and a transfer each try once at a line at which the desk's node is busy, whatever their `patience`. At
+/// this line, a call that tries more often does not end.
 pub(super) fn a_busy_desk_asks_once<
     R: Abort,
     L: OpenLine<AccountLaw> + ParkingLine<AccountLaw> + Drop,
@@ -424,7 +424,8 @@ where
     );
 }
 
-/// The number of customers that transfer, and of the transfers of each: over three locks they make a million.
+/// The number of customers that transfer, and the number of transfers of each. Over the three kinds of lines they make
+/// a million.
 pub(super) const CUSTOMERS: u64 = 4;
 
 const ROUNDS: u64 = 84_000;
@@ -496,8 +497,8 @@ where
     Some((paid, found))
 }
 
-/// Settles in a room that grows by the heap's grain: refused for lack of memory, without returning the lines, until the
-/// room holds all that it allocates.
+/// Settles in a room that grows by the heap's grain. Settling is refused for lack of memory, without returning the
+/// lines, until the room holds all that it allocates.
 pub(super) fn settling_is_refused_for_want_of_memory<R: Abort, L: OpenLine<AccountLaw> + Drop>(
     rt: &R,
     alloc: Global,
