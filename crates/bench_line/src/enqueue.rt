@@ -24,7 +24,8 @@ pub trait EnqueueStrategy<L: LineSync<NonDecreasing>> {
         ensures ended { (result ≡ Enq.Busy) ⊎ (result ≡ Enq.Closed)
             → IsTrue (may_ask (L.view port.new).state) };
 
-    /// Returns how many requests found the line waiting when they linked, left there by a release that did not wait for the link.
+    /// Returns how many requests found the line waiting when they linked, left there by a release that did not wait for
+    /// the link.
     fn late_links(&self) -> u64;
 }
 

@@ -96,8 +96,8 @@ impl<R: Wait, L: LineSync<SeatLimit>> ScopedTask<R, L, L::Port> for Clerk {
 
 /// Sells seats with `clerks` threads, each to `customers` customers.
 ///
-/// Returns the number of seats sold, or `None` if the line, memory or a thread is refused. A seat is sold to each customer, while there are
-/// seats.
+/// Returns the number of seats sold, or `None` if the line, memory or a thread is refused. A seat is sold to each
+/// customer, while there are seats.
 pub fn sell<R: Threads + Wait + Sync, L: OpenLine<SeatLimit> + Sync + Drop>(
     rt: &R,
     alloc: Global,

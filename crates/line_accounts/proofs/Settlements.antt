@@ -190,7 +190,8 @@ module _ {Line Port : Type 0} (belongs : Line → Port → Type 0) (view : Port 
         let (desk, at_desk, at_place) = port_was i port at_port in
         subst (λ (w : View). KnowsOwnPlaces w) (sym is) (left.at_rest i desk (length lines) port at_desk at_place).places
 
--- what is left of all lines and desks: the first lines, and the first ports of each desk; the lines behind these are settled
+-- what is left of all lines and desks: the first lines, and the first ports of each desk; the lines behind these are
+-- settled
 module _ {Line Port : Type 0} (belongs : Line → Port → Type 0) (view : Port → View) (label_of : Line → ℕ) (config_of : Line → LineConfig) (all_lines : List Line) (all_desks : List (DeskOf Port)) where
   pub record IsRest (lines : List Line) (desks : List (DeskOf Port)) : Type 0 where
     pub line_was : (i : ℕ) (line : Line) → slice_get lines i ≡ Some line → slice_get all_lines i ≡ Some line

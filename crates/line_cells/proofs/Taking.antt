@@ -33,8 +33,8 @@ use Rattle.line_cells.proofs.Slots.{MayTake, AreSpare}
 use Rattle.line_cells.proofs.Keeping.{rule_step, mine_ok, mine_low, window, cell_shown}
 use Rattle.qolb_model.proofs.Leases.{open_has_turns}
 
--- The cell of a request at its turn, if no node has the line: it does not read as waiting. And after the node n takes the line by a step
--- that changes the cell so, the cells keep their invariant.
+-- The cell of a request at its turn, if no node has the line: it does not read as waiting. And after the node n takes
+-- the line by a step that changes the cell so, the cells keep their invariant.
 abbrev pub Takes : ℕ → Cells → (ℕ → ℕ → Type 0) → ℕ → ℕ → (ℕ → ℕ) → Type 0
 Takes count cells waits place n change = (cleared : Bool) (marks says : ℕ → ℕ) → 0 < n → marks place ≡ 0 → cells place 0 cleared marks says
     → (waits place (says (cell_of count place)) → ⊥) × cells place n false marks (put says (cell_of count place) (change (says (cell_of count place))))

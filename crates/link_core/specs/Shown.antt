@@ -183,7 +183,8 @@ pub record HasLeft (c : State) (n : ℕ) : Type 0 where
   pub done : (entry c n).done ≡ true
   pub unlinked : (entry c n).link ≡ 0
 
--- While the line is in no hand, the request that ended last is clear, unless its end is Gone or its node has left the line.
+-- While the line is in no hand, the request that ended last is clear, unless its end is Gone or its node has left the
+-- line.
 abbrev pub Rests : State → List Request → List End → List Request → Type 0
 Rests c order ends clear = ((n : ℕ) → c.place ≢ Hand n) → (p : ℕ) (r : Request) (e : End) → p + 1 ≡ length ends → slice_get order p ≡ Some r → slice_get ends p ≡ Some e → is_gone e ≡ false → Has clear r ⊎ HasLeft c r.node
 

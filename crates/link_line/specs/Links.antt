@@ -108,8 +108,8 @@ pub record IdentityInv (key : TableKey) (n : ℕ) (v : View) : Type 0 where
   pub label : v.label ≡ key.label
   pub config : v.config ≡ key.config
 
--- The view's lists are prefixes of the queue's. They include the end of every own request that was served or told, and which own requests
--- are withdrawn.
+-- The view's lists are prefixes of the queue's. They include the end of every own request that was served or told, and
+-- which own requests are withdrawn.
 pub record ViewInv (q : Queue) (n : ℕ) (v : View) : Type 0 where
   pub orders : IsPrefix v.order q.order
   pub endings : IsPrefix v.ends q.ends
@@ -120,8 +120,8 @@ pub record ViewInv (q : Queue) (n : ℕ) (v : View) : Type 0 where
   pub own_marks : (r : Request) → r.node ≡ n → has v.marked r ≡ has q.marked r
   pub all_marked : IsSubset v.marked q.marked
 
--- The view has the own requests that are joined. A view with a freed request and the joined one behind it, whichever of both was learned
--- last, has the freed one as clear.
+-- The view has the own requests that are joined. A view with a freed request and the joined one behind it, whichever of
+-- both was learned last, has the freed one as clear.
 pub record JoinedInv (x : History) (n : ℕ) (v : View) : Type 0 where
   pub own_joined : (r : Request) → r.node ≡ n → Has x.joined r → Has v.joined r
   pub all_joined : IsSubset v.joined x.joined
@@ -137,8 +137,8 @@ pub record IsInHand (c : Core) (n : ℕ) (s : NodeCall) (line : Payload) : Type 
   pub mask : MayServe s → mask_of line ≡ c.mask
   pub shut : line.closed ≡ is_shut_by s.reason
 
--- The node's point in its call, and its line. The writes of a holder are not in the core yet. If its release has left the line with a node
--- that it passed, it knows the request behind.
+-- The node's point in its call, and its line. The writes of a holder are not in the core yet. If its release has left
+-- the line with a node that it passed, it knows the request behind.
 pub record PointInv (c : Core) (ends : List End) (n : ℕ) (e : LinkGhost) : Type 0 where
   pub seat : e.own.seat ≡ seat c n
   pub state : e.view.state ≡ state_of e.own.seat

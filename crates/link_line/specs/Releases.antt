@@ -69,7 +69,8 @@ pub record ReleasesLine (v : LinkGhost) (y : Payload) (state : PortState) (w : L
   pub state_is : w.view.state ≡ state
   pub ends_turn : EndsTurn v.view (own_end (is_closed v.view.ends) y) (state_after y.closed) w.view
 
--- a release is over that had passed the request at its turn and none before; it passed requests of different nodes, none of them its own
+-- a release is over that had passed the request at its turn and none before; it passed requests of different nodes,
+-- none of them its own
 pub record FinishesWalk (v w : LinkGhost) : Type 0 where
   pub point : w.own.seat.point ≡ point_by v.view.state
   pub state : w.view.state ≡ v.view.state
@@ -84,8 +85,8 @@ pub record FinishesWalk (v w : LinkGhost) : Type 0 where
 pub record AreNodesAt (v : View) (places nodes : List ℕ) : Type 0 where
   pub each : (k p n : ℕ) → At places k p → At nodes k n → (r : Request) × At v.order p r × (r.node ≡ n) × IsWithin v.config.nodes n
 
--- all requests that the node had passed are freed, and clear unless the line was left behind the last; its own is clear; nothing else has
--- changed
+-- all requests that the node had passed are freed, and clear unless the line was left behind the last; its own is
+-- clear; nothing else has changed
 pub record FreesAll (v w : LinkGhost) : Type 0 where
   pub point : w.own.seat.point ≡ point_by v.view.state
   pub state : w.view.state ≡ v.view.state

@@ -116,7 +116,8 @@ end_of (p ∷ ps) closed y = Gone
 abbrev pub next_end : LinkGhost → Payload → End
 next_end v y = end_of v.own.passed (is_closed v.view.ends) y
 
--- the turn of a holder is over, with this payload: its write is allowed, one turn fewer is left, and the last turn has closed the line
+-- the turn of a holder is over, with this payload: its write is allowed, one turn fewer is left, and the last turn has
+-- closed the line
 pub record TurnIsOver (allows : List ℕ → List ℕ → Type 0) (v : LinkGhost) (y : Payload) : Type 0 where
   pub bytes : written (bytes_of v.view) (write_of y) ≡ y.bytes.bytes
   pub turns : y.turns_left ≡ decrement (turns_left v.view.config.lease v.view.ends)
@@ -166,7 +167,8 @@ pub record IsHandedOver (v w : LinkGhost) (y : Payload) : Type 0 where
   pub unmarked : (r : Request) → turn_of w.view.order w.view.ends ≡ Some r → Lacks w.view.marked r
   pub clear : v.own.passed ≡ [] → Has w.view.clear (own w.view)
 
--- the state of a node that has left the line for a late linker: in its own entry, or in that of a node that it has passed
+-- the state of a node that has left the line for a late linker: in its own entry, or in that of a node that it has
+-- passed
 abbrev pub left_in : List ℕ → Bool → PortState
 left_in [] closed = port_state.Left
 left_in (p ∷ ps) closed = state_after closed
@@ -191,8 +193,8 @@ pub record Passes (v w : LinkGhost) (next : ℕ) : Type 0 where
   pub others : AreOfOthers w.view.node w.view.order w.own.passed
   pub few : length w.own.passed + 1 ≤ w.view.config.nodes
 
--- the node of the first passed request, at the place p, is freed, and that request is clear unless the line was left there; ps are the
--- passed ones that are left
+-- the node of the first passed request, at the place p, is freed, and that request is clear unless the line was left
+-- there; ps are the passed ones that are left
 pub record Frees (v : LinkGhost) (p : ℕ) (ps : List ℕ) (r : Request) (w : LinkGhost) : Type 0 where
   pub point : w.own.seat.point ≡ after_release w.view.state ps
   pub passed : w.own.passed ≡ ps

@@ -70,9 +70,9 @@ take_get (suc n) (y ∷ xs) (suc p) x at = let h = take_get n xs p x at in (omeg
 pub place_ended : (order : List Request) (ends : List End) (r : Request) → Has (ended_of order ends) r → (p : ℕ) × (p < length ends) × (slice_get order p ≡ Some r)
 place_ended order ends r h = let (p, at) = place_of_request (ended_of order ends) r h in let both = take_get (length ends) order p r at in (p, both.0, both.1)
 
--- what is known of a view by which a port of the node m, that knew the state's whole history, has been met: the view has no more requests
--- of that node; an end of an open one is that of a marked one that was passed; if one is at its turn, nothing has ended, and only what had
--- ended is clear; and it has no more marks
+-- what is known of a view by which a port of the node m, that knew the state's whole history, has been met: the view
+-- has no more requests of that node; an end of an open one is that of a marked one that was passed; if one is at its
+-- turn, nothing has ended, and only what had ended is clear; and it has no more marks
 pub record Bounds (s : OwnerState) (a : View) (m : ℕ) : Type 0 where
   pub counts : count_of m a.order ≤ count_of m s.queue.order
   pub passed : (p : ℕ) (r : Request) (e : End) → length s.queue.ends ≤ p → slice_get a.order p ≡ Some r → slice_get a.ends p ≡ Some e → r.node ≡ m → (is_gone e ≡ true) × Has s.queue.marked r

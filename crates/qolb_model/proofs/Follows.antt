@@ -35,7 +35,8 @@ pub has_push_other : (xs : List Request) (x r : Request) → r.node ≢ x.node �
 has_push_other xs x r ne =
     list_any-append (is_same r) xs (x ∷ []) ∙ (ap (λ b. has xs r || ((b && (r.number == x.number)) || false)) (ne_eqb r.node x.node ne) ∙ or-false (has xs r))
 
--- the port of the node n made a call that put no request which the state does not have; it forgot nothing, and then met all others
+-- the port of the node n made a call that put no request which the state does not have; it forgot nothing, and then met
+-- all others
 pub record Follows (s : OwnerState) (n : ℕ) (a : View) : Type 0 where
   pub node : a.node ≡ n
   pub config : a.config ≡ s.config

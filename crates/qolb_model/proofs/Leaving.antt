@@ -25,8 +25,8 @@ use Rattle.qolb_model.proofs.Agreed.{state_from, first_turn}
 use Rattle.qolb_model.proofs.Follows.{seen_holding, has_push_other}
 use Rattle.qolb_model.proofs.Passing.{goes_queue}
 
--- the state goes on from s to t by a call of the node n: nothing is forgotten, no other node makes a request or loses a mark, and each
--- of them may call what it might; a holder's turn stays
+-- the state goes on from s to t by a call of the node n: nothing is forgotten, no other node makes a request or loses a
+-- mark, and each of them may call what it might; a holder's turn stays
 pub record Leaves (n : ℕ) (s t : OwnerState) : Type 0 where
   pub config : t.config ≡ s.config
   pub order : IsPrefix s.queue.order t.queue.order

@@ -72,7 +72,8 @@ not_served (Served write shut) h = absurd (h refl)
 not_served Gone h = refl
 not_served Told h = refl
 
--- a longer order and more ends have the same turns of a node, if each of its served requests is known to the shorter ones
+-- a longer order and more ends have the same turns of a node, if each of its served requests is known to the shorter
+-- ones
 pub turns-same : (does : List ℕ → List ℕ → ℕ) (node : ℕ) (bytes : List ℕ) (order more : List Request) (ends later : List End)
     → IsPrefix order more → IsPrefix ends later
     → ((p : ℕ) (r : Request) (e : End) → slice_get more p ≡ Some r → slice_get later p ≡ Some e → r.node ≡ node → is_served e ≡ true → (p < length order) × (p < length ends))

@@ -113,8 +113,8 @@ impl Field {
         unreachable!()
     }
 
-    /// Draws a ticket by one of the calls, and waits, or withdraws. Returns the ticket at its turn, and the newcomers that were counted when
-    /// it was drawn.
+    /// Draws a ticket by one of the calls, and waits, or withdraws. Returns the ticket at its turn, and the newcomers
+    /// that were counted when it was drawn.
     pub(crate) fn draw_somehow<R: Wait>(
         &self,
         rt: &R,

@@ -189,8 +189,8 @@ pub struct Settled {
 
 /// Runs a customer for each node of eight new lines, and settles.
 ///
-/// Each makes `rounds` transfers in its own thread. Returns `None` if memory or a thread is refused, or a line has fewer than `nodes`
-/// nodes.
+/// Each makes `rounds` transfers in its own thread. Returns `None` if memory or a thread is refused, or a line has
+/// fewer than `nodes` nodes.
 pub fn transfer_at_random<R: Threads + Wait + Sync, L: LineSync<AccountLaw> + Sync + Drop>(
     rt: &R,
     alloc: Global,

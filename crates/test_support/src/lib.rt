@@ -13,8 +13,8 @@ use std::str::from_utf8;
 /// The grain of the heap in bytes: block sizes are multiples of it.
 pub const GRAIN: usize = 16;
 
-/// The most blocks in which all memory of a process is taken. A block is as large as the system gives in one call, so some thousands fill
-/// the 128 TB that a process on x86-64 can address.
+/// The most blocks in which all memory of a process is taken. A block is as large as the system gives in one call, so
+/// some thousands fill the 128 TB that a process on x86-64 can address.
 const MAX_BLOCKS: usize = 1 << 16;
 
 /// The most blocks in which the rest of a `MemoryLimit`'s room is taken.
@@ -23,8 +23,8 @@ const FEW_BLOCKS: usize = 1 << 11;
 /// The bytes of a part of the stack.
 const PAGE: usize = 1 << 10;
 
-/// The parts of the stack that a thread can rely on after all memory of its process is taken: 4 megabytes, of the 8 that Linux lets a stack
-/// have.
+/// The parts of the stack that a thread can rely on after all memory of its process is taken: 4 megabytes, of the 8
+/// that Linux lets a stack have.
 const PAGES: usize = 1 << 12;
 
 /// Grows this thread's stack by the 4 megabytes that it can rely on. A stack grows page by page when it is touched,
@@ -43,8 +43,8 @@ fn is_text(bytes: &[u8]) -> bool {
     from_utf8(bytes).is_ok()
 }
 
-/// Blocks that take memory from the rest of the process until they are dropped. They are never touched, so they take no memory of the
-/// machine.
+/// Blocks that take memory from the rest of the process until they are dropped. They are never touched, so they take no
+/// memory of the machine.
 #[derive(Drop)]
 pub struct MemoryHog {
     blocks: Vec<Vec<u8>>,

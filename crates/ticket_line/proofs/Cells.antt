@@ -19,7 +19,8 @@ use Rattle.ticket_line.specs.Ticket.{IsLater, TicketCells}
 use Rattle.ticket_line.specs.Steps.{is_other, is_granted, is_granted_half, withdrawn_by}
 use Rattle.ticket_line.proofs.Numbers.{granted_ticket, withdrawn_ticket, not_granted, not_granted_half, number_of_granted, number_of_withdrawn, by_nobody, by_node}
 
--- a granted cell has the own ticket, which no node reads as waiting, and a node that takes the line leaves that number there
+-- a granted cell has the own ticket, which no node reads as waiting, and a node that takes the line leaves that number
+-- there
 pub takes_by : (nodes : ℕ) (waits : ℕ → ℕ → Type 0) (place n : ℕ) (change : ℕ → ℕ) → (waits place (granted_word place) → ⊥)
     → ((word : ℕ) → word ≡ granted_word place → change word / NUMBER_UNIT ≡ number place) → Takes (cells_for nodes) (TicketCells nodes) waits place n change
 takes_by nodes waits place n change own slots_in_turn cleared marks says low free c = (

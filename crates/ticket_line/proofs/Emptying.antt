@@ -6,7 +6,8 @@ use native.Mathlib.Decide.{ℕ_discrete}
 use lib.ListN.{get_elem?}
 use Rattle.line_generic.specs.declared.table.Payload.{Payload}
 
--- The slots below `at` are empty, and those from there on are full, as they were. Once the place is passed its line is found.
+-- The slots below `at` are empty, and those from there on are full, as they were. Once the place is passed its line is
+-- found.
 pub record AreEmptied (count place at : ℕ) (old items : List Payload) (filled : List Bool) (long : ℕ) (line : Payload) : Type 0 where
   pub seat : items ≡ old
   pub many : long ≡ count

@@ -37,8 +37,8 @@ const HASTE: u64 = 100_000;
 /// Several brief sleeps, in nanoseconds. The system ends a very short sleep some 60 microseconds late.
 const LONG: u64 = 1_000_000;
 
-/// Counts the busy tries of a node, and the hasty ones among them: those that followed the last too soon for a sleep in between, although
-/// there had been more than `AWAKE`.
+/// Counts the busy tries of a node, and the hasty ones among them: those that followed the last too soon for a sleep in
+/// between, although there had been more than `AWAKE`.
 #[derive(Drop)]
 struct Tries<'r, R> {
     clock: &'r R,
@@ -115,7 +115,8 @@ impl<R: Wait + Clock, L: ParkingLine<Free>> Scene<R, L> for Asking<'_> {
     }
 }
 
-/// Whether both nodes had the line; node 2's busy and hasty tries; the shortest pause between two tries that may sleep in between.
+/// Whether both nodes had the line; node 2's busy and hasty tries; the shortest pause between two tries that may sleep
+/// in between.
 #[derive(Clone, Copy, Debug)]
 struct Found {
     had: bool,

@@ -274,8 +274,8 @@ where
     }
 }
 
-/// Node 1 holds; node 2 asks twice for 5 ms; node 1 releases, and node 2 asks once more. Returns node 2's answers, each with its state
-/// after it.
+/// Node 1 holds; node 2 asks twice for 5 ms; node 1 releases, and node 2 asks once more. Returns node 2's answers, each
+/// with its state after it.
 fn late_and_later<R: Wait + Clock, L: ParkingLine<Free>>(
     rt: &R,
     line: &L,

@@ -37,7 +37,8 @@ where
     expect(rt, "three turns", add_ten::<R, L>(rt, alloc), wanted);
 }
 
-/// Puts a value, takes it if `takes`, and finishes the line. Returns whether a value was put, whether one was taken, and the last bytes.
+/// Puts a value, takes it if `takes`, and finishes the line. Returns whether a value was put, whether one was taken,
+/// and the last bytes.
 fn put_and_taken<L: OpenLine<Free> + Drop>(
     alloc: Global,
     takes: bool,

@@ -20,8 +20,8 @@ use std::thread::{Threads, yield_now};
 use std::time::Duration;
 use test_support::{HookedLine, Hooks};
 
-/// The notes of a line: busy tries; polls that found the turn not there, and how many of these came before the first and the second sleep;
-/// sleeps; the limits of the last and of the longest sleep in nanoseconds; and releases.
+/// The notes of a line: busy tries; polls that found the turn not there, and how many of these came before the first
+/// and the second sleep; sleeps; the limits of the last and of the longest sleep in nanoseconds; and releases.
 #[derive(Drop)]
 struct Notes {
     busy: AtomicU64,
@@ -165,8 +165,8 @@ impl<R> Clock for Ticking<'_, R> {
     }
 }
 
-/// A limit of 3 milliseconds by a clock that moves one at each reading: what is left at each, and then nothing. Without a clock nothing is
-/// left.
+/// A limit of 3 milliseconds by a clock that moves one at each reading: what is left at each, and then nothing. Without
+/// a clock nothing is left.
 #[test]
 fn less_is_left_of_a_limit_at_each_reading(rt: HostRuntime) {
     let clock = Ticking::new(&rt, Some(1_000_000));
@@ -200,7 +200,8 @@ where
     Some((NotedLine::with(notes, line), one, two))
 }
 
-/// Node 2 waits for `at_most` by `clock` while node 1 holds the line; if `adds`, by `add_within`. Returns node 2's answer.
+/// Node 2 waits for `at_most` by `clock` while node 1 holds the line; if `adds`, by `add_within`. Returns node 2's
+/// answer.
 fn wait_behind<C: Wait + Clock, L: ParkingLine<Free>>(
     clock: &C,
     line: &L,
@@ -242,10 +243,10 @@ where
 
 /// A wait of 136 ticks times out at its limit, and sleeps twice before.
 ///
-/// It begins at the first reading, reads the clock between its polls, and times out when it reads the limit: after 135 polls. It stays
-/// awake for 64 polls (32 spins, then 32 yields), and sleeps after the 65th. A release also wakes the waiter behind the next holder, so the
-/// waiter then stays awake as long again: it sleeps after the 130th poll, with 6 ticks left. No sleep may take longer than the time left.
-/// All this holds for `acquire_timeout` and for `add_within`.
+/// It begins at the first reading, reads the clock between its polls, and times out when it reads the limit: after 135
+/// polls. It stays awake for 64 polls (32 spins, then 32 yields), and sleeps after the 65th. A release also wakes the
+/// waiter behind the next holder, so the waiter then stays awake as long again: it sleeps after the 130th poll, with 6
+/// ticks left. No sleep may take longer than the time left. All this holds for `acquire_timeout` and for `add_within`.
 fn a_wait_keeps_to_its_time<R: Wait + Abort, L: SleepLine>(rt: &R, alloc: Global)
 where
     L::Port: Drop,
@@ -283,8 +284,8 @@ where
     expect(rt, "sleeps", notes.sleeps(), 0);
 }
 
-/// Node 2 times out behind node 1, which holds the line, and asks again for `at_most` by `clock` while its withdrawn request is not passed.
-/// Returns the second answer.
+/// Node 2 times out behind node 1, which holds the line, and asks again for `at_most` by `clock` while its withdrawn
+/// request is not passed. Returns the second answer.
 fn ask_behind<N: Wait + Clock, C: Wait + Clock, L: ParkingLine<Free>>(
     no_time: &N,
     clock: &C,
@@ -375,8 +376,8 @@ impl<R> Clock for Pausing<'_, R> {
     }
 }
 
-/// Node 1 holds the line, node 2 has withdrawn behind it, and node 3 waits. Node 2 asks again and is busy until node 1 releases; then node
-/// 2 waits behind node 3, which does nothing with the line.
+/// Node 1 holds the line, node 2 has withdrawn behind it, and node 3 waits. Node 2 asks again and is busy until node 1
+/// releases; then node 2 waits behind node 3, which does nothing with the line.
 #[derive(Drop)]
 struct Renewing<'n> {
     notes: &'n Notes,
@@ -459,7 +460,8 @@ where
     );
 }
 
-/// Node 2 polls twice while node 1 holds the line, and once after node 1 has released. Returns `true` if each answer was right.
+/// Node 2 polls twice while node 1 holds the line, and once after node 1 has released. Returns `true` if each answer
+/// was right.
 fn look_behind<L: LineSync<Free>>(line: &L, one: &mut L::Port, two: &mut L::Port) -> bool
     requires belongs_one { L.belongs line.now one.old }
     requires belongs_two { L.belongs line.now two.old }
@@ -513,7 +515,8 @@ where
     expect(rt, "the limit", notes.last(), u64::MAX);
 }
 
-/// Hooks that note the shortest time from a poll that finds the turn not there to the sleep behind it, in nanoseconds of `clock`.
+/// Hooks that note the shortest time from a poll that finds the turn not there to the sleep behind it, in nanoseconds
+/// of `clock`.
 #[derive(Drop)]
 struct Between<'c, C> {
     clock: &'c C,
@@ -576,8 +579,8 @@ fn time_of_pauses<C: Clock>(clock: &C) -> u64 {
     shortest
 }
 
-/// Between a poll that finds the turn not there and its sleep, a `ParkOnPoll` takes at least half the time of 256 pauses, however often it
-/// is tried. A body that does not pause takes a small part of it.
+/// Between a poll that finds the turn not there and its sleep, a `ParkOnPoll` takes at least half the time of 256
+/// pauses, however often it is tried. A body that does not pause takes a small part of it.
 fn each_look_in_vain_pauses<R: Wait + Clock + Abort, L: SleepLine>(rt: &R, alloc: Global)
 where
     L::Port: Drop,
@@ -790,8 +793,8 @@ where
     all_see_hooked::<R, &Notes, L, Handing>(rt, alloc, 2, notes, &Handing { notes }, &let_go)
 }
 
-/// `acquire_parking` sleeps after 65 polls that found the turn not there, without a limit. Woken ahead of its turn, it polls 65 times again
-/// before it sleeps again.
+/// `acquire_parking` sleeps after 65 polls that found the turn not there, without a limit. Woken ahead of its turn, it
+/// polls 65 times again before it sleeps again.
 fn a_long_wait_sleeps<R: Threads + Wait + Abort + Sync, L: SleepLine + Sync>(rt: &R, alloc: Global)
 where
     L::Port: Send + Drop,

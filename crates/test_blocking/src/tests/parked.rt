@@ -51,8 +51,9 @@ pub(super) fn sleep_for<R: Wait + Clock, L: ParkingLine<Free>>(
     begin.elapsed(rt).ok()
 }
 
-/// Node 1 holds, nodes 2 and 3 queue. Node 2 sleeps with the limit `at_most` until it has slept so long, and once less than `less`; at most
-/// `times` times. Then node 1 releases, and node 2 sleeps once more with a limit 1,000 times as long.
+/// Node 1 holds, nodes 2 and 3 queue. Node 2 sleeps with the limit `at_most` until it has slept so long, and once less
+/// than `less`; at most `times` times. Then node 1 releases, and node 2 sleeps once more with a limit 1,000 times as
+/// long.
 fn sleep_behind_another<R: Wait + Clock, L: SleepLine>(
     rt: &R,
     alloc: Global,
@@ -93,8 +94,9 @@ where
     })
 }
 
-/// How often node 2 sleeps at most, its limit in microseconds, and a bound in microseconds that the shortest of these sleeps is under. The
-/// system ends a very short sleep some 60 microseconds late, and where many threads want a processor a whole millisecond, mostly.
+/// How often node 2 sleeps at most, its limit in microseconds, and a bound in microseconds that the shortest of these
+/// sleeps is under. The system ends a very short sleep some 60 microseconds late, and where many threads want a
+/// processor a whole millisecond, mostly.
 static SLEEPS: [(u32, u64, u64); 4] = [
     (5_000, 200, 1_000),
     (1_000, 4_000, 8_000),
@@ -126,8 +128,8 @@ where
 /// The number of nodes of a line at which all but one sleep.
 const NODES: u64 = 200;
 
-/// Node 1 holds the line until all others have slept behind it, ten times each with the limit `at_most`. Each tells whether one of its
-/// sleeps took that long.
+/// Node 1 holds the line until all others have slept behind it, ten times each with the limit `at_most`. Each tells
+/// whether one of its sleeps took that long.
 #[derive(Drop)]
 struct Dozing {
     at_most: Duration,

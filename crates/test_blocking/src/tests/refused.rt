@@ -65,8 +65,8 @@ impl<'a, R: Wait> ScopedTask<R, u64, u64> for Working<'a> {
     }
 }
 
-/// Runs `all` threads, which wait this many naps, in a room of `bytes` bytes. Returns how many outputs came back, how many threads worked, and
-/// how many outputs were dropped by then.
+/// Runs `all` threads, which wait this many naps, in a room of `bytes` bytes. Returns how many outputs came back, how
+/// many threads worked, and how many outputs were dropped by then.
 fn run_in<R: Threads + Wait + Sync>(
     rt: &R,
     alloc: Global,

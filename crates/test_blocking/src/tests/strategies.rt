@@ -110,7 +110,8 @@ impl<R: Wait, L: ParkingLine<Free>> Scene<R, L> for Waiting<'_> {
     }
 }
 
-/// Returns `true` if node 2 of a new line was granted the line, or told, and its strategy was asked in step with its polls.
+/// Returns `true` if node 2 of a new line was granted the line, or told, and its strategy was asked in step with its
+/// polls.
 fn wait_in_step<R: Threads + Wait + Sync, L: SleepLine + Sync>(
     rt: &R,
     alloc: Global,
@@ -143,8 +144,8 @@ where
 /// How many tries of node 2 are busy before node 1 releases: more than the polls that a waiter makes before it sleeps.
 const BUSY: u64 = 100;
 
-/// Node 1 holds the line, node 2 has withdrawn behind it, and node 3 waits. Node 2 asks again, is busy until node 1 releases, and then waits
-/// behind node 3, which releases once node 2 sleeps.
+/// Node 1 holds the line, node 2 has withdrawn behind it, and node 3 waits. Node 2 asks again, is busy until node 1
+/// releases, and then waits behind node 3, which releases once node 2 sleeps.
 #[derive(Drop)]
 struct Tired<'p> {
     polls: &'p Polls,

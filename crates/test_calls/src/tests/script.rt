@@ -83,7 +83,8 @@ where
     None
 }
 
-/// The outcome of a script: the first step that differs, why the line did not finish after the calls, and its bytes at the end.
+/// The outcome of a script: the first step that differs, why the line did not finish after the calls, and its bytes at
+/// the end.
 #[derive(Clone, Copy, Debug, PartialEq)]
 struct Outcome {
     differs: Option<usize>,
@@ -112,8 +113,8 @@ static SCRIPTS: [Script; 8] = [
         Some(FinishError::Unquiet(2)),
         Some(0),
     ),
-    // a node that withdrew is not clear until a release passes it, which `is_clear` finds by one step; any other port that may ask is clear
-    // without a step
+    // a node that withdrew is not clear until a release passes it, which `is_clear` finds by one step; any other port
+    // that may ask is clear without a step
     (
         3,
         None,

@@ -144,7 +144,8 @@ impl<R> Clock for Gated<'_, R> {
 /// The waiters of a lock, up to the one that shares the wake word of the first.
 const WAITERS: u64 = 33;
 
-/// Holds the lock until the first waiter has its ticket and reads its clock, the others have theirs, and the first sleeps behind them.
+/// Holds the lock until the first waiter has its ticket and reads its clock, the others have theirs, and the first
+/// sleeps behind them.
 fn hold_past_the_gate<R: Wait + Clock>(
     rt: &R,
     lock: &FairLock<u64>,

@@ -18,8 +18,8 @@ fn strict(alloc: Global) -> Result<TicketTable, Fail>
     Ok(open(alloc, LockKind::Strict).ok().ok_or("opened")?)
 }
 
-/// A caller holds the lock. Another waits, announces its sleep, and is granted the lock. Returns the rounds and the word of the announcement,
-/// the answer of the release, and the rounds to go after it.
+/// A caller holds the lock. Another waits, announces its sleep, and is granted the lock. Returns the rounds and the
+/// word of the announcement, the answer of the release, and the rounds to go after it.
 fn granted_asleep(lock: &SharedTable) -> Option<(u64, u64, ReleaseResult, u64)>
     requires { IsLockTable lock.now.table_id }
 {
@@ -106,8 +106,8 @@ fn draw_one(lock: &SharedTable) -> u64
     draw(lock, &mut seat)
 }
 
-/// A caller holds the lock, and 60 requests wait. Returns the answers to a caller that draws a ticket only near its turn, to one that draws
-/// only if it need not wait, and to one that draws in any case.
+/// A caller holds the lock, and 60 requests wait. Returns the answers to a caller that draws a ticket only near its
+/// turn, to one that draws only if it need not wait, and to one that draws in any case.
 fn drawn_far(lock: &SharedTable) -> Option<(DrawNearResult, Option<u64>, u64)>
     requires { IsLockTable lock.now.table_id }
 {
@@ -133,7 +133,8 @@ fn far_and_busy_draw_no_ticket(rt: HostRuntime) -> Result<(), Fail> {
     Ok(())
 }
 
-/// A caller finds the lock open and shuts it, and two callers behind it find it shut. Returns whether each of these two reopened the lock.
+/// A caller finds the lock open and shuts it, and two callers behind it find it shut. Returns whether each of these two
+/// reopened the lock.
 fn reopened(lock: &SharedTable) -> Option<(bool, bool)>
     requires table { IsLockTable lock.now.table_id }
     requires strict { lock.now.key ≤ 1 }

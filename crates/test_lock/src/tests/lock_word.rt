@@ -88,8 +88,8 @@ fn a_queue_head_is_told_of(rt: HostRuntime) -> Result<(), Fail> {
     Ok(())
 }
 
-/// A thread barges and leaves by steps that expect a certain lock word. Returns the answers to words that it does not find, and to the
-/// right one.
+/// A thread barges and leaves by steps that expect a certain lock word. Returns the answers to words that it does not
+/// find, and to the right one.
 fn left_as_expected(
     lock: &SharedTable,
 ) -> Option<(BargeResult, BargeResult, LeaveResult, LeaveResult)>

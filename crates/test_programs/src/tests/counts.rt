@@ -29,8 +29,8 @@ where
     Ok(())
 }
 
-/// In 10,000 rounds a node withdraws while another releases. The count is one for each round, and one for each withdrawal that returned
-/// `Granted`.
+/// In 10,000 rounds a node withdraws while another releases. The count is one for each round, and one for each
+/// withdrawal that returned `Granted`.
 pub(super) fn a_withdrawal_and_a_release_race<
     R: Threads + Wait + Sync + Abort,
     L: OpenLine<Free> + Sync + Drop,

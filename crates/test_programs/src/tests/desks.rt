@@ -390,8 +390,8 @@ where
     );
 }
 
-/// The answers to node 2 and to the desk of node 1, over two lines of which the second has a lease of one turn. A transfer that waits for
-/// the first line has not used that turn.
+/// The answers to node 2 and to the desk of node 1, over two lines of which the second has a lease of one turn. A
+/// transfer that waits for the first line has not used that turn.
 fn waits_for_the_lower<L: OpenLine<AccountLaw> + Drop>(
     alloc: Global,
     from: u64,
