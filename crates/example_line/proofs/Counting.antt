@@ -63,7 +63,7 @@ module _ (allows : List ℕ → List ℕ → Type 0) (old mid : View) (quiet : m
         ∙ (ap (λ n. sum_of_own rise mid + n) (one_more (lane_of (bytes_of mid) 0) (lane_of write.bytes.bytes 0) one)
         ∙ ap (λ n. n + 1) (sums_kept old mid c.extends c.history quiet past (granted_beyond old mid c.extends c.history turn asks places granted) rise))
 
-  -- a port that asked, and is told that the line is closed
+  -- a port that made a request and is told that the line is closed
   module _ (told : IsTold mid) where
     pub told_places : KnowsOwnPlaces mid
     told_places = places_asked old mid c.extends c.history asks places

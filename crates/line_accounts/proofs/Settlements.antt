@@ -207,7 +207,7 @@ module _ {Line Port : Type 0} (belongs : Line → Port → Type 0) (view : Port 
     gone = λ i line le at. absurd (let lt = slice_get_within all_lines i line at in omega (arith, le, lt));
   }
 
-  -- one line more is settled, with the last port of each desk
+  -- one more line is settled, with the last port of each desk
   module _ (lines : List Line) (line : Line) (old new : List (DeskOf Port)) (ports : List Port) (left : IsLeft belongs view config_of (lines ++ line ∷ []) old) (t : TakesLast old new ports) (rest : IsRest (lines ++ line ∷ []) old) where
     taken_are : ArePortsOf all_desks (length lines) ports
     taken_are = record {

@@ -14,7 +14,7 @@ use Rattle.qolb_model.specs.Sums.{sum_of_all, KnowsOwnPlaces}
 use Rattle.qolb_model.proofs.Sums.{sums_of_ports}
 use Rattle.line_accounts.specs.Paid.{rise, fall, paid_by, drawn_by}
 
--- after some ends the total and all falls are the total before and all rises
+-- after some ends, the total and all falls are together the total before and all rises
 step : (before mid after falls rises : ℕ) → after + falls ≡ mid + rises → after + ((before - mid) + falls) ≡ before + ((mid - before) + rises)
 step before mid after falls rises h = omega (arith, h)
 
@@ -26,7 +26,8 @@ turns-balance bytes (Served write shut ∷ ends) =
 turns-balance bytes (Gone ∷ ends) = turns-balance bytes ends
 turns-balance bytes (Told ∷ ends) = turns-balance bytes ends
 
--- of a finished line: the bytes' total and all that was drawn are the opening's total and all that was paid in
+-- for a finished line, the total of the bytes and all that was drawn are together the total of the opening and all that
+-- was paid in
 pub finished_total : (good : List ℕ → Type 0) (allows : List ℕ → List ℕ → Type 0) (label : ℕ) (config : LineConfig) (views : List View) (bytes : List ℕ)
     → IsFinished good allows label config views bytes → ((i : ℕ) (v : View) → slice_get views i ≡ Some v → KnowsOwnPlaces v)
     → lanes_total bytes + sum_by drawn_by views ≡ lanes_total config.opening.bytes + sum_by paid_by views

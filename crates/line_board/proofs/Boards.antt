@@ -10,7 +10,7 @@ use Rattle.line_lanes.proofs.EachLane.{lanes_of-at}
 use Rattle.qolb_model.proofs.Lists.{same_some}
 use Rattle.line_board.specs.Board.{are_zeros, count_of, is_board, tasks_of, Stand}
 
--- all numbers are zero if each is, and each if all are
+-- all numbers are zero if each is, and each is if all are
 pub are_zeros-from : (xs : List ℕ) → ((j : ℕ) → j < length xs → get_or xs j 0 ≡ 0) → are_zeros xs ≡ true
 are_zeros-from [] each = refl
 are_zeros-from (x ∷ xs) each = rw (eq-eqb x 0 (each 0 (omega arith))) (are_zeros-from xs (λ j h. each (suc j) (omega (arith, h))))

@@ -68,7 +68,7 @@ or_before : (a b : Bool) → (a || b) ≡ false → a ≡ false
 or_before false b is = refl
 or_before true b is = is
 
--- therefore a slot that was behind the line is behind it once more
+-- a slot that was behind the line is therefore still behind it
 behind_goes : (lease : Option ℕ) (ends : List End) (e : End) (z : Payload) → IsBehind (turns_left lease ends) (is_closed ends) z → IsBehind (turns_left lease (ends ++ e ∷ [])) (is_closed (ends ++ e ∷ [])) z
 behind_goes lease ends e z b = record {
   turns = λ is. b.turns (none_before lease ends (ends ++ e ∷ []) is);

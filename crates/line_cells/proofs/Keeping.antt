@@ -77,7 +77,7 @@ module _ (cells : Cells) (slot_layout : SlotLayout) (good : List ℕ → Type 0)
       once : (k : ℕ) → 0 < k → k ≤ key.config.nodes → count_of k (drop (length r.history.ends) r.history.order) ≤ 1
       once k a b = count_once k (drop (length r.history.ends) r.history.order) (λ i j q t at at' mine mine'. let ok = r.each k a b in let l = place k ok i q at mine in let m = place k ok j t at' mine' in omega arith)
 
-  -- nor than the nodes of terms that are the line's
+  -- no more requests are open than a line with these terms has nodes
   pub few_open : (s : ArrayState) (r : Rule s) (config : LineConfig) → config ≡ key.config → length r.history.order ≤ length r.history.ends + config.nodes
   few_open s r config is = subst (λ (t : LineConfig). length r.history.order ≤ length r.history.ends + t.nodes) (sym is) (window s r)
 

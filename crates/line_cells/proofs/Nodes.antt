@@ -41,7 +41,7 @@ module _ {n : ℕ} {v : ArrayGhost} {ended : ℕ} {clear : List Request} {marks 
       none : (i p : ℕ) → At w.own.passed i p → ⊥
       none i p at = at_none i p (subst (λ (z : List ℕ). At z i p) (same ∙ none_passed) at)
 
--- and still knows, if another request gets clear
+-- the node still knows this when another request becomes clear
 pub knows_clear : (order : List Request) (ends : List End) (clear : List Request) (n : ℕ) (w : View) (q : Request) → ViewInv order ends clear n w → ViewInv order ends (clear ++ q ∷ []) n w
 knows_clear order ends clear n w q k = record {
   orders = k.orders;
@@ -53,7 +53,7 @@ knows_clear order ends clear n w q k = record {
 }
 
 module _ (key : TableKey) (x : History) (n : ℕ) (v : ArrayGhost) (ok : NodeInv key x n v) where
-  -- what it had freed is clear
+  -- the requests that the node had freed are clear
   pub freed_so : (r : Request) → Has v.view.freed r → Has x.clear r
   freed_so r h = has_prefix v.view.clear x.clear r ok.knows.clears (ok.knows.freed_clear r h)
 

@@ -41,7 +41,7 @@ passed_goes n p v w ended ended' clear clear' marks marks' releaser_of releaser_
 pub hand_none : (ends : List End) (holder : ℕ) (cleared : Bool) (n : ℕ) (w : ArrayGhost) → has_line w.own.point ≡ false → holder ≢ n → w.view.state ≢ port_state.Holding → HolderInv ends holder cleared n w
 hand_none ends holder cleared n w none other idle = record { holds = λ e. absurd (never e none); lacks = λ _. other; is_holder = λ e. absurd (idle e) }
 
--- it knows the whole history
+-- the node knows the whole history
 pub knows_whole : (order : List Request) (ends : List End) (clear : List Request) (n : ℕ) (w : View) → w.order ≡ order → w.ends ≡ ends → w.clear ≡ clear → count_of n order ≡ w.count → ((r : Request) → Has w.freed r → Has clear r) → ViewInv order ends clear n w
 knows_whole order ends clear n w a b c count freed = record {
   orders = subst (IsPrefix w.order) a (prefix_self w.order);
@@ -52,6 +52,6 @@ knows_whole order ends clear n w a b c count freed = record {
   freed_clear = λ r h. subst (λ rs. Has rs r) (sym c) (freed r h);
 }
 
--- its last request is in the order
+-- the node's last request is in the order
 pub placed_at : (key : TableKey) (x : History) (n : ℕ) (v : ArrayGhost) → NodeInv key x n v → 0 < v.view.count → At x.order v.own.place (own v.view)
 placed_at key x n v ok c = prefix_get v.view.order x.order v.own.place (own v.view) ok.knows.orders (ok.last_request.placed c)

@@ -12,7 +12,7 @@ use Rattle.line_cells.specs.Layout.{ticket_at, ticket_of}
 use Rattle.line_cells.specs.SlotLayout.{SlotLayout, Homes, IsBehind, IsSpare, one_slot}
 
 module _ (slot_layout : SlotLayout) where
-  -- all slots but those that are out are at home
+  -- all slots are at home, except those that are out
   abbrev pub AreSpare : ℕ → Payload → Homes → Type 0
   AreSpare ended y homes = (k : ℕ) → k < slot_layout.count → (slot_layout.is_out ended k → ⊥) → IsSpare y.turns_left y.closed homes k
 
@@ -27,7 +27,7 @@ module _ (slot_layout : SlotLayout) where
       → (act : Act Payload) × Valid homes slots act × (length (homes_after homes slots act) ≡ length homes) × (carried_after slots act ≡ [])
       × (get_elem? (homes_after homes slots act) (slot_layout.home_slot (ended + 1)) ≡ some (some y)) × ((k : ℕ) → k < slot_layout.count → IsSpare y.turns_left y.closed (homes_after homes slots act) k)
 
-  -- or it may keep the line for the next turn, as if it had been granted then
+  -- the node may keep the line for the next turn, as if it had been granted then
   abbrev pub MayKeep : Type 0
   MayKeep = (ended : ℕ) (homes : Homes) (slots : Slots) (y : Payload) → length homes ≡ slot_layout.count → slot_layout.slots_at_release ended y slots → AreSpare ended y homes
       → (act : Act Payload) × Valid homes slots act × (length (homes_after homes slots act) ≡ length homes) × slot_layout.slots_at_grant (ended + 1) y (carried_after slots act) × AreSpare (ended + 1) y (homes_after homes slots act)
@@ -36,7 +36,7 @@ module _ (slot_layout : SlotLayout) where
   abbrev pub LaysOne : Type 0
   LaysOne = (ended : ℕ) (y z : Payload) (slots : Slots) → slot_layout.slots_at_release ended y slots → slot_layout.slots_at_release ended z slots → y ≡ z
 
-  -- these slots may go home, and no other is moved
+  -- these slots may go home, and no other slot is moved
   abbrev pub MayReturnSlots : Option ℕ → Slots → Type 0
   MayReturnSlots left slots = (homes : Homes) → length homes ≡ slot_layout.count
       → (act : Act Payload) × Valid homes slots act × (length (homes_after homes slots act) ≡ length homes) × (carried_after slots act ≡ []) × ((k : ℕ) (closed : Bool) → IsSpare left closed homes k → IsSpare left closed (homes_after homes slots act) k)

@@ -61,7 +61,7 @@ at_turn key x n v ok l = go v.own.point refl
     go Freeing e = absurd (clash_at has_line Freeing l e refl)
     go Rolled e = absurd (clash_at has_line Rolled l e refl)
 
--- and it keeps its request
+-- the node keeps its request
 pub line_kept : (q : Point) → has_line q ≡ true → is_unfinished q ≡ true
 line_kept Idle e = absurd (cc e)
 line_kept Queued e = refl

@@ -63,7 +63,7 @@ module _ {O : Type 0} (q : PortPhases O) (label node : ℕ) (s : LineSeat O) (y 
     quiet = all_rest (λ (o : PortModel). may_ask o.view.state ≡ true) p rest quiets;
   }
 
-  -- the same, of a list of ports with this one at its head
+  -- the same for a list of ports with this one at its head
   pub gathers_head : (table_id : TableId) (ports rest : List PortModel) → ports ≡ p ∷ rest → All (λ (o : PortModel). o.table ≡ table_id) ports → All (λ (o : PortModel). may_ask o.view.state ≡ true) ports → HasJoinedSome q.in_state table_id ports rest s
   gathers_head table_id ports rest e tables quiets = subst (λ ps. HasJoinedSome q.in_state table_id ps rest s) (sym e)
       (gathers_first table_id rest (subst (All (λ (o : PortModel). o.table ≡ table_id)) e tables) (subst (All (λ (o : PortModel). may_ask o.view.state ≡ true)) e quiets))

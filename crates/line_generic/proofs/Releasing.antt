@@ -67,7 +67,7 @@ clear_goes v w place low ended more c = λ p r e next at end kept.
     let same_end : was.0 ≡ e = same_some (sym (prefix_get v.ends w.ends p was.0 more.ends was.1) ∙ end) in
     has_prefix v.clear w.clear r more.clear (c p r e next (made.1 ∙ ap Some same) (was.1 ∙ ap Some same_end) kept)
 
--- and its port was told
+-- the node's port was told that the line is closed
 pub told_by : {O : Type 0} {holds_open : ℕ → ℕ → O → Type 0} {holds_closed : ℕ → View → O → Payload → Type 0} {token : ℕ} (w t : NodeGhost O) (y : Payload) → IsAtTurn holds_open holds_closed token w y → y.closed ≡ true → Extends w.view t.view → EndsTurn w.view (own_end (is_closed w.view.ends) y) (state_after y.closed) t.view → IsTold t.view
 told_by w t y c closed more l =
     let is : is_closed w.view.ends ≡ true = sym c.closed ∙ closed in

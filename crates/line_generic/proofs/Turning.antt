@@ -23,14 +23,14 @@ put_on {O} {allows} {initial} {a} {b} {c} {n} same goes = record {
   steps = subst (λ es. (single initial c.0).steps ≡ (single initial es).steps + n) same goes.steps;
 }
 
--- and then by more
+-- the seat advances by some steps and then by more
 pub then : {O : Type 0} {allows : List ℕ → List ℕ → Type 0} {initial : O} {s t u : LineSeat O} {i j : ℕ} → SeatAdvances allows initial s t i → SeatAdvances allows initial t u j → SeatAdvances allows initial s u (i + j)
 then {allows = allows} {initial = initial} {s = s} {t = t} {u = u} {i = i} {j = j} a b = record {
   seat = (b.seat.0 ∙ a.seat.0, b.seat.1 ∙ a.seat.1);
   advances = goes_trans allows initial s.me t.me u.me i j a.advances b.advances;
 }
 
--- and then on to n steps in all
+-- the seat advances by some steps and then on to n steps in all
 pub then_to : {O : Type 0} {allows : List ℕ → List ℕ → Type 0} {initial : O} {s t u : LineSeat O} {i j : ℕ} → SeatAdvances allows initial s t i → i ≤ j → SeatAdvances allows initial t u (j - i) → SeatAdvances allows initial s u j
 then_to {allows = allows} {initial = initial} {s = s} {u = u} {i = i} {j = j} a more b = let e : i + (j - i) ≡ j = omega arith in subst (SeatAdvances allows initial s u) e (then a b)
 

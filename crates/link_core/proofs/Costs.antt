@@ -54,7 +54,7 @@ grows_freed v = record { granted = λ e. e; done = λ e. e; freed = λ e. refl }
 grows_linked : (v : Entry) (n : ℕ) → Grows v (linked v n)
 grows_linked v n = record { granted = λ e. e; done = λ e. e; freed = λ e. e }
 
--- therefore no more is to go by it
+-- no more events are therefore left after it
 linking_least : (a b : Bool) → (a ≡ true → b ≡ true) → cond b 4 5 ≤ cond a 4 5
 linking_least true b f = rw (f refl) (omega arith)
 linking_least false true f = omega arith
@@ -67,7 +67,7 @@ rolled_least false false true y f g = rw (g refl) (omega arith)
 rolled_least false false false true f g = omega arith
 rolled_least false false false false f g = omega arith
 
--- in the seat of an act, what is to go: at an arrival, at the end of a release, and at most one for a load
+-- the events that are left in the seat of an act: at an arrival, at the end of a release, and at most one for a load
 pub arrival_steps_left : (c : State) (w : Entry) (n : ℕ) (b : Bool) → steps_left_at c w (seat_at_arrival n b).point ≡ 3
 arrival_steps_left c w n true = refl
 arrival_steps_left c w n false = refl

@@ -72,7 +72,7 @@ module _ {config : LineConfig} {c : State} {q : Queue} (s : Matches config c q) 
       let i = (s.nodes p (omega arith)).0 in
       omega arith
 
-  -- and then at least three events are to go
+  -- at least three events are then left
   has_three : (n : ℕ) → IsNode c n → 3 ≤ steps_left c n → 3 ≤ all_steps_left c
   has_three n a l = let k = sum_has c.nodes n (steps_left c) a.0 a.1 in omega arith
 

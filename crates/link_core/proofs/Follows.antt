@@ -193,7 +193,7 @@ module _ {config : LineConfig} {c : State} {h : Queue} (s : Matches config c h) 
       let t = (s.fresh b.at b.waits b.own.known).granted (ap (λ (m : ℕ). (entry c m).granted) b.own.its ∙ g) in
       subst (λ (p : ℕ). IsLast h.order x p) t b.own
 
-  -- one that isn't granted waits behind
+  -- a node that is not granted waits behind the turn
   pub waits_behind : (x : ℕ) (a : IsNode c x) (e : point c x ≡ Queued) → (entry c x).granted ≡ false → (b : IsWaiting c h.order h.ends x) → length h.ends < b.at
   waits_behind x a e g b = elim (cases_lt (length h.ends) b.at) [
     | inl l ↦ l

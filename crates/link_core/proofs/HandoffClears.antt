@@ -30,7 +30,7 @@ use Rattle.link_core.proofs.Orders.{request_got}
 use Rattle.link_core.proofs.Others.{linked_box, granted_box, idle_home, spared}
 
 module _ {config : LineConfig} {c : State} {h : Queue} (w : IsWide c) (s : Matches config c h) where
-  -- it was clear, or its node has left the line for this one
+  -- the request was clear, or its node has left the line for this one
   clear_by : {d : State} {n : ℕ} {t : Answer} {m : Option Move} {b : Bool} (on : Advances config d h n t m b) → IsPrefix h.order on.after.order → on.after.ends ≡ h.ends → ((x : ℕ) → c.place ≢ Hand x)
       → ((x : ℕ) → HasLeft c x → c.place ≡ Mailbox x → (p : ℕ) → p + 1 ≡ length h.ends → Has on.after.clear (request h.order p)) → IsClearBefore on.after
   clear_by on order ends nowhere left p r e at is was ng =

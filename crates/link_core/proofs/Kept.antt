@@ -186,7 +186,7 @@ module _ {c d : State} {o o2 : List Request} {es : List End} (k : Leaves c d o o
       let stays : (point d q ≡ Left) ⊎ (point d q ≡ Rolled) = elim h [ inl v ↦ inl (y.0 ∙ v) | inr v ↦ inr (y.0 ∙ v) ] in
       left t q (k.turn a).0 ((k.turn a).1 ∙ b) (k.place ∙ e) (y.2 ∙ f) (y.1 ∙ g) stays (k.linking t q a b i) (whole_kept config j)
 
-  -- and what was left behind it leaves there
+  -- a line that was left in an entry is still left there
   left_kept : (x : ℕ) → HasLeft c x → HasLeft d x
   left_kept x l = let y = k.tail x (inl l.point) l.unlinked l.done in record { point = y.0 ∙ l.point; done = y.2 ∙ l.done; unlinked = y.1 ∙ l.unlinked }
 
@@ -196,11 +196,11 @@ module _ {c d : State} {o o2 : List Request} {es : List End} (k : Leaves c d o o
     | inr y ↦ inr (left_kept r.node y)
   ]
 
--- with the line in a hand nothing is said of the last end
+-- while the line is in a hand, nothing is claimed of the last end
 pub rests_held : (d : State) (n : ℕ) (o : List Request) (es : List End) (clear : List Request) → d.place ≡ Hand n → Rests d o es clear
 rests_held d n o es clear a none = absurd (none n a)
 
--- of the entries only k's is changed, to w, and the line may move
+-- among the entries only k's changes, to w, and the line may move
 pub settled_by : {c d : State} {n : ℕ} {s : NodeCall} {k : ℕ} {w : Entry} (ch : Changed c d n s k w) (o o2 : List Request) (es fs : List End) (old new : List Request) → IsNode c k → IsSettled c o es old
     → ((x : ℕ) → x ≢ k → c.place ≡ Mailbox x → d.place ≡ Mailbox x) → (w.done ≡ true → w.link ≡ 0 → d.place ≡ Mailbox k) → ((entry c k).link ≤ c.nodes → w.link ≤ c.nodes)
     → Rests d o2 fs new → IsSettled d o2 fs new

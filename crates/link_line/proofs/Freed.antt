@@ -70,7 +70,7 @@ frees_which v w nodes i node f many are is =
 short_stays : (v w : View) → w.order ≡ v.order → w.ends ≡ v.ends → w.joined ≡ v.joined → SuccessorUnlinked v → SuccessorUnlinked w
 short_stays v w orders ends joined s = (s.0, (λ i. turn_of (orders i) (ends i)) ∙ s.1, subst (λ rs. Lacks rs s.0) (sym joined) s.2)
 
--- and one more is freed
+-- one more node is freed
 pub frees_next : (v w x : LinkGhost) (nodes : List ℕ) (i node : ℕ) → FreesFirst v i w → length nodes ≡ length v.own.passed → AreNodesAt v.view v.own.passed nodes → At nodes i node → Extends w.view x.view
     → ((p : ℕ) (ps : List ℕ) (r : Request) → w.own.passed ≡ p ∷ ps → At w.view.order p r → Frees w p ps r x) → FreesFirst v (i + 1) x
 frees_next v w x nodes i node f many are is more frees =

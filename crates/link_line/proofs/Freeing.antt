@@ -177,7 +177,7 @@ module _ (good : List ℕ → Type 0) (allows : List ℕ → List ℕ → Type 0
     not_own : x ≢ n
     not_own e = let z : Rolled ≡ Freeing = sym rolled ∙ ap (point r.history.core) e ∙ at_core in cc
 
-    -- it was not freed before
+    -- the node was not freed before
     fresh : Has r.history.early a ⊎ Has r.history.late a → ⊥
     fresh h = elim (r.history_inv.freed a h) [
       | inl clear ↦ never clear (ap (has r.history.queue.clear) (sym (request_got r.history.queue.order p a known)) ∙ r.history_inv.shown.matches.clears x p passed_node last ∙ ap (λ (z : Point). is_clear z (entry r.history.core x)) rolled ∙ rolled_unfreed (entry r.history.core x) unfreed)
@@ -279,7 +279,7 @@ module _ (good : List ℕ → Type 0) (allows : List ℕ → List ℕ → Type 0
         (subst (λ (zs : List ℕ). At zs (suc i) z) (sym seat_passed) (subst (λ (zs : List ℕ). At zs i z) (ap (λ (y : NodeCall). y.passed) own_seat ∙ close_passed rest (point_at_end reason) reason) b))
         (at_rest i u c) (sym (fields z).0 ∙ dn) (sym (fields z).1 ∙ un)
 
-    -- with the freed request in these sets
+    -- the freed request is in these sets
     module _ (early late : List Request) (grows : SetsGrow r.history (record { core = d; queue = q; joined = r.history.joined; early = early; late = late }) n) (in_sets : Has early a ⊎ Has late a) (was_late : (z : Request) → Has late z → Has r.history.late z ⊎ Has q.clear z) (cleared : HistoryInv allows key (record { core = d; queue = q; joined = r.history.joined; early = early; late = late }) → Has q.clear a ⊎ ((p + 1 ≡ length v.view.ends) × SuccessorUnlinked w.view)) where
       abbrev y : History
       y = next allows key r.may_open.nodes.few r.history r.history_inv k r.history.joined early late
@@ -394,7 +394,7 @@ module _ (good : List ℕ → Type 0) (allows : List ℕ → List ℕ → Type 0
         (λ z h. elim (has_push r.history.late a z h) [ inl old ↦ inl old | inr new ↦ inr (subst (Has q.clear) (sym new) clear) ])
         (λ _. inl clear)
 
-    -- or once the next request is linked
+    -- the request becomes clear once the next request is linked
     frees_first : Lacks q.clear a → (w' : List LinkGhost) × (act : Act Payload) × Valid s.homes carried act × Rule good allows key (stepped s (entry_at x) word me carried w' act) × freed allows (step slots (entry_at x) FREED 0 none) (v ∷ [], carried) (slice_index s.words (entry_at x)) (w', carried_after carried act)
     frees_first un = freed_goal (r.history.early ++ a ∷ []) r.history.late
         (record {

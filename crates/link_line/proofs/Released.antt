@@ -36,7 +36,7 @@ module _ (v : LinkGhost) (y : Payload) (none : v.own.passed ≡ []) where
   pub one_more : (w : LinkGhost) → Ended v w y → length w.view.ends ≡ length v.view.ends + 1
   one_more w e = omega (arith, ap length (ends_now w e), length-append v.view.ends (own_end (is_closed v.view.ends) y ∷ []))
 
-  -- it is over if the line goes home or to the next request
+  -- the release is over if the line goes home or to the next request
   pub lets_out : (w : LinkGhost) → Ended v w y → IsHandedOver v w y → ReleasesLine v y (state_after y.closed) w
   lets_out w e o = record {
     point = o.point ∙ ap (after_release (state_after y.closed)) none;
@@ -57,7 +57,7 @@ module _ (v : LinkGhost) (y : Payload) (none : v.own.passed ≡ []) where
     };
   }
 
-  -- and if the line is left for a late linker
+  -- the release is over if the line is left for a late linker
   pub lets_left : (w : LinkGhost) → Ended v w y → IsLeftForLinker v w y → ReleasesLine v y port_state.Left w
   lets_left w e l = let state : w.view.state ≡ port_state.Left = l.state ∙ ap (λ ps. left_in ps y.closed) none in record {
     point = l.point ∙ (λ i. after_release (left_in (none i) y.closed) (none i));
@@ -78,7 +78,7 @@ module _ (v : LinkGhost) (y : Payload) (none : v.own.passed ≡ []) where
     };
   }
 
-  -- and if it walked on over withdrawn requests
+  -- the release is over if it walked on over withdrawn requests
   pub lets_on : (u t : LinkGhost) (next : ℕ) → Ended v u y → Passes (with_line v y) u next → Extends u.view t.view → FinishesWalk u t → ReleasesLine v y (state_after y.closed) t
   lets_on u t next e p more w = let mine = prefix_get u.view.order t.view.order (length v.view.ends) (own u.view) more.order (e.own_turn none) ∙ ap Some (sym (same_own u.view t.view more w.count)) in record {
     point = w.point ∙ ap point_by p.state;
@@ -117,7 +117,7 @@ module _ (allows : List ℕ → List ℕ → Type 0) (v : LinkGhost) (y : Payloa
       allowed = subst (allows (bytes_of v.view)) bytes (subst (λ (e : End). AreAllowed allows (bytes_of v.view) (e ∷ [])) what c.allowed).0;
     }
 
-  -- and a closed one
+  -- a holder may release a closed line
   pub may_let_go : MayHandOff allows v y v.view.node × (v.own.passed ≡ [])
   may_let_go = elim (cases_Bool (is_closed v.view.ends)) [
     | inl closed ↦ let r = has.refuses closed in (inr (r.0, sym r.1), r.2)

@@ -33,12 +33,12 @@ abbrev pub AreLast : List Request → List Request → Type 0
 AreLast order [] = Unit {0}
 AreLast order (x ∷ xs) = (x ≡ last_of x.node order) × AreLast order xs
 
--- they are where each one at a place is
+-- requests are their nodes' last ones if each request at a place is
 are_last : (order xs : List Request) → ((p : ℕ) (r : Request) → slice_get xs p ≡ Some r → r ≡ last_of r.node order) → AreLast order xs
 are_last order [] h = tt
 are_last order (x ∷ xs) h = (h 0 x refl, are_last order xs (λ p r e. h (suc p) r e))
 
--- then its node tells it
+-- a node's last request is found by its node alone
 is_at-last : (order : List Request) (node : ℕ) (r : Request) → r ≡ last_of r.node order → (r.node == node) ≡ is_same (last_of node order) r
 is_at-last order node r last = elim (cases_eq r.node node) [
   | inl e ↦ eq-eqb r.node node e ∙ sym (subst (λ x. is_same (last_of node order) x ≡ true) (sym (last ∙ ap (λ n. last_of n order) e)) (is_same-self (last_of node order)))
@@ -94,7 +94,7 @@ asking_parts true false true c e stands = absurd (let no : false ≡ true = e in
 asking_parts true false false c e stands = absurd (let no : false ≡ true = e in cc no)
 asking_parts false m h c e stands = absurd (let no : false ≡ true = stands in cc no)
 
--- two tests that both pass, and two of which one fails
+-- two tests that both pass, and two tests of which one fails
 both_true : (a b : Bool) → (a && b) ≡ true → (a ≡ true) × (b ≡ true)
 both_true true b h = (refl, h)
 both_true false b h = absurd (let no : false ≡ true = h in cc no)
@@ -163,6 +163,6 @@ module _ (line : PlainView) (s : OwnerState) (a : Agrees line s) where
   pub when_rolled : (node : ℕ) → may_ask (node_state line node) ≡ true → is_open s.queue node ≡ true → has s.queue.marked (last_of node s.queue.order) ≡ true
   when_rolled node e stands = asking_parts (is_open s.queue node) (has s.queue.marked (last_of node s.queue.order)) (s.granted && is_first s.queue node) (is_closed s.queue.ends) (sym (ap may_ask (node_state-state_of node)) ∙ e) stands
 
-  -- all that has ended is clear
+  -- all requests that have ended are clear
   pub is_tidy : IsTidy s.config.lease s.queue
   is_tidy = record { legal = a.reached.legal; ended = length s.queue.ends; within = omega arith; cleared = a.reached.cleared }

@@ -80,7 +80,7 @@ pub record Bounds (s : OwnerState) (a : View) (m : ℕ) : Type 0 where
       → (length a.ends ≤ length s.queue.ends) × ((x : Request) → Has a.clear x → Has (ended_of s.queue.order s.queue.ends) x)
   pub marks : (r : Request) → Has (open_of s.queue.order s.queue.ends) r → r.node ≡ m → Has a.marked r → Has s.queue.marked r
 
--- the view b is a, but for what others told it of clear and withdrawn requests
+-- the view b is the view a, except for what others told it of clear and withdrawn requests
 pub record IsAfter (a b : View) : Type 0 where
   pub order : b.order ≡ a.order
   pub ends : b.ends ≡ a.ends

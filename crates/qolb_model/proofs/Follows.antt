@@ -30,7 +30,7 @@ use Rattle.qolb_model.proofs.Prefixes.{prefix_length, prefix_whole}
 use Rattle.qolb_model.proofs.Agreed.{state_from, asking_parts}
 use Rattle.qolb_model.proofs.Bounds.{Bounds, count_at, open_at, place_open}
 
--- one more mark is none on a request of another node
+-- one more mark does not mark a request of another node
 pub has_push_other : (xs : List Request) (x r : Request) → r.node ≢ x.node → has (xs ++ x ∷ []) r ≡ has xs r
 has_push_other xs x r ne =
     list_any-append (is_same r) xs (x ∷ []) ∙ (ap (λ b. has xs r || ((b && (r.number == x.number)) || false)) (ne_eqb r.node x.node ne) ∙ or-false (has xs r))
@@ -92,7 +92,7 @@ module _ (s : OwnerState) (n : ℕ) (a : View) (reached : IsReached s) (f : Foll
   pub last_mine : (p : ℕ) (r : Request) → length s.queue.ends ≤ p → slice_get s.queue.order p ≡ Some r → r.node ≡ n → r ≡ last_of n s.queue.order
   last_mine p r le at e = reached.last_open p r le at ∙ ap (λ m. last_of m s.queue.order) e
 
-  -- of another node's request at its turn nothing has become
+  -- nothing has become of another node's request at its turn
   pub still : (r : Request) → turn_of s.queue.order s.queue.ends ≡ Some r → r.node ≢ n → a.ends ≡ s.queue.ends
   still r turn ne =
       let k = reached.nodes_known (length s.queue.ends) r turn in
@@ -108,7 +108,7 @@ module _ (s : OwnerState) (n : ℕ) (a : View) (reached : IsReached s) (f : Foll
       let k = reached.nodes_known p r at in
       same_test (has a.marked r) (has s.queue.marked r) ((f.others r.node k.0 k.1 ne).marks r stands refl) (f.marked r stands)
 
-  -- therefore of all, if that of the port's own is right
+  -- all marks are right if the mark of the port's own request is
   all_marks : (has a.marked (last_of n s.queue.order) ≡ has s.queue.marked (last_of n s.queue.order)) → (r : Request) → Has (open_of s.queue.order s.queue.ends) r → has a.marked r ≡ has s.queue.marked r
   all_marks own_mark r stands = elim (cases_eq r.node n) [
     | inl e ↦ (let (p, le, at) = place_open s.queue.order s.queue.ends r stands in subst (λ x. has a.marked x ≡ has s.queue.marked x) (sym (last_mine p r le at e)) own_mark)

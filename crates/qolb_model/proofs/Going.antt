@@ -53,7 +53,7 @@ continues_sound good allows label config v s = record {
   own_history = s.own_history;
 }
 
--- the same request, seen later
+-- the same request, as a later view sees it
 pub same_own : (v w : View) → Extends v w → w.count ≡ v.count → own w ≡ own v
 same_own v w e c = same_request w.node v.node w.count v.count e.node c
 

@@ -25,7 +25,7 @@ bytes_after-append bytes (Told ∷ xs) ys = bytes_after-append bytes xs ys
 abbrev pub gone_each : List Request → List End
 gone_each xs = map (λ _. Gone) xs
 
--- and they change no byte
+-- passed requests change no byte
 pub bytes_after-gone : (bytes : List ℕ) (xs : List Request) → bytes_after bytes (gone_each xs) ≡ bytes
 bytes_after-gone bytes [] = refl
 bytes_after-gone bytes (x ∷ xs) = bytes_after-gone bytes xs
@@ -41,7 +41,7 @@ is_closed-append (Served write shut ∷ xs) ys = ap (λ b. shut || b) (is_closed
 is_closed-append (Gone ∷ xs) ys = is_closed-append xs ys
 is_closed-append (Told ∷ xs) ys = is_closed-append xs ys
 
--- and they do not close the line
+-- passed requests do not close the line
 pub is_closed-gone : (xs : List Request) → is_closed (gone_each xs) ≡ false
 is_closed-gone [] = refl
 is_closed-gone (x ∷ xs) = is_closed-gone xs
@@ -96,6 +96,6 @@ legal_moved config q (ask node) can legal = legal_ask config.lease q.order q.end
 legal_moved config q (mark r) can legal = legal
 legal_moved config q (finish e) can legal = legal_end config.lease q.order q.ends e legal (slice_get_within q.order (length q.ends) can.0 can.1) (may_end config.lease q can.0 e can.2)
 
--- in a legal history no request occurs twice: two places that have it are one
+-- in a legal history no request occurs twice: two places that have the same request are the same place
 pub same_place_legal : (lease : Option ℕ) (order : List Request) (ends : List End) → IsLegal lease order ends → (p q : ℕ) (r : Request) → slice_get order p ≡ Some r → slice_get order q ≡ Some r → p ≡ q
 same_place_legal lease order ends legal = same_place order legal.numbered

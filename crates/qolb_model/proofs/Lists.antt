@@ -59,7 +59,7 @@ slice_get-drop zero xs p = let e : p ≡ zero + p = omega arith in ap (slice_get
 slice_get-drop (suc n) [] p = refl
 slice_get-drop (suc n) (x ∷ xs) p = let e : suc (n + p) ≡ suc n + p = omega arith in slice_get-drop n xs p ∙ ap (slice_get (x ∷ xs)) e
 
--- one more element, at the place where a list is split
+-- one more element at the place where a list is split
 pub take_with : {X : Type 0} (xs : List X) (p : ℕ) (x : X) → slice_get xs p ≡ Some x → take (suc p) xs ≡ take p xs ++ x ∷ []
 take_with [] p x e = absurd (let h : None ≡ Some x = e in cc h)
 take_with (y ∷ xs) zero x e = ap (λ z. z ∷ []) (same_some e)
@@ -80,7 +80,7 @@ place_of {X} test (x ∷ xs) h = by (place_of test xs) (test x) refl h
     by later true e h = (0, x, refl, e)
     by later false e h = let more = later h in (suc more.0, more.1, more.2, more.3)
 
--- and back
+-- the converse: a test that passes at a place of the list passes for the list
 pub passes_at : {X : Type 0} (test : X → Bool) (xs : List X) (p : ℕ) (x : X) → slice_get xs p ≡ Some x → test x ≡ true → list_any test xs ≡ true
 passes_at test [] p x e t = absurd (let h : None ≡ Some x = e in cc h)
 passes_at test (y ∷ xs) zero x e t = ap (λ b. b || list_any test xs) (ap test (same_some e) ∙ t)
@@ -90,11 +90,11 @@ passes_at test (y ∷ xs) (suc p) x e t = or_right (test y) (list_any test xs) (
 pub at_same : {X : Type 0} (xs : List X) (p : ℕ) (x y : X) → slice_get xs p ≡ Some x → slice_get xs p ≡ Some y → x ≡ y
 at_same xs p x y a b = same_some (sym a ∙ b)
 
--- it is at the same place in a longer list
+-- an element is at the same place in a longer list
 pub at_longer : {X : Type 0} (xs ys : List X) (p : ℕ) (x : X) → slice_get xs p ≡ Some x → slice_get (xs ++ ys) p ≡ Some x
 at_longer xs ys p x e = slice_get-append_left xs ys p (slice_get_within xs p x e) ∙ e
 
--- of two lists, one after the other, it is read in the first or in the second
+-- an element of two lists, one after the other, is in the first or in the second
 pub at_either : {X : Type 0} (xs ys : List X) (i : ℕ) (x : X) → slice_get (xs ++ ys) i ≡ Some x → (slice_get xs i ≡ Some x) ⊎ ((j : ℕ) × (i ≡ length xs + j) × (slice_get ys j ≡ Some x))
 at_either [] ys i x e = inr (i, omega arith, e)
 at_either (y ∷ xs) ys zero x e = inl e

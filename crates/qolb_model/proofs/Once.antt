@@ -7,7 +7,7 @@ use Rattle.qolb_model.specs.Requests.{AreOfDifferentNodes, AreOfOthers}
 use Rattle.qolb_model.proofs.Lists.{same_some, element_at}
 use Rattle.qolb_model.proofs.Prefixes.{prefix_get}
 
--- one place alone
+-- a range of one place
 pub once_alone : (order : List Request) (first last : ℕ) → last ≤ first + 1 → AreOfDifferentNodes order first last
 once_alone order first last short = λ p q r s low lt high. absurd (omega (arith, short, low, lt, high))
 

@@ -138,13 +138,13 @@ same_place order numbered p q r at_p at_q = elim (cases_order p q) [
     apart : (i j : ℕ) → i < j → slice_get order i ≡ Some r → slice_get order j ≡ Some r → ⊥
     apart i j lt at_i at_j = never (has_at (take j order) i r (slice_get-take j order i lt ∙ at_i)) (lacks_before order numbered j r at_j)
 
--- the same of a whole order
+-- the same for a whole order
 pub number_le_count_all : (order : List Request) → IsNumbered order → (r : Request) → Has order r → r.number ≤ count_of r.node order
 number_le_count_all order numbered r h =
     let whole = take_all (length order) order (omega arith) in
     subst (λ xs. r.number ≤ count_of r.node xs) whole (number_le_count order numbered (length order) (omega arith) r (subst (λ xs. Has xs r) (sym whole) h))
 
--- and a node that has made requests has made its last one
+-- a node that has made requests has made its last one
 pub has_last_of_all : (order : List Request) → IsNumbered order → (n : ℕ) → 1 ≤ count_of n order → Has order (last_of n order)
 has_last_of_all order numbered n one =
     let whole = take_all (length order) order (omega arith) in

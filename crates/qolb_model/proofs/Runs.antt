@@ -50,7 +50,7 @@ pub record IsTidy (lease : Option ℕ) (q : Queue) : Type 0 where
   pub within : ended ≤ length q.ends
   pub cleared : q.clear ≡ take ended q.order
 
--- then all that has ended may be cleared
+-- then all requests that have ended may be cleared
 pub clears_all : (lease : Option ℕ) (q : Queue) → IsTidy lease q → HasCleared q (record q { clear = ended_of q.order q.ends })
 clears_all lease q tidy =
     let e : tidy.ended + (length q.ends - tidy.ended) ≡ length q.ends = omega (arith, tidy.within) in (
@@ -83,7 +83,7 @@ passed-unpassed marked (x ∷ xs) = by (has marked x) (passed-unpassed marked xs
     by true e = ap (λ ys. x ∷ ys) e
     by false e = refl
 
--- each of these is marked
+-- each of these requests is marked
 abbrev pub AreMarked : List Request → List Request → Type 0
 AreMarked marked [] = Unit {0}
 AreMarked marked (x ∷ xs) = Has marked x × AreMarked marked xs
@@ -135,7 +135,7 @@ turn_from q x xs e =
     let at : length q.ends + 0 ≡ length q.ends = omega arith in
     ap (slice_get q.order) (sym at) ∙ (sym (slice_get-drop (length q.ends) q.order 0) ∙ ap (λ ys. slice_get ys 0) e)
 
--- and when it has ended the others are open
+-- once a request has ended, the others are open
 pub rest_from : (q : Queue) (x : Request) (xs : List Request) (end : End) → drop (length q.ends) q.order ≡ x ∷ xs → drop (length (q.ends ++ end ∷ [])) q.order ≡ xs
 rest_from q x xs end e =
     let long : length (q.ends ++ end ∷ []) ≡ length q.ends + 1 = length-append q.ends (end ∷ []) ∙ omega arith in

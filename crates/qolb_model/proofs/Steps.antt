@@ -96,11 +96,11 @@ module _ (line : PlainView) (s : OwnerState) (node : ℕ) (a : Agrees line s) (l
   abbrev pub order_then : List Request
   order_then = s.queue.order ++ next_of node s.queue.order ∷ []
 
-  -- its request is not marked
+  -- the node's request is not marked
   unmarked : Lacks s.queue.marked (next_of node s.queue.order)
   unmarked = lacks_from s.queue.marked (next_of node s.queue.order) (λ h. omega (arith, a.reached.marks_known (next_of node s.queue.order) h))
 
-  -- and is the last of those that are open
+  -- the request is the last of those that are open
   open_then : open_of order_then s.queue.ends ≡ open_of s.queue.order s.queue.ends ++ next_of node s.queue.order ∷ []
   open_then = drop-append-le (length s.queue.ends) s.queue.order (next_of node s.queue.order ∷ []) a.reached.legal.ended
 
@@ -113,7 +113,7 @@ module _ (line : PlainView) (s : OwnerState) (node : ℕ) (a : Agrees line s) (l
       let is : r ≡ last_of node s.queue.order = a.reached.last_open p r from e ∙ ap (λ n. last_of n s.queue.order) same in
       never (subst (λ x. Has (open_of s.queue.order s.queue.ends) x) is (has_at (open_of s.queue.order s.queue.ends) (p - length s.queue.ends) r there)) quiet
 
-  -- it may ask, since its last request is clear
+  -- the node may make a request, because its last one is clear
   pub can_ask : CanMove s.config s.queue (ask node)
   can_ask = (low, high, λ one. rw a.reached.cleared (past one))
     where
@@ -165,7 +165,7 @@ module _ (line : PlainView) (s : OwnerState) (node : ℕ) (a : Agrees line s) (l
     turn = a.reached.turn;
   }
 
-  -- and the line agrees
+  -- the line agrees with that state
   pub agrees_ask : Agrees (with_waiter line node) (after_ask s node)
   agrees_ask = record {
     nodes = a.nodes;
@@ -285,7 +285,7 @@ module _ (line : PlainView) (s : OwnerState) (r : Request) (e : End) (a : Agrees
     turn = merged-self (bytes_after s.config.opening.bytes ends_then) 0 (length-bytes_after s.config.opening.bytes ends_then a.reached.line);
   }
 
-  -- and the line agrees
+  -- the line agrees with that state
   pub agrees_end :
       (closed : Bool) (left : Option ℕ) → closed ≡ is_closed (s.queue.ends ++ e ∷ []) → left ≡ turns_left s.config.lease (s.queue.ends ++ e ∷ []) → bytes_after s.config.opening.bytes (s.queue.ends ++ e ∷ []) ≡ s.turn.bytes.bytes
       → Agrees (turn_ended (record line { closed = closed; left = left })) (after_end (after_moves (ends_with e s.queue) s))
@@ -309,7 +309,7 @@ Answered first closed poll.Granted = (first ≡ true) × (closed ≡ false)
 Answered first closed poll.Waiting = first ≡ false
 Answered first closed poll.Closed = (first ≡ true) × (closed ≡ true)
 
--- and says so rightly
+-- what the answer says is true
 answered : (first closed : Bool) → Answered first closed (if first then (if closed then poll.Closed else poll.Granted) else poll.Waiting)
 answered true true = (refl, refl)
 answered true false = (refl, refl)
@@ -382,14 +382,14 @@ releases line s node shut a holds first =
 
 -- a node that waits behind another withdraws
 module _ (line : PlainView) (s : OwnerState) (node : ℕ) (a : Agrees line s) (stands : is_open s.queue node ≡ true) (unmarked : has s.queue.marked (last_of node s.queue.order) ≡ false) (behind_one : is_first s.queue node ≡ false) where
-  -- its last request, and the marks with it
+  -- the node's last request, and the marks with it
   abbrev pub last : Request
   last = last_of node s.queue.order
 
   abbrev pub marked_then : List Request
   marked_then = s.queue.marked ++ last ∷ []
 
-  -- it may be marked, since it waits behind the one at its turn
+  -- the request may be marked, because it waits behind the one at its turn
   can_mark : CanMove s.config s.queue (mark last)
   can_mark =
       let (p, there) = place_of_request (open_of s.queue.order s.queue.ends) last stands in
@@ -429,12 +429,12 @@ module _ (line : PlainView) (s : OwnerState) (node : ℕ) (a : Agrees line s) (s
           ap (λ b. if b then record (waiter_of s.queue.marked x) { withdrawn = true } else waiter_of s.queue.marked x) (ne_eqb x.node node ne)
           ∙ ap (λ b. let w : Waiter = record { node = x.node; withdrawn = b } in w) (sym kept)
 
-  -- therefore all entries do
+  -- all entries therefore change as the marks do
   entries_then : (xs : List Request) → AreLast s.queue.order xs → map (withdrawn_at node) (map (waiter_of s.queue.marked) xs) ≡ map (waiter_of marked_then) xs
   entries_then [] h = refl
   entries_then (x ∷ xs) h = ap₂ (λ w ws. w ∷ ws) (entry_then x h.0) (entries_then xs h.1)
 
-  -- and the line agrees
+  -- the line agrees with that state
   pub agrees_mark : Agrees (record line { waiting = map (withdrawn_at node) line.waiting }) (after_moves (mark_last s node) s)
   agrees_mark = record {
     nodes = a.nodes;

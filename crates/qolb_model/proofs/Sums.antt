@@ -172,7 +172,7 @@ none_of_node n (x ∷ xs) none p r at same = by (none_of_node n xs) p at (sym (s
     by rest zero at sum = let one : (cond (x.node == n) 1 0) ≡ (suc 0) = ap (λ (b : Bool). cond {A = ℕ} b 1 0) (eq-eqb x.node n (ap (λ (y : Request). y.node) (same_some at) ∙ same)) in omega (arith, one, sum)
     by rest (suc p) at sum = rest (omega (arith, sum)) p r at same
 
--- a beginning that has all requests of a node has each of its places
+-- a prefix that has all requests of a node has each of their places
 pub own_place : (n : ℕ) (known order : List Request) → IsPrefix known order → count_of n known ≡ count_of n order → (p : ℕ) (r : Request) → slice_get order p ≡ Some r → r.node ≡ n → p < length known
 own_place n known order (more, is) count p r at same = elim (cases_lt p (length known)) [
   | inl lt ↦ lt

@@ -43,7 +43,7 @@ allowed-append allows bytes (Served write shut ∷ xs) ys h k = (h.0, allowed-ap
 allowed-append allows bytes (Gone ∷ xs) ys h k = allowed-append allows bytes xs ys h k
 allowed-append allows bytes (Told ∷ xs) ys h k = allowed-append allows bytes xs ys h k
 
--- and a beginning of ends that keep it keeps it
+-- a prefix of ends that keep the data invariant keeps it
 pub allowed-begins : (allows : List ℕ → List ℕ → Type 0) (bytes : List ℕ) (xs ys : List End) → AreAllowed allows bytes (xs ++ ys) → AreAllowed allows bytes xs
 allowed-begins allows bytes [] ys h = tt
 allowed-begins allows bytes (Served write shut ∷ xs) ys h = (h.0, allowed-begins allows (written bytes write) xs ys h.1)

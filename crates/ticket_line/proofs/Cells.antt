@@ -36,7 +36,7 @@ takes_by nodes waits place n change own slots_in_turn cleared marks says low fre
 pub takes : (nodes : ℕ) (place n : ℕ) (change : ℕ → ℕ) → ((word : ℕ) → word ≡ granted_word place → change word / NUMBER_UNIT ≡ number place) → Takes (cells_for nodes) (TicketCells nodes) is_other place n change
 takes nodes place n change = takes_by nodes is_other place n change (λ other. other (sym (granted_ticket place)))
 
--- as by a poll, and by a withdrawal after the grant
+-- the word as a poll finds it, or a withdrawal after the grant
 pub looked : (place word : ℕ) → word ≡ granted_word place → word / NUMBER_UNIT ≡ number place
 looked place word e = number_of_granted place word e
 
@@ -48,7 +48,7 @@ later_at : (nodes : ℕ) (ended holder place : ℕ) (cleared : Bool) (marks says
 later_at nodes ended holder place cleared marks says below near c = let k : ended + (place - ended) ≡ place = omega arith in
     subst (λ q. IsLater nodes q (marks q) (says (cell_of nodes q))) k (c.later (place - ended) (omega arith) (omega arith))
 
--- therefore neither it nor its lower half shows a grant
+-- neither the word nor its lower half therefore shows a grant
 pub stays_half : (nodes : ℕ) (place : ℕ) → StaysBehind (cells_for nodes) (TicketCells nodes) is_granted_half place
 stays_half nodes place ended holder cleared marks says below near free c e = not_granted_half nodes place (marks place) (says (cell_of nodes place)) (later_at nodes ended holder place cleared marks says below near c) free (e ∙ ap (λ k. k % 2 ^ 32) (granted_ticket place))
 

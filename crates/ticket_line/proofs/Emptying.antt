@@ -23,7 +23,7 @@ emptied_here (b ∷ bs) (suc i) = emptied_here bs i
 emptied_else : (filled : List Bool) (i k : ℕ) → k ≢ i → slice_index_or (set filled i false) k false ≡ slice_index_or filled k false
 emptied_else filled i k ne = get_or-set_other filled i k false false (λ e. ne (omega arith))
 
--- one more
+-- one more slot
 pub empties : (count place at : ℕ) (old items : List Payload) (filled : List Bool) (long : ℕ) (line : Payload) → AreEmptied count place at old items filled long line
     → (items' : List Payload) (filled' : List Bool) (long' : ℕ) (payload line' : Payload) → get_elem? items at ≡ some payload → items' ≡ items → filled' ≡ set filled at false → long' ≡ long
     → (at ≡ place → line' ≡ payload) → (at ≢ place → line' ≡ line) → AreEmptied count place (at + 1) old items' filled' long' line'

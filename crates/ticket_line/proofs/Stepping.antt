@@ -34,7 +34,7 @@ module _ (good : List ℕ → Type 0) (allows : List ℕ → List ℕ → Type 0
         (loads_next (TicketCells key.config.nodes) (slot_layout key.config.nodes) good allows key v queued ticket_of is_other is_granted (take key.config.nodes)
         (takes key.config.nodes v.own.place v.view.node (λ n. n) (looked v.own.place)) (stays key.config.nodes v.own.place) me slots i m is own_word)
 
-    -- or puts the own number there
+    -- a node puts its own number there
     pub ticket_rolls : (new : ℕ) → v.view.node ≤ MAX_NODES → new ≡ withdrawn_word (ticket_of v.own.place) v.view.node → Allows (TicketRule good allows key) slots me m i (λ _. new) (rolled allows (step slots i 0 0 none) m)
     ticket_rolls new high says = subst (λ (n : ℕ). Allows (TicketRule good allows key) slots me m i (λ _. new) (array.rolled allows ticket_of (slot_layout n) is_other is_granted (step slots i 0 0 none) m)) (sym sized)
         (rolls_next (TicketCells key.config.nodes) (slot_layout key.config.nodes) good allows key v queued ticket_of is_other is_granted (λ _. new) (take key.config.nodes)

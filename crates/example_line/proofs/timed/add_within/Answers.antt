@@ -34,7 +34,7 @@ returns-in-Granted-clause-adds g c in_time known =
       added = round_added _ old mid c.requires.state sound.own_history known a.continues asks new _ _ granted releases c.add_one.ensures.added;
     }
 
--- without a turn nothing is added
+-- without a turn, nothing is added
 pub returns-in_default-clause-adds_nothing : goal.returns-in_default-clause-adds_nothing
 returns-in_default-clause-adds_nothing g c other known =
     let sound = g.met.L.LineSync.sound c.args.line.now c.args.port.now c.requires.belongs in

@@ -55,7 +55,7 @@ stayed = (stay_dropped (RefMutOf (0 ∷ []) tt (plain (λ _. R)) (λ _. tt)) no,
 abbrev lent : Body
 lent = seq (assign (place 6 []) (rv_opd (copy (place 7 [])))) (assign (place 5 []) (aggregate (int w8 1 ∷ copy (place 6 []) ∷ [])))
 
--- all that a handle with a node owns but the node
+-- all that a handle with a node owns, except the node
 abbrev Rest : Ptr → R.Denot → List Val → ℕ → ℕ → Fml
 Rest p d us rb ro = fsep (may_free (bare (lone N.mir)) p) (fsep (Data.own_val (d.at, tt) us) (cell_at full_share R.mir us rb ro))
 
