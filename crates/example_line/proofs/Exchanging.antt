@@ -28,7 +28,7 @@ use Rattle.example_line.specs.Mailbox.{in_lane, lane_sum_of, Moves, puts, takes,
 plus_none : (n : ℕ) → n ≡ n + 0
 plus_none n = omega arith
 
--- a port that asked, or was busy, has had no turn since
+-- a port that requested the line, or was busy, has had no turn since
 module _ (old new : View) (quiet : may_ask old.state ≡ true) (past : KnowsOwnHistory old) (places : KnowsOwnPlaces old) (more : Extends old new) (h : OneHistory (new ∷ [])) where
   still : KnowsOwnPlaces new → NoneServedBeyond old new → Moves (λ _. 0) old new
   still known beyond = record {

@@ -51,7 +51,7 @@ sale s = elim (cases_lt s SEATS) [
 ]
 
 module _ (allows : List ℕ → List ℕ → Type 0) (old mid : View) (quiet : may_ask old.state ≡ true) (past : KnowsOwnHistory old) (places : KnowsOwnPlaces old) (c : Continues allows old mid) (asks : Asks old mid) where
-  -- a port that asked, holds the line, and serves a customer
+  -- a port that requested the line, holds it, and serves a customer
   module _ (new : View) (turn write : Write) (granted : IsGranted mid turn) (releases : Releases allows false mid new write) where
     pub turn_places : KnowsOwnPlaces new
     turn_places = places_same mid new releases.continues.extends releases.continues.history releases.ends_turn.count (places_asked old mid c.extends c.history asks places)

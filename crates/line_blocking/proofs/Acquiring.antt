@@ -100,7 +100,7 @@ polled allows old mid new turn answer got e same p granted closed = record {
   told = λ is. p.told (closed is);
 }
 
--- a wait without a time limit, as one that ended in time
+-- a wait without a timeout, as a wait that ended in time
 in_time : (allows : List ℕ → List ℕ → Type 0) (old new : View) (turn : Write) (got : Got) (timed : TimedAcquire)
     → EndsWait allows old new turn got → (timed ≡ timed_acquire.Granted → got ≡ Granted) → (timed ≡ timed_acquire.Closed → got ≡ Closed)
     → timed ≢ timed_acquire.TimedOut → EndsWaitTimed allows old new turn timed
@@ -166,7 +166,7 @@ module _ {Port : Type 0} (view : Port → View) (counters : Port → Counters) (
     bounded_bypass = some_node (view asked) config sound.config_is sound.first_node sound.last_node;
   }
 
-  -- granted after a wait
+  -- the request was granted after a wait
   pub soon_waiting : (new : Port) (turn : Write) → Enqueues allows (view mid) (view asked) first enq.Queued
       → Continues allows (view asked) (view new) → (view new).count ≡ (view asked).count → IsGranted (view new) turn → ComesSoon view counters old new
   soon_waiting new turn q c count granted = record {
@@ -198,7 +198,7 @@ looked_first first now last before more = omega arith
 pub looked_more : (first now last : ℕ) → first ≤ now → last ≡ now + 1 → first ≤ last
 looked_more first now last before more = omega arith
 
--- a wait with a time limit that is late is not granted
+-- a wait with a timeout that is late is not granted
 pub late_ungranted : timed_acquire.TimedOut ≢ timed_acquire.Granted
 late_ungranted is = cc is
 
@@ -225,6 +225,6 @@ busy_within allows old mid new turn e same still q = record {
   late = λ _. inr (busy_still old mid new same still (q.busy refl));
 }
 
--- a port that has polled since it asked has polled
+-- a port that has polled since it made its request has polled
 pub looked_meanwhile : (old mid asked new : ℕ) → mid ≡ old → asked ≡ mid → asked + 1 ≤ new → old + 1 ≤ new
 looked_meanwhile old mid asked new same still more = omega arith

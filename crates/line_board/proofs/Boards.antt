@@ -86,7 +86,7 @@ module _ (bytes : List ℕ) (few : count_of bytes ≤ 7) where
 pub is_board-from : (bytes : List ℕ) → count_of bytes ≤ 7 → are_zeros (slice_range bytes 1 8) ≡ true → are_zeros (drop (count_of bytes + 1) (lanes_of bytes)) ≡ true → is_board bytes ≡ true
 is_board-from bytes few blank unused = rw (le-leb (count_of bytes) 7 few, blank) unused
 
--- no board if one part fails
+-- a line is not a board if one part fails
 not_board : (bytes : List ℕ) → is_board bytes ≡ false → tasks_of bytes ≡ None
 not_board bytes is = ap (λ b. if b then Some (take (count_of bytes) (drop 1 (lanes_of bytes))) else None) is
 

@@ -160,7 +160,7 @@ module _ (cells : Cells) (slot_layout : SlotLayout) (good : List ℕ → Type 0)
         ),
       )
 
-  -- the holder's slots go home, for a moment
+  -- the holder's slots go home for a moment
   pub return_slots_next : (me slots i : ℕ) (m : SeatContents) (v : ArrayGhost) (left : Option ℕ) → left ≡ turns_left v.view.config.lease v.view.ends → m.0 ≡ v ∷ [] → v.view.state ≡ port_state.Holding → (v.view.config ≡ key.config → MayReturnSlots slot_layout left m.1) → Allows Rule slots me m i (λ n. n) (slots_returned (step slots i 0 0 none) m)
   return_slots_next me slots i m v left turns is holds_open may_return_slots s r deep at small =
       let at' : get_elem? s.views me ≡ some (v ∷ []) = at ∙ ap some is in

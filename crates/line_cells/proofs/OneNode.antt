@@ -16,15 +16,15 @@ use Rattle.qolb_model.specs.Requests.{count_of}
 use Rattle.line_cells.specs.Array.{ArrayGhost, At, has_line, is_releasing, is_unfinished, History, HasPassed, ViewInv, HolderInv, NodeInv}
 use Rattle.qolb_model.specs.declared.view.View.{View}
 
--- what two points can't share
+-- what two points cannot share
 pub clash_at : {q : Point} → (f : Point → Bool) (a : Point) → f q ≡ true → q ≡ a → f a ≡ false → ⊥
 clash_at f a k e no_a = never k (ap f e ∙ no_a)
 
--- a node whose request is not clear has asked
+-- a node whose request is not clear has made one
 pub kept_asked : (q : Point) → is_unfinished q ≡ true → q ≢ Idle
 kept_asked q k e = clash_at is_unfinished Idle k e refl
 
--- what was passed stays so, as long as the release goes on
+-- what was passed stays passed, as long as the release goes on
 pub passed_goes : (n p : ℕ) (v w : ArrayGhost) (ended ended' : ℕ) (clear clear' : List Request) (marks marks' releaser_of releaser_of' : ℕ → ℕ) (h : HasPassed ended clear marks releaser_of n v p) → is_releasing w.own.point ≡ true → releaser_of' p ≡ releaser_of p → ended ≤ ended' → 0 < marks' p → IsPrefix v.view.order w.view.order
     → Lacks clear' h.request → HasPassed ended' clear' marks' releaser_of' n w p
 passed_goes n p v w ended ended' clear clear' marks marks' releaser_of releaser_of' h going same longer marked orders unclear = record {

@@ -29,7 +29,7 @@ use Rattle.line_cells.proofs.Taking.{Takes, StaysBehind, take_entry, asked_at, n
 use Rattle.line_cells.proofs.Turning.{goes_step}
 
 -- The cells of a lock after the node n withdraws its request at this place, which is behind the turn, by a step that
--- changes the cell so.
+-- changes the cell in this way.
 abbrev pub Withdraws : ℕ → Cells → ℕ → ℕ → (ℕ → ℕ) → Type 0
 Withdraws count cells place n change = (ended holder : ℕ) (cleared : Bool) (marks says : ℕ → ℕ) → 0 < n → n ≤ MAX_NODES → ended < place → place < ended + count → marks place ≡ 0 → cells ended holder cleared marks says
     → cells ended holder cleared (put marks place n) (put says (cell_of count place) (change (says (cell_of count place))))

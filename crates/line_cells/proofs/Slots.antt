@@ -56,7 +56,7 @@ pub opened_count : (n : ℕ) (y : Payload) → length (map some (replicate n y))
 opened_count zero y = refl
 opened_count (suc n) y = ap suc (opened_count n y)
 
--- what goes home moves no other slot from there
+-- slots that go home move no other slot from there
 pub stays_spare : (left : Option ℕ) (closed : Bool) (homes : Homes) (j k : ℕ) (y : Payload) → IsBehind left closed y → IsSpare left closed homes k → IsSpare left closed (set homes j (some y)) k
 stays_spare left closed homes j k y b h = dite (ℕ_discrete k j)
     (λ e. (y, subst (λ q. get_elem? (set homes j (some y)) q ≡ some (some y)) (sym e) (set_here homes j (some y) (subst (λ q. q < length homes) e (elem_within homes k (some h.0) h.1))), b))
@@ -66,7 +66,7 @@ stays_spare left closed homes j k y b h = dite (ℕ_discrete k j)
 pub itself : (y : Payload) → IsBehind y.turns_left y.closed y
 itself y = record { turns = λ e. e; is_open = λ e. e }
 
--- what is open is behind a closed line, too
+-- a slot that is open is behind a closed line, too
 pub open_behind : (left : Option ℕ) (y : Payload) → IsBehind left false y → (closed : Bool) → IsBehind left closed y
 open_behind left y b closed = record { turns = b.turns; is_open = λ _. b.is_open refl }
 
@@ -76,7 +76,7 @@ abbrev first_payload : Payload → Slots → Payload
 first_payload d [] = d
 first_payload d (x ∷ xs) = x.1
 
--- the line lies in it at first, and at the end
+-- the line lies in it at the beginning and at the end
 pub one_first : one_slot.home_slot 0 < one_slot.count
 one_first = omega arith
 

@@ -38,6 +38,6 @@ goes_same allows a w same n = record {
   steps = n;
 }
 
--- the step that clears the own word
+-- the step that clears the node's own word
 pub goes_reset : (allows : List ℕ → List ℕ → Type 0) (a b : SeatContents) → b ≡ (after_reset (single a.0) ∷ [], a.1) → Advances allows a b 1
 goes_reset allows a b is = subst (λ m. Advances allows a m 1) (sym is) (goes_same allows a (after_reset (single a.0)) refl refl)

@@ -46,7 +46,7 @@ pub record FreesFirst (v : ArrayGhost) (i : ℕ) (w : ArrayGhost) : Type 0 where
   pub clear : (k p : ℕ) (r : Request) → k < i → At v.own.passed k p → At v.view.order p r → Has w.view.clear r
   pub own_clear : drop i v.own.passed ≡ [] → Has w.view.clear (own w.view)
 
--- at first none is
+-- at first none of them is freed
 pub frees_none : (v : ArrayGhost) → v.own.point ≡ Freeing → v.own.passed ≢ [] → FreesFirst v 0 v
 frees_none v p some = record {
   point = p ∙ by v.own.passed some;
@@ -115,7 +115,7 @@ frees_next v w x nodes i node f many are is more frees =
         let places_same : q ≡ p = same_some (sym a ∙ (ap (slice_get places) (sym e) ∙ b)) in
         same_some (sym c ∙ (ap (slice_get order) places_same ∙ d))
 
--- until all are
+-- the node goes on until all are freed
 pub frees_all : (v w : ArrayGhost) (i : ℕ) → FreesFirst v i w → length v.own.passed ≤ i → FreesAll v w
 frees_all v w i f le = let none : drop i v.own.passed ≡ [] = history i v.own.passed le in record {
   point = f.point ∙ ap after_walk none;
@@ -211,7 +211,7 @@ walk_begins v passed others two = record {
 pub stands_first : (v : ArrayGhost) (found : ℕ) → v.own.point ≡ Passing → v.own.passed ≡ length v.view.ends ∷ [] → (r : Request) × At v.view.order (length v.view.ends) r × (r.node ≡ found) × (r.node ≤ v.view.config.nodes) → StandsAt [] found v
 stands_first v found passing passed first = record { point = passing; many = omega (arith, ap length passed); request = first.0; at = first.1; is_by = first.2; high = first.3 }
 
--- a node that has passed one ends a withdrawn request next
+-- a node that has passed a request ends a withdrawn request next
 ends_gone : (ps : List ℕ) (closed : Bool) (y : Payload) (k : ℕ) → length ps ≡ k + 1 → end_of ps closed y ≡ Gone
 ends_gone [] closed y k e = absurd (omega (arith, e))
 ends_gone (p ∷ ps) closed y k e = refl

@@ -40,7 +40,7 @@ pub equal-is_one : (left : Option ℕ) → option_eq eqb left (Some 1) ≡ is_on
 equal-is_one None = refl
 equal-is_one (Some _) = refl
 
--- a request at its turn, or behind another, was not busy
+-- a request that is at its turn, or behind another one, was not busy
 pub came_asked : {answer : Enqueued} → answer ≡ enqueued.AtTurn → answer ≢ enqueued.Busy
 came_asked is busy = cc (is, busy)
 
@@ -97,7 +97,7 @@ call_nodes initial s y steps poll_count b is = ap (λ (t : LineConfig). t.nodes)
 
 -- a port between calls
 module _ {O : Type 0} {q : PortPhases O} {label node : ℕ} {p : PortModel} (s : LineSeat O) (y : LocalCopy) (token steps poll_count : ℕ) {went_to : Option ℕ} (state : PortState) (between : IsPort q label node s y token state) (is : port_model q.initial s y steps poll_count token went_to ≡ p) where
-  -- the state that it shows is its own
+  -- the state that the port shows is its own
   pub own_state : p.view.state ≡ state
   own_state = ap (λ (x : PortModel). x.view.state) (sym is) ∙ between.shows_state
 
@@ -108,7 +108,7 @@ module _ {O : Type 0} {q : PortPhases O} {label node : ℕ} {p : PortModel} (s :
   pub own_word : (wait_word : ℕ → ℕ → ℕ → ℕ) (nodes : ℕ) → nodes_of q.initial s ≡ nodes → wait_word nodes node token ≡ wait_word p.view.config.nodes p.view.node p.token
   own_word wait_word nodes many = λ i. wait_word ((sym many ∙ ap (λ (x : PortModel). x.view.config.nodes) is) i) ((sym between.node_is ∙ ap (λ (x : PortModel). x.view.node) is) i) (is i).token
 
-  -- if the port holds, that is the word of the turn, as any port has it that sees the turn
+  -- if the port holds the line, that word is the word of the turn, as any port knows it that sees the turn
   pub held_word : (wait_word : ℕ → ℕ → ℕ → ℕ) (wake_word : View → ℕ) (nodes : ℕ) → nodes_of q.initial s ≡ nodes
       → ((m : ℕ) (u v : View) (own : O) → q.holds_open m (length v.ends) own → SeesTurn u v → wait_word v.config.nodes v.node m ≡ wake_word u)
       → p.view.state ≡ port_state.Holding → (u : View) → SeesTurn u p.view → wait_word nodes node token ≡ wake_word u
@@ -127,7 +127,7 @@ module _ {O : Type 0} {q : PortPhases O} {label node : ℕ} {p : PortModel} (s :
     node_is = between.node_is;
   }
 
-  -- a holder's turns: the line is put back into it, closed or not
+  -- the turns of a holder, when the line is put back, closed or not
   module _ {good : List ℕ → Type 0} {allows : List ℕ → List ℕ → Type 0} {key : TableKey} {table_id : TableId} (b : BelongsTo good allows key table_id p) (held : p.view.state ≡ port_state.Holding)
       (shut closed : Bool) (is_shut : closed ≡ (shut || is_one y.turns_left)) (u : LineSeat O) (same : IsSameSeat s u) (entries : u.me.0 ≡ s.me.0) (back : (z : Payload) × q.slots_at_release key.config.nodes token z u.me.1 × IsStored y closed z) where
     its : Holds q s y token

@@ -72,7 +72,7 @@ module _ {O : Type 0} (q : PortPhases O) (label node : ℕ) (s : LineSeat O) (y 
   pub head_table : (table_id : TableId) (ports rest : List PortModel) (whole : LineSeat O) (left : List PortModel) → left ≡ p ∷ rest → HasJoinedSome q.in_state table_id ports left whole → s.table_id ≡ table_id
   head_table table_id ports rest whole left e h = ap (λ (o : PortModel). o.table) is ∙ all_first (λ (o : PortModel). o.table ≡ table_id) p rest (subst (All (λ (o : PortModel). o.table ≡ table_id)) e h.tables)
 
-  -- a seat more
+  -- one more seat
   pub gathers_more : (table_id : TableId) (ports rest : List PortModel) (old new : LineSeat O) → HasJoinedSome q.in_state table_id ports (p ∷ rest) old → new.table_id ≡ old.table_id → new.me ≡ (old.me.0 ++ s.me.0, old.me.1) → HasJoinedSome q.in_state table_id ports rest new
   gathers_more table_id ports rest old new h t m = record {
     table = t ∙ h.table;

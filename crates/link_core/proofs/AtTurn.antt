@@ -96,7 +96,7 @@ load_busy_keeps config c h n s is un =
 abbrev pub rolls : Entry → Entry
 rolls w = record w { rolled = true }
 
--- withdrawing
+-- the node withdraws
 module _ (config : LineConfig) (c : State) (h : Queue) (n : ℕ) (s : Matches config c h) (is : IsNode c n) (at : point c n ≡ Queued) (un : (entry c n).granted ≡ false)
     (ents : List Entry) (sts : List NodeCall) (ch : Changed c (record c { entries = ents; seats = sts }) n (record (seat c n) { point = Rolled }) n (rolls (entry c n))) where
   abbrev e : State

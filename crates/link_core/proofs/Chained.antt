@@ -31,12 +31,12 @@ use Rattle.link_core.proofs.All.{freed_node, closed_wide}
 abbrev on_way : ℕ → List ℕ → ℕ → ℕ
 on_way n ps i = slice_index_or (n ∷ ps) i 0
 
--- the last of them is the node that the release has reached
+-- the last of these is the node that the release has reached
 on_way_last : (n : ℕ) (ps : List ℕ) → on_way n ps (length ps) ≡ last_or n ps
 on_way_last n [] = refl
 on_way_last n (p ∷ ps) = on_way_last p ps
 
--- an entry after a step: what it had it has, unless it is of no release
+-- an entry after a step keeps what it had, unless it belongs to no release
 pub record Grows (v w : Entry) : Type 0 where
   pub link : v.link ≢ 0 → w.link ≢ 0
   pub done : v.done ≡ true → w.done ≡ true
@@ -56,7 +56,7 @@ module _ {c d : State} {n : ℕ} {s : NodeCall} {k : ℕ} {w : Entry} (ch : Chan
     | inr ne ↦ subst (λ (y : Entry). Grows (entry c x) y) (sym (ch.entry_other x ne)) (grows_same (entry c x))
   ]
 
-  -- the others keep theirs
+  -- the other releases keep their chains
   chained_by : ((m i : ℕ) → IsNode c m → i < length (seat c m).passed → on_way m (seat c m).passed i ≡ k → Grows (entry c (on_way m (seat c m).passed i)) w)
       → ((m x : ℕ) → IsNode c m → point c m ≡ Granting x → current c m ≡ k → Grows (entry c (current c m)) w)
       → IsOwn c d n s → IsChained d

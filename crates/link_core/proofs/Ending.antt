@@ -106,7 +106,7 @@ module _ {config : LineConfig} {c : State} {h : Queue} {n : ℕ} (s : Matches co
   pub grows : IsPrefix h.ends fs
   grows = prefix_append h.ends (x ∷ [])
 
-  -- n's own last request has ended, by its reason
+  -- n's own last request has ended, for its cause
   pub ended : EndedBy h.order fs n (seat c n).reason
   ended = go (seat c n).reason (seat c n).passed refl refl facts.4
     where

@@ -90,7 +90,7 @@ request_got [] p r e = let z : None ≡ Some r = e in cc z
 request_got (x ∷ xs) zero r e = cc
 request_got (x ∷ xs) (suc p) r e = request_got xs p r e
 
--- a request that has ended by a reason has ended
+-- a request that has ended for some cause has ended
 pub ended_at : {o : List Request} {es : List End} {n : ℕ} {r : ReleaseCause} (e : EndedBy o es n r) → e.at < length es
 ended_at {es = es} e = slice_get_within es e.at e.end e.ended
 

@@ -44,7 +44,7 @@ module _ (config : LineConfig) (c : State) (h : Queue) (n : ℕ) (s : Matches co
   open_n : (p : ℕ) → length h.ends ≤ p → p < length h.order → requester_at h.order p ≢ n
   open_n p a l e = let k = over p (subst (λ (m : ℕ). IsLast h.order m p) e (s.distinct p a l)) in absurd (omega arith)
 
-  -- no node is to link to n
+  -- no node must still link to n
   unlinked : (m q : ℕ) → IsNode c m → point c m ≡ Linking q → q ≢ n
   unlinked m q a e f =
       let k = behind_unclear s m q a e in

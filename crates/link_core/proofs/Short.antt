@@ -73,7 +73,7 @@ module _ {config : LineConfig} {c : State} {h : Queue} (s : Matches config c h) 
   passed_short : (n : ℕ) → IsNode c n → length (seat c n).passed < c.nodes
   passed_short n a = few (seat c n).passed n c.nodes a.1 a.0 (λ i l. own n i a l) (λ i j k l e. (s.once n n i j a a k l e).1)
 
-  -- whose request follows was not passed
+  -- a node whose request follows was not passed
   next_unpassed : (n i m : ℕ) → IsNode c n → i < length (seat c n).passed → IsLast h.order m (length h.ends + 1) → passed c n i ≢ m
   next_unpassed n i m a l last e =
       let j = s.passes n i a l in

@@ -104,7 +104,7 @@ module _ {config : LineConfig} {c : State} {q : Queue} (s : Matches config c q) 
   has_way l (granted t _ b h f g w) = let a = turn_node t l b in way (event.Load t) a (loads t h g f) (turn_before t l b) (load_enabled c t a g f)
   has_way l (left t x _ b h f g y i w) = let a = turn_node t l b in way (event.Link t) a (links t x h i f) (turn_before t l b) (link_enabled c t a x i f)
 
--- a pending node has at most five events to go, and any other none
+-- a pending node has at most five events left, and any other node has none
 steps_left_most : (c : State) (w : Entry) (p : Point) → steps_left_at c w p ≤ 5 * cond (is_pending_at w p) 1 0
 steps_left_most c w Idle = omega arith
 steps_left_most c w Ready = omega arith

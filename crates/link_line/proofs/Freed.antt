@@ -41,7 +41,7 @@ some_passed : (state : PortState) (ps : List ℕ) → ps ≢ [] → Freeing ≡ 
 some_passed state [] n = absurd (n refl)
 some_passed state (q ∷ ps) n = refl
 
--- at first none is
+-- at first none of them is freed
 pub frees_none : (v : LinkGhost) → v.own.seat.point ≡ Freeing → v.own.passed ≢ [] → FreesFirst v 0 v
 frees_none v p some = record {
   point = p ∙ some_passed v.view.state v.own.passed some;
@@ -115,7 +115,7 @@ frees_next v w x nodes i node f many are is more frees =
     stays : (p : ℕ) (r : Request) → x.view.order ≡ w.view.order → x.view.ends ≡ w.view.ends → x.view.joined ≡ w.view.joined → IsClearOrLast w.view p r → IsClearOrLast x.view p r
     stays p r orders ends joined c = ⊎_elim (λ h. inl (has_prefix w.view.clear x.view.clear r more.clear h)) (λ l. inr (l.0 ∙ ap length (sym ends), short_stays w.view x.view orders ends joined l.1)) c
 
--- until all are
+-- the node goes on until all are freed
 pub frees_all : (v w : LinkGhost) (i : ℕ) → FreesFirst v i w → length v.own.passed ≤ i → FreesAll v w
 frees_all v w i f le = let none : drop i v.own.passed ≡ [] = history i v.own.passed le in record {
   point = f.point ∙ ap (after_release v.view.state) none;

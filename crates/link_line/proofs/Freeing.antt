@@ -211,7 +211,7 @@ module _ (good : List ℕ → Type 0) (allows : List ℕ → List ℕ → Type 0
     abbrev q : Queue
     q = advances.after
 
-    -- nothing but the clear list has changed in the queue
+    -- in the queue only the clear list has changed
     is : q ≡ record r.history.queue { clear = q.clear }
     is = after_is advances
 
@@ -379,7 +379,7 @@ module _ (good : List ℕ → Type 0) (allows : List ℕ → List ℕ → Type 0
               let e2 : a ≡ a' = at_same v.view.order p' a a' (subst (λ (u : ℕ). At v.view.order u a) e0 here) here' in
               subst (λ (u : ℕ). Frees v u ps' a' w) e0 (subst (λ (zs : List ℕ). Frees v p zs a' w) e1 (subst (λ (b : Request). Frees v p ps b w) e2 frees))
 
-    -- clear at once
+    -- the request is clear at once
     frees_last : Has q.clear a → (w' : List LinkGhost) × (act : Act Payload) × Valid s.homes carried act × Rule good allows key (stepped s (entry_at x) word me carried w' act) × freed allows (step slots (entry_at x) FREED 0 none) (v ∷ [], carried) (slice_index s.words (entry_at x)) (w', carried_after carried act)
     frees_last clear = freed_goal r.history.early (r.history.late ++ a ∷ [])
         (record {

@@ -55,7 +55,7 @@ module _ (good : List ℕ → Type 0) (allows : List ℕ → List ℕ → Type 0
   abbrev n : ℕ
   n = v.view.node
 
-  -- from a history that differs from the invariant's by what was done in the hand
+  -- the core goes on from a history that differs from the invariant's by what was done in the hand
   module _ (me slots : ℕ) (s : St good allows key) (r : Rule good allows key s) (at : get_elem? s.views me ≡ some (v ∷ [])) (x : History) (h : Holds good allows key r.history v z x) (rel : Releases x.core n e) where
     ok : NodeInv key r.history n v
     ok = mine_ok good allows key s r me v at

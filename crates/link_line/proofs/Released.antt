@@ -24,7 +24,7 @@ use Rattle.link_line.specs.BetweenCalls.{holds_open, holds_closed}
 use Rattle.link_line.specs.Steps.{end_of, next_end, point_by, after_release, left_in, TurnIsOver, MayHandOff, Ended, IsHandedOver, IsLeftForLinker, Passes}
 use Rattle.link_line.specs.Releases.{with_line, ReleasesLine, FinishesWalk}
 
--- a node that has passed none ends its own request next
+-- a node that has passed no request ends its own next
 ends_own : (w : LinkGhost) (y : Payload) (closed : Bool) → w.own.passed ≡ [] → is_closed w.view.ends ≡ closed → next_end w y ≡ own_end closed y
 ends_own w y closed none is = (λ i. end_of (none i) (is i) y)
 
@@ -95,11 +95,11 @@ module _ (v : LinkGhost) (y : Payload) (none : v.own.passed ≡ []) where
     };
   }
 
--- what the walk asks
+-- what the walk requires
 pub walk_nodes : (v u : LinkGhost) (y : Payload) (next : ℕ) → v.own.passed ≡ [] → Passes (with_line v y) u next → 2 ≤ u.view.config.nodes
 walk_nodes v u y next none p = omega (arith, p.few, ap length p.passed, length-append v.own.passed (length u.view.ends ∷ []))
 
--- what a node has that has the line, and whose turn on it is over
+-- what holds of a node that has the line, and whose turn on it is over
 module _ (allows : List ℕ → List ℕ → Type 0) (v : LinkGhost) (y : Payload) (token : ℕ) (has : HoldsPayload holds_open holds_closed token v y) (c : shared.IsNextPayload allows v.view y) where
   -- an open line
   module _ (unclosed : is_closed v.view.ends ≡ false) where

@@ -395,7 +395,7 @@ module _ (good : List ℕ → Type 0) (allows : List ℕ → List ℕ → Type 0
           line_is = refl;
         }
 
-  -- a release has passed fewer nodes than there are
+  -- a release has passed fewer nodes than the line has
   pub few_passed : (length v.own.passed < key.config.nodes) × (length v.own.passed + 1 ≡ key.config.nodes → x.core.home ≡ last_or n st.passed)
   few_passed =
       let k = short sh.matches in

@@ -150,8 +150,8 @@ arrival_unfreeing n true e = cc
 arrival_unfreeing n false e = cc
 
 module _ (good : List ℕ → Type 0) (allows : List ℕ → List ℕ → Type 0) (key : TableKey) where
-  -- what an event owes that leads to the past y, with its node's count of requests, those that it knows to be joined,
-  -- the places that it has passed, and the line in its hand
+  -- What an event must show if it leads to the past y, with its node's count of requests, the requests that it knows to
+  -- be joined, the places that it has passed, and the line in its hand.
   pub record Owes (y : History) (v : LinkGhost) (count : ℕ) (joined : List Request) (passed : List ℕ) (line : Payload) : Type 0 where
     pub kept : AreAllowed allows key.config.opening.bytes y.queue.ends
     pub lawful : MayServe (seat y.core v.view.node) → allows (bytes_after key.config.opening.bytes y.queue.ends) y.core.bytes.bytes

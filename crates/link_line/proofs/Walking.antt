@@ -57,7 +57,7 @@ pub record IsAway (nodes : List ℕ) (w : LinkGhost) : Type 0 where
   pub known : length w.view.ends ≤ length w.view.order
   pub unmarked : (r : Request) → turn_of w.view.order w.view.ends ≡ Some r → Lacks w.view.marked r
 
--- a node that has passed one ends a withdrawn request next
+-- a node that has passed a request ends a withdrawn request next
 ends_gone : (ps : List ℕ) (closed : Bool) (y : Payload) (k : ℕ) → length ps ≡ k + 1 → end_of ps closed y ≡ Gone
 ends_gone [] closed y k e = absurd (omega (arith, e))
 ends_gone (p ∷ ps) closed y k e = refl
@@ -184,9 +184,9 @@ walk_over v w x nodes k h f =
 pub walked_long : (v w x : LinkGhost) (nodes : List ℕ) → Walked v nodes w → FreesAll w x → length x.view.ends ≡ length v.view.ends + length nodes
 walked_long v w x nodes k f = ap length (f.ends ∙ k.ends) ∙ omega (arith, length-append v.view.ends (replicate (length nodes) Gone), length-replicate (length nodes) Gone)
 
--- the result of a walk from the seat s, by that of its last handoff, in `taken` atomic steps: each passed request took
--- three; and if the line is handed over, the last one took one to three, and a step more for each is within what a
--- release may take
+-- The result of a walk from the seat s, by that of its last handoff, in `taken` atomic steps. Each passed request took
+-- three steps. If the line is handed over, the last handoff took one to three, and one more step for each passed
+-- request is within what a release may take.
 abbrev pub StandsBy : LinkSeat → List ℕ → LinkSeat → ℕ → Handoff → Type 0
 StandsBy s nodes t taken (handoff.HandedOver word behind) = HasNoSlot t × IsAway nodes (ghost_of t) × (taken + length nodes + 6 ≤ 4 * (ghost_of s).view.config.nodes) × (3 * length nodes ≤ taken + 2) × (taken ≤ 3 * length nodes)
 StandsBy s nodes t taken handoff.Left = HasNoSlot t × IsAway nodes (ghost_of t) × (taken + length nodes + 6 ≤ 4 * (ghost_of s).view.config.nodes) × (3 * length nodes ≤ taken + 2) × (taken ≤ 3 * length nodes)

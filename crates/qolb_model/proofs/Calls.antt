@@ -38,7 +38,7 @@ module _ (line : PlainView) (s : OwnerState) (node : ℕ) (a : Agrees line s) (m
   pub busy-agrees : Agrees line (after_enq s node)
   busy-agrees = subst (λ b. Agrees line (if b then s else after_poll (poll_answer (after_ask s node) node) (after_ask s node))) (sym rolled) a
 
--- a node asks that has no entry
+-- a node that has no entry makes a request
 module _ (line : PlainView) (s : OwnerState) (node : ℕ) (a : Agrees line s) (low : 1 ≤ node) (high : node ≤ line.nodes) (quiet : list_any (is_at node) line.waiting ≡ false) where
   -- the node's last request has ended
   no_open : is_open s.queue node ≡ false
@@ -61,7 +61,7 @@ module _ (line : PlainView) (s : OwnerState) (node : ℕ) (a : Agrees line s) (l
       × Agrees (looked (poll_answer asked_state node) (with_waiter line node)) (after_poll (poll_answer asked_state node) asked_state)
   looks_asked = looks (with_waiter line node) asked_state node (poll_answer asked_state node) agrees_asked refl (resting_ask line s node a low of_line no_open)
 
-  -- the moves that it makes
+  -- the moves that the node makes
   pub asks-moves : Runs s.config s.queue (enq_moves s node) (after_enq s node).queue
   asks-moves =
       subst
@@ -102,7 +102,7 @@ module _ (line : PlainView) (s : OwnerState) (node : ℕ) (a : Agrees line s) (w
   pub polls-agrees : Agrees (looked p line) (after_poll p s)
   polls-agrees = looks_so.1
 
-  -- the answer if it withdraws
+  -- the answer if the node withdraws
   pub gives_up-answer : as_out p ≡ out_answer s node
   gives_up-answer = ap as_out polls-answer
 

@@ -7,7 +7,7 @@ use Rattle.qolb_model.specs.Histories.{Clears, none, more}
 use Rattle.qolb_model.proofs.Requests.{has_push}
 use Rattle.qolb_model.proofs.Prefixes.{prefix_self, prefix_append, prefix_trans, prefix_get}
 
--- a clear list begins with what it was
+-- a clear list has its earlier version as a prefix
 pub clears_begin : {order : List Request} {ended : ℕ} {old clear : List Request} → Clears order ended old clear → IsPrefix old clear
 clears_begin {order} {ended} {old} {clear} none = prefix_self old
 clears_begin (more {old} {clear} p r before lt at lacks) = prefix_trans old clear (clear ++ r ∷ []) (clears_begin before) (prefix_append clear (r ∷ []))

@@ -35,8 +35,8 @@ pub has_push_other : (xs : List Request) (x r : Request) → r.node ≢ x.node �
 has_push_other xs x r ne =
     list_any-append (is_same r) xs (x ∷ []) ∙ (ap (λ b. has xs r || ((b && (r.number == x.number)) || false)) (ne_eqb r.node x.node ne) ∙ or-false (has xs r))
 
--- the port of the node n made a call that put no request which the state does not have; it forgot nothing, and then met
--- all others
+-- The port of the node n made a call that added no request which the state does not have. It forgot nothing, and then
+-- met all other ports.
 pub record Follows (s : OwnerState) (n : ℕ) (a : View) : Type 0 where
   pub node : a.node ≡ n
   pub config : a.config ≡ s.config
@@ -48,7 +48,7 @@ pub record Follows (s : OwnerState) (n : ℕ) (a : View) : Type 0 where
   pub count : a.count ≡ count_of n s.queue.order
   pub others : (m : ℕ) → 1 ≤ m → m ≤ s.config.nodes → m ≢ n → Bounds s a m
 
--- a node without an open request is as an idle one
+-- a node without an open request counts as an idle one
 pub quiet_seen : (closed : Bool) → port.Idle ≡ seen (if closed then port.Shut else port.Idle)
 quiet_seen true = refl
 quiet_seen false = refl
@@ -122,7 +122,7 @@ module _ (s : OwnerState) (n : ℕ) (a : View) (reached : IsReached s) (f : Foll
   pub first_is : (r : Request) → turn_of s.queue.order s.queue.ends ≡ Some r → is_first s.queue n ≡ is_same (last_of n s.queue.order) r
   first_is r turn = ap (λ o. option_map_or (is_same (last_of n s.queue.order)) o false) turn
 
-  -- behind another: nothing has ended
+  -- the request is behind another one, so nothing has ended
   behind : Waits a → (a.ends ≡ s.queue.ends) × (is_first s.queue n ≡ false) × Has (open_of s.queue.order s.queue.ends) (last_of n s.queue.order)
   behind waits =
       let p = waits.0 in

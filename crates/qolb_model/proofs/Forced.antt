@@ -48,7 +48,7 @@ use Rattle.qolb_model.proofs.Leaving.{Leaves, leaves_so, leaves_through, leaves_
 use Rattle.qolb_model.proofs.Reached.{queued_is, holding_is, reached_write, reached_poll, reached_release, reached_mark, reached_asked}
 use Rattle.qolb_model.proofs.Whole.{Called, called, tells, spreads}
 
--- what is known of the others bounds the view after an ask too
+-- what is known of the other ports also bounds the view after a request
 bounds_ask : (s : OwnerState) (n m : ℕ) (a : View) → m ≢ n → Bounds s a m → Bounds (after_ask s n) a m
 bounds_ask s n m a ne b = record {
   counts = let k = b.counts in let more = count_of-push_le m s.queue.order (next_of n s.queue.order) in omega arith;

@@ -84,7 +84,7 @@ legal_gone lease order ends (x ∷ xs) legal room =
     subst (λ es. IsLegal lease order es) (append_assoc ends (Gone ∷ []) (gone_each xs))
     (legal_gone lease order (ends ++ Gone ∷ []) xs (legal_end lease order ends Gone legal (omega (arith, room)) tt) (omega (arith, room, length-append ends (Gone ∷ []))))
 
--- how a request ends by a move, it may end in a history
+-- an end that a move gives to a request may be its end in a history
 pub may_end : (lease : Option ℕ) (q : Queue) (r : Request) (e : End) → EndsAs lease q r e → MayEnd (is_closed q.ends) (is_last_turn lease q.ends) e
 may_end lease q r (Served write shut) h = (h.1, h.2)
 may_end lease q r Gone h = tt

@@ -16,7 +16,7 @@ use Rattle.qolb_model.specs.Steps.{is_one, decrement}
 use Rattle.qolb_model.proofs.Lists.{element_at, take_with}
 use Rattle.qolb_model.proofs.Histories.{gone_each, is_closed-append}
 
--- the services of two lists of ends, one after the other; and passed requests are none
+-- the services of two lists of ends, one after the other; passed requests add none
 pub served-append : (xs ys : List End) → served (xs ++ ys) ≡ served xs + served ys
 served-append xs ys = sum_by-append (λ e. cond (is_served e) 1 0) xs ys
 
@@ -34,7 +34,7 @@ pub turns_left-same : (lease : Option ℕ) (xs ys : List End) → served ys ≡ 
 turns_left-same None xs ys e = refl
 turns_left-same (Some turns) xs ys e = let same : served (xs ++ ys) ≡ served xs = served-append xs ys ∙ omega (arith, e) in ap (λ n. Some (turns - n)) same
 
--- a service uses one
+-- a service uses up one turn
 pub turns_left-served : (lease : Option ℕ) (ends : List End) (write : Write) (shut : Bool) → turns_left lease (ends ++ Served write shut ∷ []) ≡ decrement (turns_left lease ends)
 turns_left-served None ends write shut = refl
 turns_left-served (Some turns) ends write shut =
@@ -42,7 +42,7 @@ turns_left-served (Some turns) ends write shut =
     let fewer : turns - served (ends ++ Served write shut ∷ []) ≡ turns - served ends - 1 = omega (arith, more) in
     ap Some fewer
 
--- at the last turn one is left
+-- at the last turn, one turn is left
 pub last-is_one : (lease : Option ℕ) (ends : List End) → is_one (turns_left lease ends) ≡ is_last_turn lease ends
 last-is_one None ends = refl
 last-is_one (Some turns) ends = elim (cases_eq (served ends + 1) turns) [
@@ -55,7 +55,7 @@ pub last_closes : (lease : Option ℕ) (ends : List End) (shut : Bool) → is_la
 last_closes lease ends true last = refl
 last_closes lease ends false last = last
 
--- no more turns are served than a lease has, and once all are the line is closed
+-- no more turns are served than a lease has, and once all are served the line is closed
 abbrev IsWithin : ℕ → List End → Type 0
 IsWithin turns ends = (served ends ≤ turns) × (served ends ≡ turns → is_closed ends ≡ true)
 

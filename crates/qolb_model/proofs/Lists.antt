@@ -37,7 +37,7 @@ slice_get-middle (y ∷ xs) x ys = slice_get-middle xs x ys
 pub slice_get-push : {X : Type 0} (xs : List X) (x : X) → slice_get (xs ++ x ∷ []) (length xs) ≡ Some x
 slice_get-push xs x = slice_get-middle xs x []
 
--- an element of a list with one more is an old one, or that one
+-- an element of a list with one more element is an old one, or the new one
 pub push_cases : {X : Type 0} (xs : List X) (x : X) (p : ℕ) (y : X) → slice_get (xs ++ x ∷ []) p ≡ Some y → ((p < length xs) × (slice_get xs p ≡ Some y)) ⊎ ((p ≡ length xs) × (y ≡ x))
 push_cases [] x zero y e = inr (refl, sym (same_some e))
 push_cases [] x (suc p) y e = absurd (let h : None ≡ Some y = e in cc h)
@@ -70,7 +70,7 @@ drop_with [] p x e = absurd (let h : None ≡ Some x = e in cc h)
 drop_with (y ∷ xs) zero x e = ap (λ z. z ∷ xs) (same_some e)
 drop_with (y ∷ xs) (suc p) x e = let next : suc (p + 1) ≡ suc p + 1 = omega arith in drop_with xs p x e ∙ ap (λ n. x ∷ drop n (y ∷ xs)) next
 
--- if a test passes for some element of a list, it does so at a place
+-- if a test passes for some element of a list, it passes at some place
 pub place_of : {X : Type 0} (test : X → Bool) (xs : List X) → list_any test xs ≡ true → (p : ℕ) × (x : X) × (slice_get xs p ≡ Some x) × (test x ≡ true)
 place_of test [] h = absurd (let e : false ≡ true = h in cc e)
 place_of {X} test (x ∷ xs) h = by (place_of test xs) (test x) refl h
@@ -103,7 +103,7 @@ at_either (y ∷ xs) ys (suc i) x e = elim (at_either xs ys i x e) [ inl t ↦ i
 pub at_drop : {X : Type 0} (k : ℕ) (xs : List X) (p : ℕ) (x : X) → slice_get (drop k xs) p ≡ Some x → slice_get xs (k + p) ≡ Some x
 at_drop k xs p x e = sym (slice_get-drop k xs p) ∙ e
 
--- a list of one has that one, and an empty list has none
+-- a list of one element has that element, and an empty list has none
 pub at_one : {X : Type 0} (x y : X) (i : ℕ) → slice_get (x ∷ []) i ≡ Some y → x ≡ y
 at_one x y zero e = same_some e
 at_one x y (suc i) e = absurd (let h : None ≡ Some y = e in cc h)

@@ -14,7 +14,7 @@ longer_second xs ys lt = ap (λ b. cond b ys xs) (lt-ltb (length xs) (length ys)
 pub longer_first : {X : Type 0} (xs ys : List X) → length ys ≤ length xs → longer xs ys ≡ xs
 longer_first xs ys le = ap (λ b. cond b ys xs) (le-ltb (length xs) (length ys) le)
 
--- what holds of both lists holds of the longer
+-- what holds of both lists holds of the longer one
 pub longer_has : {X : Type 0} (P : List X → Type 0) (xs ys : List X) → P xs → P ys → P (longer xs ys)
 longer_has P xs ys h k = elim (cases_order (length xs) (length ys)) [
   | inl e ↦ subst P (sym (longer_first xs ys (omega (arith, e)))) h

@@ -40,7 +40,7 @@ right_of : (x y : Bool) → x ≡ true → (y || x) ≡ true
 right_of x true e = refl
 right_of x false e = e
 
--- a port that knows the new state's whole history meets one that knows the old one's: then both know the new one's
+-- a port that knows the new state's whole history meets a port that knows the old state's; then both know the new one's
 module _ (allows : List ℕ → List ℕ → Type 0) (n : ℕ) (s t : OwnerState) (leaves : Leaves n s t) (a w b u : ViewAndTurn) (meet : Meet allows a w b u) (node : a.view.node ≡ n) (apart : w.view.node ≢ n)
     (of_a : KnowsWhole t a) (of_w : KnowsWhole s w) where
   known_a : Knows meet.tell.before.config meet.tell.before.order meet.tell.before.ends meet.tell.before.clear a.view

@@ -36,7 +36,7 @@ use Rattle.qolb_model.proofs.Sums.{turns-append, turns-same, turns-unserved, sli
 abbrev pub NoneServedBeyond : View → View → Type 0
 NoneServedBeyond old new = (p : ℕ) (r : Request) (e : End) → length old.order ≤ p → slice_get new.order p ≡ Some r → slice_get new.ends p ≡ Some e → r.node ≡ new.node → is_served e ≡ false
 
--- asked for before a call that made no request, it is so after it
+-- a request that was made before a call is still made after it, if the call made none
 pub asks_later : (old mid new : View) → Asks old mid → Extends mid new → new.count ≡ mid.count → Asks old new
 asks_later old mid new a more count = record {
   was_clear = λ one. has_prefix mid.clear new.clear (own old) more.clear (a.was_clear one);
@@ -77,7 +77,7 @@ module _ (old new : View) (more : Extends old new) (h : OneHistory (new ∷ []))
         | inr ge ↦ absurd (none_of_node new.node more.order.0 (omega (arith, ge)) q (own new) at refl)
       ]
 
-  -- behind all that the old view knew there is one request of the node
+  -- among the requests beyond those that the old view knew, there is one of the node
   pub beyond_own : Asks old new → KnowsOwnPlaces old → (p : ℕ) (r : Request) → length old.order ≤ p → slice_get new.order p ≡ Some r → r.node ≡ new.node → r ≡ own new
   beyond_own asks places p r le at same =
       let at_h : slice_get h.order p ≡ Some r = prefix_get new.order h.order p r knows.order_begins at in
@@ -169,7 +169,7 @@ module _ (old new : View) (more : Extends old new) (h : OneHistory (new ∷ []))
         ∙ (ap (λ (t : LineConfig). is_last_turn t.lease (take p old.ends)) (sym more.config)
         ∙ ap (is_last_turn new.config.lease) (sym (take_prefix old.ends new.ends p more.ends (omega (arith, lt_ends)))))
 
--- a port that has made no request knows their places, has had no turn, and has not shut the line
+-- a port that has made no request knows the places of its requests, has had no turn, and has not shut the line
 module _ (v : View) (h : OneHistory (v ∷ [])) (unused : v.count ≡ 0) where
   none_made : count_of v.node v.order ≡ 0
   none_made =
@@ -186,7 +186,7 @@ module _ (v : View) (h : OneHistory (v ∷ [])) (unused : v.count ≡ 0) where
   pub unused_unshut : HasNotShut v
   unused_unshut = λ p r write shut at_r same at_e. absurd (none_of_node v.node v.order none_made p r at_r same)
 
--- a port that has released may ask
+-- a port that has released may make a request
 pub quiet_after : (from : ℕ) (leaves : PortState) (v : View) → may_ask leaves ≡ true → AfterRelease from leaves v → may_ask v.state ≡ true
 quiet_after from leaves v quiet releases = by releases.state
   where
@@ -198,7 +198,7 @@ pub may_ask-state_after : (b : Bool) → may_ask (state_after b) ≡ true
 may_ask-state_after true = refl
 may_ask-state_after false = refl
 
--- withdrawn requests, passed, are no turns and change no byte
+-- withdrawn requests that were passed are no turns, and change no byte
 turns-gone : (does : List ℕ → List ℕ → ℕ) (node : ℕ) (bytes : List ℕ) (order : List Request) (n : ℕ) → sum_of_turns does node bytes order (replicate n Gone) ≡ 0
 turns-gone does node bytes [] n = refl
 turns-gone does node bytes (r ∷ order) zero = refl
@@ -224,7 +224,7 @@ module _ (allows : List ℕ → List ℕ → Type 0) (held new : View) (write : 
   long : length held.ends < length held.order
   long = slice_get_within held.order (length held.ends) (own held) at_turn
 
-  -- what its turn left
+  -- the bytes that its turn left
   pub left_bytes : written (bytes_of held) write ≡ write.bytes.bytes
   left_bytes =
       sym (bytes-gone (written (bytes_of held) write) releases.ends_turn.passed)

@@ -42,7 +42,7 @@ gone_each_is : (xs : List Request) → gone_each xs ≡ replicate (length xs) Go
 gone_each_is [] = refl
 gone_each_is (x ∷ xs) = ap (λ es. Gone ∷ es) (gone_each_is xs)
 
--- the queue when the request at its turn has ended, and the withdrawn ones behind it
+-- the queue once the request at its turn has ended, and the withdrawn requests behind it
 pub goes_queue : (s : OwnerState) (e : End) → moved_by s.queue (ends_with e s.queue) ≡ passed_by (moved s.queue (finish e)) (passed s.queue.marked (drop (length s.queue.ends + 1) s.queue.order))
 goes_queue s e =
     ap (λ xs. moved_by s.queue (finish e ∷ passes_each xs)) (take_while-passed s.queue.marked (drop (length s.queue.ends + 1) s.queue.order))
@@ -96,7 +96,7 @@ module _ (s : OwnerState) (n : ℕ) (a : View) (reached : IsReached s) (f : Foll
   ends_are : a.ends ≡ (s.queue.ends ++ e ∷ []) ++ gone_each (passed s.queue.marked (drop (length s.queue.ends + 1) s.queue.order))
   ends_are = ends ∙ (sym (append_assoc s.queue.ends (e ∷ []) (replicate k Gone)) ∙ ap (λ es. (s.queue.ends ++ e ∷ []) ++ es) (ap (λ m. replicate m Gone) (sym many) ∙ sym (gone_each_is gone)))
 
-  -- the next is joined, so the release is not short
+  -- the next request is joined, so the release is not short
   not_short : SuccessorUnlinked a → ⊥
   not_short short =
       let at = ap (λ xs. slice_get xs (length a.ends)) (sym f.order) ∙ short.1 in

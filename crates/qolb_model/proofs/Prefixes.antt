@@ -38,7 +38,7 @@ prefix_whole (x ∷ xs) (y ∷ ys) p le = let rest = prefix_whole xs ys (p.0, cc
 pub prefix_same : {X : Type 0} (xs ys zs : List X) → IsPrefix xs zs → IsPrefix ys zs → length xs ≡ length ys → xs ≡ ys
 prefix_same xs ys zs p q e = prefix_whole xs ys (prefix_shorter xs ys zs p q (omega (arith, e))) (omega (arith, e))
 
--- what is in a prefix is in the whole, at the same place
+-- an element of a prefix is in the whole list, at the same place
 pub prefix_get : {X : Type 0} (xs ys : List X) (k : ℕ) (x : X) → IsPrefix xs ys → slice_get xs k ≡ Some x → slice_get ys k ≡ Some x
 prefix_get [] ys k x p h = absurd cc
 prefix_get (y ∷ xs) [] k x p h = absurd (cc (p.1))

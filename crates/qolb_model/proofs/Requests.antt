@@ -24,7 +24,7 @@ and_right_true : (a b : Bool) → (a && b) ≡ true → b ≡ true
 and_right_true true b h = h
 and_right_true false b h = absurd (let e : false ≡ true = h in cc e)
 
--- requests that the test takes for one are equal
+-- requests that the test finds equal are equal
 pub is_same-true : (x y : Request) → is_same x y ≡ true → x ≡ y
 is_same-true x y h =
     same_request x.node y.node x.number y.number (eqb-true x.node y.node (and_left_true _ _ h)) (eqb-true x.number y.number (and_right_true _ _ h))
@@ -36,7 +36,7 @@ is_same-self x = rw (eq-eqb x.node x.node refl) (eq-eqb x.number x.number refl)
 pub has_at : (xs : List Request) (p : ℕ) (r : Request) → slice_get xs p ≡ Some r → Has xs r
 has_at xs p r e = passes_at (is_same r) xs p r e (is_same-self r)
 
--- conversely: one of a list is at a place of it
+-- conversely, a request of a list is at some place of it
 pub place_of_request : (xs : List Request) (r : Request) → Has xs r → (p : ℕ) × (slice_get xs p ≡ Some r)
 place_of_request xs r h = let found = place_of (is_same r) xs h in (found.0, found.2 ∙ ap Some (sym (is_same-true r found.1 found.3)))
 

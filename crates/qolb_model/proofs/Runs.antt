@@ -20,7 +20,7 @@ pub clears_twice : (order : List Request) (ended : ℕ) (a b c : List Request) �
 clears_twice order ended a b c h none = h
 clears_twice order ended a b c h (more p r k lt at lacks) = more p r (clears_twice order ended a b _ h k) lt at lacks
 
--- up to the first `j` more of the requests that have ended
+-- the list grows up to the first `j` more of the requests that have ended
 pub clears_to : (order : List Request) (ended : ℕ) → IsNumbered order → ended ≤ length order → (k j : ℕ) → k + j ≤ ended → Clears order ended (take k order) (take (k + j) order)
 clears_to order ended numbered le k zero room = let e : k ≡ k + 0 = omega arith in subst (λ n. Clears order ended (take k order) (take n order)) e none
 clears_to order ended numbered le k (suc j) room =
@@ -29,7 +29,7 @@ clears_to order ended numbered le k (suc j) room =
     subst (λ xs. Clears order ended (take k order) xs) (sym (take_with order (k + j) at.0 at.1) ∙ ap (λ n. take n order) e)
     (more (k + j) at.0 (clears_to order ended numbered le k j (omega (arith, room))) (omega (arith, room)) at.1 (lacks_before order numbered (k + j) at.0 at.1))
 
--- nothing need be cleared, and what is cleared twice is cleared
+-- nothing needs to be cleared, and what is cleared in two steps is cleared
 pub has_cleared_none : (q : Queue) → HasCleared q q
 has_cleared_none q = (q.clear, none, refl)
 
@@ -43,7 +43,7 @@ pub runs_cleared : (config : LineConfig) (a b c : Queue) (moves : List Move) →
 runs_cleared config a b c [] h k = has_cleared_twice a b c h k
 runs_cleared config a b c (move ∷ moves) h k = (k.0, has_cleared_twice a b k.0 h k.1, k.2, k.3)
 
--- a history that is legal, and all that had ended at some time is clear
+-- the history is legal, and all requests that had ended at some time are clear
 pub record IsTidy (lease : Option ℕ) (q : Queue) : Type 0 where
   pub legal : IsLegal lease q.order q.ends
   pub ended : ℕ
@@ -70,7 +70,7 @@ abbrev pub unpassed : List Request → List Request → List Request
 unpassed marked [] = []
 unpassed marked (x ∷ xs) = if has marked x then unpassed marked xs else x ∷ xs
 
--- the two make the whole, and the first are those that a run of tests takes
+-- together the two are the whole, and the first part is what a run of tests takes
 pub take_while-passed : (marked xs : List Request) → take_while (has marked) xs ≡ passed marked xs
 take_while-passed marked [] = refl
 take_while-passed marked (x ∷ xs) = take_while-cons (has marked) x xs ∙ ap (λ ys. cond (has marked x) (x ∷ ys) []) (take_while-passed marked xs)
@@ -96,7 +96,7 @@ are_marked-passed marked (x ∷ xs) = by (has marked x) refl (are_marked-passed 
     by true e rest = (e, rest)
     by false e rest = tt
 
--- the first that is left is not
+-- the first request that is left is not marked
 pub lacks_unpassed : (marked xs : List Request) (r : Request) → slice_get (unpassed marked xs) 0 ≡ Some r → Lacks marked r
 lacks_unpassed marked [] r e = absurd (let h : None ≡ Some r = e in cc h)
 lacks_unpassed marked (x ∷ xs) r e = by (has marked x) refl (lacks_unpassed marked xs r) e
@@ -109,7 +109,7 @@ lacks_unpassed marked (x ∷ xs) r e = by (has marked x) refl (lacks_unpassed ma
 abbrev pub passes_each : List Request → List Move
 passes_each xs = map (λ _. finish Gone) xs
 
--- the queue when these have ended as withdrawn, and all that has ended is clear
+-- the queue once these requests have ended as withdrawn, and all ended requests are clear
 abbrev pub passed_by : Queue → List Request → Queue
 passed_by q xs = record q { ends = q.ends ++ gone_each xs; clear = take (length (q.ends ++ gone_each xs)) q.order }
 

@@ -9,7 +9,7 @@ use Rattle.qolb_model.specs.Entries.{Member, AreMembers, each_from, front, behin
 use Rattle.qolb_model.proofs.Lists.{same_some, at_one, at_none, at_either}
 use Rattle.qolb_model.proofs.Updates.{pick, put, put_here, put_else}
 
--- a seat of those with one changed is that one, or another as it was
+-- after one seat has changed, a seat is that one, or another one as it was
 seat_set : {A : Type 0} (xs : List A) (i j : ℕ) (a b : A) → get_elem? (set xs i a) j ≡ some b → ((j ≡ i) × (a ≡ b)) ⊎ ((j ≢ i) × (get_elem? xs j ≡ some b))
 seat_set [] i j a b e = absurd (some-ne-none b (sym e))
 seat_set (x ∷ xs) zero zero a b e = inl (refl, some-injective a b e)
@@ -163,7 +163,7 @@ module _ {E : Type 0} (node : E → ℕ) (nodes : ℕ) where
     pub once_each : (me : ℕ) (es : List E) → get_elem? seats me ≡ some es → (i j : ℕ) (v w : E) → slice_get es i ≡ Some v → slice_get es j ≡ Some w → node v ≡ node w → i ≡ j
     once_each me es at i j v w a b same = ap (λ (z : ℕ × ℕ). z.1) (sym (all me i es v at a).at ∙ ap owner same ∙ (all me j es w at b).at)
 
-    -- the seat `me`, which has the entry v alone, gets w of the same node
+    -- the seat `me`, which has only the entry v, gets the entry w of the same node
     module _ (me : ℕ) (v w : E) (at : get_elem? seats me ≡ some (v ∷ [])) (same : node w ≡ node v) where
       pub step_members : AreMembers node nodes (put who (node v) w) owner (set seats me (w ∷ []))
       step_members j i es e there here = ⊎_elim
@@ -211,7 +211,7 @@ module _ {E : Type 0} (node : E → ℕ) (nodes : ℕ) where
       both_else : (v' u' : E) (n : ℕ) → n ≢ node v → n ≢ node u → both_put v' u' n ≡ who n
       both_else v' u' n a b = put_else (put who (node v) v') (node u) u' n b ∙ put_else who (node v) v' n a
 
-      -- what holds of each node holds still, if it does of these two
+      -- what holds of each node still holds if it holds of these two
       pub pair_each : (v' u' : E) (P : ℕ → E → Type 0) → P (node v) v' → P (node u) u' → ((n : ℕ) → 0 < n → n ≤ nodes → P n (who n)) → (n : ℕ) → 0 < n → n ≤ nodes → P n (both_put v' u' n)
       pair_each v' u' P p q each n a b = dite (ℕ_discrete n (node v))
           (λ e. subst (λ (z : ℕ × E). P z.0 z.1) (λ i. (sym e i, (sym (put_first v' u') ∙ ap (both_put v' u') (sym e)) i)) p)

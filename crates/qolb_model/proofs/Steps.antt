@@ -90,7 +90,7 @@ agrees_write line s mask bytes a holds = record {
   };
 }
 
--- a node that does not wait asks
+-- a node that does not wait makes a request
 module _ (line : PlainView) (s : OwnerState) (node : ℕ) (a : Agrees line s) (low : 1 ≤ node) (high : node ≤ s.config.nodes) (quiet : is_open s.queue node ≡ false) where
   -- the order with its request
   abbrev pub order_then : List Request
@@ -134,7 +134,7 @@ module _ (line : PlainView) (s : OwnerState) (node : ℕ) (a : Agrees line s) (l
     cleared = a.reached.cleared ∙ sym (take-append-le (length s.queue.ends) s.queue.order (next_of node s.queue.order ∷ []) a.reached.legal.ended);
   }
 
-  -- a run may begin with its asking
+  -- a run may begin with the node's request
   pub runs_ask : (moves : List Move) (new : Queue) → Runs s.config (after_ask s node).queue moves new → Runs s.config s.queue (ask node ∷ moves) new
   runs_ask moves new h = (s.queue, has_cleared_none s.queue, can_ask, runs_cleared s.config (moved s.queue (ask node)) (after_ask s node).queue new moves (clears_all s.config.lease (moved s.queue (ask node)) tidy_ask) h)
 
@@ -192,7 +192,7 @@ module _ (line : PlainView) (s : OwnerState) (node : ℕ) (a : Agrees line s) (l
           let turn : turn_of order_then s.queue.ends ≡ Some (last_of node order_then) = first_turn (after_ask s node).queue node first in
           absurd (other_node (length s.queue.ends) (last_of node order_then) (omega arith) (sym (slice_get-append_left s.queue.order (next_of node s.queue.order ∷ []) (length s.queue.ends) lt) ∙ turn) refl)
 
--- the entries that are left stand for the requests that are
+-- the entries that are left belong to the requests that are left
 after_withdrawn-unpassed : (marked xs : List Request) → after_withdrawn (map (waiter_of marked) xs) ≡ map (waiter_of marked) (unpassed marked xs)
 after_withdrawn-unpassed marked [] = refl
 after_withdrawn-unpassed marked (x ∷ xs) = by (has marked x) (after_withdrawn-unpassed marked xs)
@@ -204,7 +204,7 @@ after_withdrawn-unpassed marked (x ∷ xs) = by (has marked x) (after_withdrawn-
 
 -- the request at its turn ends, and the withdrawn ones behind it are passed
 module _ (line : PlainView) (s : OwnerState) (r : Request) (e : End) (a : Agrees line s) (turn : turn_of s.queue.order s.queue.ends ≡ Some r) (so : EndsAs s.config.lease s.queue r e) where
-  -- the requests behind it, the withdrawn ones that are passed, and those that are left; and all ends then
+  -- the requests behind it, the withdrawn ones that are passed, the ones that are left, and all ends afterwards
   abbrev pub behind : List Request
   behind = drop (length s.queue.ends + 1) s.queue.order
 
@@ -248,7 +248,7 @@ module _ (line : PlainView) (s : OwnerState) (r : Request) (e : End) (a : Agrees
       subst (λ moves. Runs s.config s.queue moves (moved_by s.queue moves)) (sym moves_are)
       (s.queue, has_cleared_none s.queue, (r, turn, so), runs_passes s.config (moved s.queue (finish e)) gone rest tidy_then behind_now (are_marked-passed s.queue.marked behind))
 
-  -- the passed ones do not close the line, and change no byte
+  -- the passed requests do not close the line, and change no byte
   closed_then : is_closed ends_then ≡ is_closed (s.queue.ends ++ e ∷ [])
   closed_then = is_closed-append (s.queue.ends ++ e ∷ []) (gone_each gone) ∙ (ap (λ b. is_closed (s.queue.ends ++ e ∷ []) || b) (is_closed-gone gone) ∙ or-false (is_closed (s.queue.ends ++ e ∷ [])))
 
@@ -265,7 +265,7 @@ module _ (line : PlainView) (s : OwnerState) (r : Request) (e : End) (a : Agrees
   abbrev pub ended_state : OwnerState
   ended_state = record s { queue = passed_by (moved s.queue (finish e)) gone; granted = false; turn = new_turn s.config.opening.bytes ends_then }
 
-  -- what holds of reached states holds of it
+  -- what holds of reached states holds of this state
   pub reached_end : IsReached ended_state
   reached_end = record {
     may_open = a.reached.may_open;

@@ -43,7 +43,7 @@ all_served (Some turns) order ends some legal p write shut at last =
     ap Some e
 
 module _ (good : List ℕ → Type 0) (allows : List ℕ → List ℕ → Type 0) where
-  -- a finished line that no port of its has shut is closed by its lease, or not at all
+  -- if no port of a finished line has shut it, only its lease can have closed it
   pub closed_by_lease : (label : ℕ) (config : LineConfig) (views : List View) (bytes : List ℕ) (finished : IsFinished good allows label config views bytes)
       → ((v : View) → IsAmong views v → KnowsOwnPlaces v) → ((v : View) → IsAmong views v → HasNotShut v) → is_closed finished.history.ends ≡ true → config.lease ≡ Some (served finished.history.ends)
   closed_by_lease label config views bytes f places unshut closed =

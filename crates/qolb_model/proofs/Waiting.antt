@@ -15,7 +15,7 @@ use Rattle.qolb_model.specs.Steps.{after_withdrawn, withdrawn_at}
 flip : (a b : ℕ) → eqb a b ≡ false → eqb b a ≡ false
 flip a b h = ne_eqb b a (λ e. eqb-false a b h (sym e))
 
--- a node that does not wait is apart from those that do
+-- a node that does not wait is none of those that do
 apart_from : (n : ℕ) (ws : List Waiter) → list_any (is_at n) ws ≡ false → AllByRecursion (λ y. eqb n y ≡ false) (map (λ w. w.node) ws)
 apart_from n [] h = tt
 apart_from n (w ∷ ws) h = let both = or_parts (is_at n w) (list_any (is_at n) ws) h in (flip w.node n both.0, apart_from n ws both.1)
@@ -62,7 +62,7 @@ waiting_push nodes n b (w ∷ ws) h quiet low high =
       waiting_push nodes n b ws h.3 both.1 low high,
     )
 
--- the withdrawn ones at the front may be passed
+-- the withdrawn entries at the front may be passed
 pub waiting_after : (nodes : ℕ) (ws : List Waiter) → AreWaiting nodes ws → AreWaiting nodes (after_withdrawn ws)
 waiting_after nodes [] h = tt
 waiting_after nodes (w ∷ ws) h = by w.withdrawn (waiting_after nodes ws h.3)
@@ -71,7 +71,7 @@ waiting_after nodes (w ∷ ws) h = by w.withdrawn (waiting_after nodes ws h.3)
     by true k = k
     by false k = h
 
--- the oldest may leave
+-- the oldest entry may leave
 pub waiting_rest : (nodes : ℕ) (ws : List Waiter) → AreWaiting nodes ws → AreWaiting nodes (drop 1 ws)
 waiting_rest nodes [] h = tt
 waiting_rest nodes (w ∷ ws) h = h.3

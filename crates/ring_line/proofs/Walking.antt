@@ -46,7 +46,7 @@ pub record IsWalking (allows : List ℕ → List ℕ → Type 0) (s : ArraySeat)
   pub cell_is : cell ≡ turn_cell t
   pub walking : walk.IsWalking one_slot allows s nodes (2 * length nodes) found (withdrawn_by found) t
 
--- what the next grant asks, once the cell is cleared
+-- what the next grant requires, once the cell is cleared
 pub walk_carries : (allows : List ℕ → List ℕ → Type 0) (s t d : ArraySeat) (nodes : List ℕ) (cell found : ℕ) (y : Payload) → IsWalking allows s nodes cell found t → found ≢ 0 → IsCleared t d → HasSlot s y → MatchesEnds (ghost_of s) y
     → HasSlot d y × IsNextPayload allows (ghost_of d) y
 walk_carries allows s t d nodes cell found y k more cleared slot bare =

@@ -6,8 +6,8 @@ use native.Mathlib.Decide.{ℕ_discrete}
 use lib.ListN.{get_elem?}
 use Rattle.line_generic.specs.declared.table.Payload.{Payload}
 
--- The slots below `at` are empty, and those from there on are full, as they were. Once the place is passed its line is
--- found.
+-- The slots below `at` are empty, and the slots from there on are full, as they were. Once a place is passed, its line
+-- is found.
 pub record AreEmptied (count place at : ℕ) (old items : List Payload) (filled : List Bool) (long : ℕ) (line : Payload) : Type 0 where
   pub seat : items ≡ old
   pub many : long ≡ count
@@ -37,7 +37,7 @@ empties count place at old items filled long line k items' filled' long' payload
       (λ ne. k.found (omega arith) ∙ ap some (sym (else ne)));
 }
 
--- none yet
+-- no slot is emptied yet
 pub emptied_none : (count place : ℕ) (old : List Payload) (filled : List Bool) (long : ℕ) (line : Payload) → long ≡ count → ((k : ℕ) → 0 ≤ k → k < long → slice_index_or filled k false ≡ true) → AreEmptied count place 0 old old filled long line
 emptied_none count place old filled long line many full = record { seat = refl; many = many; empty = λ k low. absurd (omega arith); full = λ k low few. full k low (omega arith); found = λ low. absurd (omega arith) }
 

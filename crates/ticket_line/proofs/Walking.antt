@@ -40,7 +40,7 @@ goes_from allows a b m n same g = record {
 pub walk_has : (m : ℕ) (allows : List ℕ → List ℕ → Type 0) (s t : ArraySeat) (nodes : List ℕ) (first ticket found : ℕ) (y : Payload) → IsWalking m allows s nodes ticket found t → found ≢ 0 → first ≡ turn_ticket s → SlotsAtGrant m first s y → SlotsAtGrant m ticket t y
 walk_has m allows s t nodes first ticket found y k more begins slot = subst (λ n. SlotsAtGrant m n t y) (sym k.ticket_is) ((k.walking.stands more).0 y (subst (λ n. SlotsAtGrant m n s y) begins slot))
 
--- what the next grant asks
+-- what the next grant requires
 pub walk_carries : (m : ℕ) (allows : List ℕ → List ℕ → Type 0) (s t d : ArraySeat) (nodes : List ℕ) (first ticket found : ℕ) (y : Payload) → IsWalking m allows s nodes ticket found t → found ≢ 0 → IsLaid m ticket t d → first ≡ turn_ticket s → SlotsAtGrant m first s y → MatchesEnds (ghost_of s) y
     → SlotsAtRelease m (turn_ticket d) d y × IsNextPayload allows (ghost_of d) y
 walk_carries m allows s t d nodes first ticket found y k more laid begins slot bare =

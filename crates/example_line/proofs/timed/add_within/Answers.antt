@@ -7,7 +7,7 @@ use Rattle.qolb_model.proofs.Going.{asks_goes}
 use Rattle.example_line.proofs.Counting.{round_places, round_unshut, round_added, ungranted_adds_nothing}
 use Rattle.example_line.proofs.timed.add_within.Goals as goal
 
--- what was asked before the turn is asked after it
+-- a request that was made before the turn is still made after it
 pub returns-in-Granted-clause-asks : goal.returns-in-Granted-clause-asks
 returns-in-Granted-clause-asks g c in_time =
     let asked = c.acquire_timeout-got.ensures.acquires.asks in_time in
