@@ -1,10 +1,11 @@
-/* Prints the numbers of qolb_layout.h, one on each line in the header's order, as the proved part has them: COUNT
- * numbers that it tells (crates/qolb_c/src/layout.rt), and the bytes of the blocks that opening a line or a lock
+/* Prints the numbers of qolb_layout.h, one on each line in the order of the header. These are COUNT numbers that the
+ * proved part returns (crates/qolb_c/src/layout.rt), and the sizes of the blocks that opening a line or a lock
  * allocates. tools/snapshot writes the header by this program, and `make -C c check` compares the two.
  *
  *   layout COUNT
  *
- * It is linked with the proved part alone: so it has its own functions for the proved part's memory. */
+ * The program is linked with the proved part alone, so it has functions of its own for the memory of the proved part.
+ */
 #include "../src/proved.h"
 #include <stdio.h>
 #include <stdlib.h>

@@ -1,32 +1,33 @@
-/* The calls on nodes, as the library exports them: each is the proved one, and a call that releases the line wakes the
- * next holder (line.h). Opening and closing are in line.c. Only these two write to a handle, so threads may have theirs
- * side by side.
+/* The calls on nodes, as the library exports them. Each makes the proved call of the same name. A call that releases
+ * the line then wakes the next holder (line.h). This file also has the waits for a turn, and the requests for a
+ * callback (callbacks.h).
  *
- * Waiting for a turn is here, and having a callback made at it (callbacks.h). Tested and explored, not proved. */
+ * line.c opens lines and frees nodes. Only these two calls write to a handle, so handles of different threads may lie
+ * side by side. This file is tested and model-checked, and not proved. */
 #define _GNU_SOURCE
 #include "hints.h"
 #include "line.h"
 #include "probes.h"
 #include "spin.h"
 
-/* The longest sleep of a busy node in nanoseconds: no call wakes it. */
+/* The longest sleep of a thread whose node is busy, in nanoseconds. No call wakes it. */
 enum { LONGEST_NAP = 200000 };
 
-/* An address for each label, for the tools that qolb.h tells of turns. */
+/* An address for each label, for the tools that qolb.h tells of grants and releases. */
 extern char qolb_lines_[1021];
 char qolb_lines_[1021];
 
 /* ---- Releasing a line ---- */
 
-/* Wakes all sleepers of the place. */
+/* Wakes all threads that sleep at the place. */
 static void wake_at(struct place *place) {
     if (!atomic_load(&place->sleepers)) return;
     atomic_fetch_add(&place->word, 1);
     qolb_wake_at_(&place->word, INT32_MAX);
 }
 
-/* Wakes the next holder, and the waiter behind it, which gets up during the holder's turn. The call of a callback comes
- * last, as it may take a while. */
+/* Wakes the next holder, and the waiter behind it, whose wake-up then overlaps the holder's critical section. A
+ * callback is called last, because it may take a while. */
 __attribute__((noinline)) static uint32_t woken(struct node *my, uint32_t got) {
     struct line *line = my->line;
     uint64_t next = qolb_went_to_proved_(&my->proved), ahead = qolb_went_ahead_proved_(&my->proved);
@@ -36,17 +37,18 @@ __attribute__((noinline)) static uint32_t woken(struct node *my, uint32_t got) {
     return got;
 }
 
-/* The answer of a call that released the line, unless it was a misuse. The load is behind the release: the proved call
- * hands the line over by an instruction that no load passes. */
+/* Ends a call that released the line, unless it was a misuse: wakes the threads that have to be woken. The load takes
+ * place after the release, because the proved call hands the line over by an instruction that no later load overtakes.
+ */
 static inline uint32_t let_go(struct node *my, uint32_t got) {
     return atomic_load(&my->line->callbacks.waiting) && got != QOLB_MISUSE ? woken(my, got) : got;
 }
 
-/* The answer of any other call. A node that is told that the line is closed has forwarded it. */
+/* Ends any other call. A node that is told that the line is closed has passed the line on, so it wakes as well. */
 static inline uint32_t told(struct node *my, uint32_t got) { return got == QOLB_CLOSED ? let_go(my, got) : got; }
 
-/* The answer of a call that asks. In a notification's call, a node that is busy may be so until another such call has
- * released. */
+/* Ends a call that makes a request. In the function of a notification, a node may stay busy until another notification,
+ * which this thread has put off, has released its line. Therefore the notifications that are put off are made here. */
 static inline uint32_t asked(struct node *my, uint32_t got) {
     if (__builtin_expect(got == QOLB_BUSY, 0)) qolb_make_put_off_();
     return told(my, got);
@@ -105,13 +107,15 @@ static inline struct probed of_node(struct node *my) {
     return (struct probed){qolb_label_proved_(&my->proved), qolb_number_proved_(&my->proved), (uintptr_t)my->line};
 }
 
-/* The most nodes that may be before one that waits: all others on a line of few, else unknown. */
+/* Returns an upper bound on the nodes before one that waits: all others, if the line has few nodes, and otherwise that
+ * it is unknown. */
 static uint64_t most_before(const struct node *my) {
     uint32_t others = my->line->nodes - 1;
     return others < 2 * processors() ? others : UNKNOWN_TURNS;
 }
 
-/* Polls until it is time to sleep, or the timeout is over: GRANTED, CLOSED, WAITING. It polls at least once. */
+/* Polls until it is time to sleep, or the timeout has expired. It polls at least once. Returns GRANTED, CLOSED or
+ * WAITING. */
 static uint32_t spin(struct node *my, const struct limit *limit, struct spin *spun) {
     uint64_t before = most_before(my);
     const char *slot = slot_of(my);
@@ -122,7 +126,8 @@ static uint32_t spin(struct node *my, const struct limit *limit, struct spin *sp
     }
 }
 
-/* The node's place does not change until it is granted the line. */
+/* Sleeps at the node's place, which does not change until the node is granted the line. It polls once between counting
+ * itself as a sleeper and the sleep. */
 static uint32_t sleep_at_place(struct node *my, const struct limit *limit) {
     struct place *place = place_at(my->line, qolb_waits_at_proved_(&my->proved));
     atomic_fetch_add(&place->sleepers, 1);
@@ -145,7 +150,7 @@ static uint32_t give_up_turn(struct node *my) {
     return got == QOLB_WITHDRAWN ? (uint32_t)QOLB_TIMEDOUT : got;
 }
 
-/* Waits until the request is at its turn: GRANTED, CLOSED, TIMEDOUT. */
+/* Waits until the request is at its turn. Returns GRANTED, CLOSED or TIMEDOUT. */
 static uint32_t await_turn(struct node *my, const struct limit *limit) {
     struct spin spun = {.yields_from = YIELD_UNSURE};
     for (;;) {
@@ -161,7 +166,7 @@ static void nap_busy(uint64_t most) {
     qolb_sleep_at_(&nobody_wakes, 0, most < LONGEST_NAP ? most : LONGEST_NAP);
 }
 
-/* Repeats the request while the node is busy: the final answer, or TIMEDOUT. */
+/* Repeats the request while the node is busy. Returns the last result, or TIMEDOUT. */
 static uint32_t ask_again(struct node *my, const struct limit *limit) {
     struct spin spun = {0};
     uint32_t got = QOLB_BUSY;
@@ -174,8 +179,8 @@ static uint32_t ask_again(struct node *my, const struct limit *limit) {
     return got;
 }
 
-/* The answer of a waiting call, for a node that made a request and was not granted the line at once: the wait of one
- * that is busy, or whose request waits. */
+/* Goes on with a call that waits, if the line was not granted at once: waits while the node is busy or its request
+ * waits. */
 __attribute__((noinline)) static uint32_t acquired(struct node *my, uint32_t got, struct limit limit) {
     if (got == QOLB_BUSY || got == QOLB_QUEUED) {
         PROBE(wait, of_node(my));
@@ -200,8 +205,8 @@ enum qolb_result qolb_acquire_within(qolb_node *node, uint64_t nanoseconds) { re
 
 /* ---- Having a callback made (callbacks.h) ---- */
 
-/* Puts the callback into the line's list, by the place at which the node waits, and polls: WAITING, and the call will
- * be made; any other answer, and it will not. */
+/* Puts the callback into the line's list, with the place at which the node waits as its key, and polls. The callback
+ * will be called if the result is WAITING, and only then. */
 static uint32_t want_call(struct node *my) {
     struct callbacks *of = &my->line->callbacks;
     my->callback.key = qolb_waits_at_proved_(&my->proved);
@@ -285,5 +290,5 @@ uint32_t qolb_state(qolb_node *node) {
     return my ? qolb_state_proved_(&my->proved) : (uint32_t)QOLB_STATE_EMPTY;
 }
 
-/* The version of the library that the program runs with, which may be another than that of its header. */
+/* The library that a program runs with may have another version than the header that it was compiled with. */
 uint32_t qolb_version(void) { return QOLB_VERSION; }

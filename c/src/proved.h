@@ -1,9 +1,9 @@
-/* For the library's internal files: the proved calls on nodes, as crates/qolb_c/src/lib.rt exports them. A call
- * of qolb.h has the same name without _proved_, and is in calls.c. The calls on locks are in core.h.
+/* The proved calls on nodes, as crates/qolb_c/src/lib.rt exports them. calls.c and line.c make them: a call of qolb.h
+ * has the same name without _proved_. The proved calls on locks are in core.h.
  *
- * What no call can see, and the caller owes (docs/PROVED.md): a handle of zeros, or as its last call left it, in one
- * call at a time, and not copied: it may be moved; other arguments that point to what their types say, and overlap
- * neither one another nor the handle. */
+ * No call can check these rules, which the callers must keep (docs/PROVED.md): a handle consists of zeros, or is as its
+ * last call left it. It is used by one call at a time, and is not copied, but it may be moved. Other arguments point to
+ * what their types say, and overlap neither one another nor the handle. */
 #ifndef QOLB_PROVED_H
 #define QOLB_PROVED_H
 
@@ -31,16 +31,17 @@ uint64_t qolb_number_proved_(qolb_node *node);
 uint64_t qolb_label_proved_(qolb_node *node);
 uint32_t qolb_state_proved_(qolb_node *node);
 uint64_t qolb_memory_proved_(uint32_t kind, uint64_t nodes);
-/* Writes the first LAYOUT_TOLD numbers of ../proved/qolb_layout.h, in its order. */
+/* Writes the first LAYOUT_TOLD numbers of ../proved/qolb_layout.h, in the order of that file. */
 void qolb_layout_proved_(uint64_t *numbers);
 
-/* Numbers of words of the node's line, on which nodes wait. They name a place and nothing more: these calls read no
- * word.
+/* These three calls return the numbers of words of the node's line on which nodes wait. A number only names a place:
+ * these calls read no word.
  *
- * The place of the node's own request; the same from the request until its grant. */
+ * Returns the place of the node's own request, which stays the same from the request until its grant. */
 uint64_t qolb_waits_at_proved_(qolb_node *node);
-/* The place of the next holder after the node's last release, or after it was told that the line is closed; and that of
- * the waiter behind it. The first is proved, the second is not. If there is none, a number at which no node waits. */
+/* Return the place of the next holder, and that of the waiter behind the next holder, after the node's last release or
+ * after it was told that the line is closed. The first is proved, the second is not. If there is no such node, they
+ * return a number at which no node waits. */
 uint64_t qolb_went_to_proved_(qolb_node *node);
 uint64_t qolb_went_ahead_proved_(qolb_node *node);
 

@@ -1,8 +1,8 @@
-/* How a waiter with a node rests between polls, by a clock that the program advances: how often it requests and polls,
- * how long it sleeps, and when it is late; its answer if the line is granted, or closed, between the last poll and the
- * withdrawal; and which calls wake sleepers, and which sleepers. Linked with --wrap for clock_gettime, nanosleep,
- * sched_yield, syscall and for the proved calls that request, poll, withdraw and name the next holder. One thread does
- * what several would. Prints only errors. */
+/* Tests how a thread waits with a node, with a clock that the program advances: how often it requests and polls, how
+ * long it sleeps, and when it times out. Also tested are what a call returns if the line is granted or closed between
+ * the last poll and the withdrawal, and which calls wake which sleepers. One thread does what several would do. Linked
+ * with --wrap for clock_gettime, nanosleep, sched_yield, syscall, and the proved calls that request, poll, withdraw and
+ * name the next holder. Prints only errors. */
 #define _GNU_SOURCE
 #include "want.h"
 #include <proved.h>
@@ -21,31 +21,36 @@
 enum { US = 1000, MS = 1000000 };
 #define NEVER UINT64_MAX
 
-/* The time, in nanoseconds; and since `begins` the numbers of clock calls and rests, the longest time that a sleep may
- * have lasted, the node's numbers of requests, polls and spins, the number of times that it was asked for the next
- * holder, the number of wakes, and the calls that a waiter must not make. */
+/* The time in nanoseconds; and, counted since `begins`, the clock calls, the yields and sleeps, the longest time that a
+ * sleep may have lasted, the requests, polls and spins of the node, how often it was asked for the next holder, the
+ * wakes, and the calls that a waiter must not make. */
 static uint64_t now, clocks, yields, sleeps, longest, asks, spins, spun, looks, names, wakes, wrong;
 
-/* How often a node polls before it sleeps, each 60 ns, as qolb.h says: for 50 us on a line of no more nodes than
- * processors, here four, and for 20 us on others; at least for 2 us, and once it has slept, for 10. It pauses while 90
- * ns are left. A poll is before the pauses and behind each, and one more is before the sleep. */
-enum { PAUSE = 60 };
+/* How often a node polls before it sleeps, as qolb.h says, with four processors. It polls every 60 ns: for 50 us on a
+ * line of at most eight nodes, and for 20 us on other lines. It polls for at least 2 us, and for at least 10 us once it
+ * has slept. It pauses as long as 90 ns are left. There is one poll before the pauses, one after each pause, and one
+ * before the sleep. */
+enum { PROCESSORS = 4, PAUSE = 60 };
 #define POLLS(nanoseconds) (((nanoseconds)-90) / PAUSE + 1)
 enum { NEAR = POLLS(50000), UNKNOWN = POLLS(20000), LEAST = POLLS(2000) };
-/* The same behind a spin that ended with a sleep: half as often, and an eighth of that more. */
+/* On a line of five to eight nodes it pauses nine times, until 500 ns are over, and then yields in place of each pause.
+ * A yield counts as 500 ns. */
+enum { FIRST_PAUSES = 9, YIELD = 500 };
+#define YIELDS(nanoseconds) (((nanoseconds)-90 - FIRST_PAUSES * PAUSE) / YIELD + 1)
+/* The same after a spin that ended with a sleep: half as often, and an eighth of that more. */
 enum { LESS = POLLS(NEAR * PAUSE / 2 * 9 / 8) };
-/* How long 64 pauses take by the clock in each of the runs in which they are timed, between two clock calls; the number
- * of clock calls for that. */
+/* How long 64 pauses take by the clock in each run in which they are timed, between two clock calls, and the number of
+ * these clock calls. */
 enum { TIMED = 5 };
 static uint64_t lasts[TIMED];
 static unsigned timed = 2 * TIMED;
 
-/* The words of the first sleeps and wakes since then, in their order. */
+/* The words of the first sleeps and wakes since `begins`, in their order. */
 enum { NOTED = 8 };
 static const void *slept_at[NOTED], *woken_at[NOTED];
 
-/* An action at the first clock call at this time or later, at this number of yields, during this number of sleeps,
- * before this number of polls or requests, or before a request is withdrawn. It happens once. */
+/* An action that happens once: at the first clock call at this time or later, at this yield, during this sleep, before
+ * this poll or request, or before a request is withdrawn. */
 static struct {
     void (*does)(void);
     uint64_t at, at_yield, at_sleep, at_look, at_ask;
@@ -89,7 +94,8 @@ int __wrap_sched_yield(void) {
     return 0;
 }
 
-/* A sleep without a limit ends for no reason, and so does one in which something happens; any other takes its time. */
+/* Sleeps. A sleep without a timeout ends for no reason, and so does one in which something happens. Any other sleep
+ * lasts until its timeout. */
 static void sleep_for(const struct timespec *most) {
     uint64_t lasts = most ? (uint64_t)most->tv_sec * 1000000000 + (uint64_t)most->tv_nsec : NEVER;
     if (most && (most->tv_nsec < 0 || most->tv_nsec >= 1000000000)) wrong++;
@@ -146,7 +152,7 @@ uint64_t __wrap_qolb_went_to_proved_(qolb_node *node) {
     return __real_qolb_went_to_proved_(node);
 }
 
-/* The calling thread forgets what its spins taught it. */
+/* Begins a test. The calling thread forgets what it has learned about spinning. */
 static void begins(void (*does)(void)) {
     for (int k = 0; k < SPINS; k++) qolb_learned_[k] = 0;
     clocks = yields = sleeps = longest = asks = spins = spun = looks = names = wakes = 0;
@@ -158,7 +164,7 @@ static void begins(void (*does)(void)) {
 
 /* ---- How often a waiter polls ---- */
 
-/* The pauses in 1,024 ns, of which the quickest run counts: 1 to 1,024. */
+/* The number of pauses in 1,024 ns, by the quickest run, is 1 to 1,024. */
 static int counts_pauses(void) {
     static const struct {
         uint64_t runs[TIMED];
@@ -180,8 +186,8 @@ static int counts_pauses(void) {
     return 0;
 }
 
-/* A process that may use one processor only, here a child, counts no pauses, and polls once before it sleeps. One that
- * keeps another thread at a processor counts them. */
+/* A process that may use only one processor counts no pauses, and polls once before it sleeps. Here this is a child. A
+ * process that keeps only another thread at one processor counts pauses. */
 static int sleeps_at_once(void) {
     qolb_bytes zeros = {{0}};
     qolb_node n[2] = {{0}};
@@ -221,10 +227,11 @@ static void shuts(void) {
     if (qolb_shut(holder) != QOLB_DONE) wrong++;
 }
 
-/* Without a grant, while the first node holds the line. */
+/* The node times out, because the first node holds the line. */
 static int late(qolb_node *n) {
-    /* For 20 ms, while it waits and while it is busy: late to the nanosecond. Waiting, it polls, polls for 50 us and
-     * once more, and sleeps as long as it may. Busy, it requests again for 20 us, and then every 200 us. */
+    /* It times out after 20 ms to the nanosecond, while it waits and while it is busy. While it waits, it polls once,
+     * polls for 50 us, polls once more, and sleeps for the rest. While it is busy, it requests again for 20 us, and
+     * then every 200 us. */
     for (unsigned busy = 0; busy < 2; busy++) {
         uint64_t since = now;
         begins(NULL);
@@ -237,7 +244,7 @@ static int late(qolb_node *n) {
         WANT(yields + spins, 0);
         WANT(qolb_state(&n[1]), QOLB_STATE_ROLLED);
     }
-    /* For less than a nap; and for no time at all: it still makes a request, and polls if it waits. */
+    /* Its timeout is shorter than a nap, or 0. It still makes a request, and polls if it waits. */
     uint64_t since = now;
     WANT(qolb_acquire_within(&n[1], 50 * US), QOLB_TIMEDOUT);
     WANT(now - since, 50 * US);
@@ -252,8 +259,8 @@ static int late(qolb_node *n) {
     return 0;
 }
 
-/* It waits as long as it takes, and reads no clock but around a yield: it sleeps, and if it is woken for no reason it
- * yields and polls anew. A release wakes it, by one call. */
+/* A wait without a timeout reads the clock only around a yield. It sleeps, and if it is woken for no reason it yields
+ * and polls again. A release wakes it, by one system call. */
 static int sleeps_on(qolb_node *n, int limited) {
     holder = &n[0];
     begins(releases);
@@ -272,7 +279,7 @@ static int sleeps_on(qolb_node *n, int limited) {
     return 0;
 }
 
-/* The line is granted while it waits: while it sleeps with the longest limit, while it spins, and while it is busy. */
+/* The line is granted while the node sleeps with the longest timeout, while it spins, and while it is busy. */
 static int granted(qolb_node *n) {
     holder = &n[0];
     begins(releases);
@@ -300,8 +307,8 @@ static int granted(qolb_node *n) {
     return 0;
 }
 
-/* Granted at once it neither polls nor rests; a try makes one request, and does neither. A release without waiters
- * makes no system call. */
+/* A node that is granted the line at once neither polls nor rests. A try makes one request, and neither polls nor
+ * rests. A release without waiters makes no system call. */
 static int at_once(qolb_node *n) {
     begins(NULL);
     WANT(qolb_acquire(&n[1]), QOLB_GRANTED);
@@ -315,7 +322,8 @@ static int at_once(qolb_node *n) {
     return 0;
 }
 
-/* The time is over, and the line is granted before the withdrawal: it is granted. Or the line is closed: it is told. */
+/* The timeout expires, but before the withdrawal the line is granted or closed. The node is granted the line, or is
+ * told. */
 static int at_the_end(qolb_node *n) {
     WANT(qolb_acquire(&n[1]), QOLB_GRANTED);
     holder = &n[1];
@@ -344,52 +352,77 @@ static int rests(uint32_t kind) {
     return 0;
 }
 
-/* The polls of the next spin that ends with a sleep, and its length: an eighth more than it was, at most 50 us; on a
- * line of more nodes than processors it ends after 20 us. Half of it is left, but not less than the least. */
-static uint64_t next_spin(uint64_t *length, uint64_t nodes, uint64_t least) {
+static int may_all_run(uint64_t nodes) { return nodes <= PROCESSORS; }
+static int are_too_many_to_tell(uint64_t nodes) { return nodes > 2 * PROCESSORS; }
+
+/* A spin that ends with a sleep: how often the node pauses or yields, and how often it yields. */
+struct rests {
+    uint64_t all, yields;
+};
+
+static struct rests rests_in(uint64_t length, uint64_t nodes) {
+    if (may_all_run(nodes) || are_too_many_to_tell(nodes)) return (struct rests){POLLS(length), 0};
+    return (struct rests){FIRST_PAUSES + YIELDS(length), YIELDS(length)};
+}
+
+/* Returns the next spin that ends with a sleep. Its length is an eighth more than before, but at most 50 us. On a line
+ * with more than twice as many nodes as processors it ends after 20 us. The last yield counts as no more than what is
+ * left. Afterwards the length is half of it, but not below `least`. */
+static struct rests next_spin(uint64_t *length, uint64_t nodes, uint64_t least) {
     uint64_t grown = *length + *length / 8;
     *length = *length && grown < 50000 ? grown : 50000;
-    uint64_t polls = POLLS(nodes > 4 && *length > 20000 ? 20000 : *length), half = polls * PAUSE / 2;
+    if (are_too_many_to_tell(nodes) && *length > 20000) *length = 20000;
+    struct rests spin = rests_in(*length, nodes);
+    uint64_t lasts = (spin.all - spin.yields) * PAUSE + spin.yields * YIELD;
+    uint64_t half = (lasts < *length ? lasts : *length) / 2;
     *length = half > least ? half : least;
-    return polls;
+    return spin;
 }
 
 /* Each spin that ends with a sleep makes the next one shorter, down to the least. A spin after a sleep has a length of
- * its own. On a line of more nodes than processors both are shorter. */
+ * its own, and a yield before its first pause. */
 static int learns(uint32_t kind, uint64_t nodes) {
+    enum { MOST = 9 };
     qolb_bytes zeros = {{0}};
-    qolb_node n[6] = {{0}};
-    uint64_t length[2] = {0, 0}, first = 0, woken = 0;
+    qolb_node n[MOST] = {{0}};
+    uint64_t length[2] = {0, 0};
+    struct rests first = {0}, woken = {0};
     WANT(qolb_open(kind, 1, nodes, QOLB_NO_LEASE, &zeros, n, nodes), QOLB_DONE);
     WANT(qolb_acquire(&n[0]), QOLB_GRANTED);
     begins(NULL);
     for (unsigned k = 0; k < 20; k++) {
-        looks = 0;
+        looks = yields = 0;
         holder = &n[k % 2];
         event.does = releases;
         event.at_sleep = sleeps + 2;
         WANT(qolb_acquire(&n[1 - k % 2]), QOLB_GRANTED);
         first = next_spin(&length[0], nodes, 2000);
         woken = next_spin(&length[1], nodes, 10000);
-        WANT(looks, first + 2 + woken + 2 + 1);
+        WANT(looks, first.all + 2 + woken.all + 2 + 1);
+        WANT(yields, first.yields + 1 + woken.yields);
     }
-    WANT(first >= LEAST && first <= LEAST * 3 / 2, 1);
-    WANT(woken, POLLS(10000 * 9 / 8));
+    struct rests least = rests_in(2000, nodes), least_woken = rests_in(10000 * 9 / 8, nodes);
+    WANT(first.all >= least.all && first.all <= least.all * 3 / 2, 1);
+    WANT(woken.all, least_woken.all);
+    WANT(woken.yields, least_woken.yields);
     for (unsigned k = 0; k < 60; k++) {
         holder = &n[k % 2];
         event.does = releases;
         event.at_look = looks + 2;
         WANT(qolb_acquire(&n[1 - k % 2]), QOLB_GRANTED);
     }
-    looks = 0;
+    looks = yields = 0;
     WANT(qolb_acquire_within(&n[1], MS), QOLB_TIMEDOUT);
-    WANT(looks, (nodes > 4 ? UNKNOWN : NEAR) + 2);
+    if (may_all_run(nodes)) WANT(looks, NEAR + 2);
+    else if (are_too_many_to_tell(nodes)) WANT(looks, UNKNOWN + 2);
+    else WANT(looks, FIRST_PAUSES + YIELDS(50000) + 2);
+    WANT(yields, may_all_run(nodes) || are_too_many_to_tell(nodes) ? 0 : YIELDS(50000));
     WANT(qolb_deqolb(&n[0]), QOLB_DONE);
     for (uint64_t k = 0; k < nodes; k++) WANT(qolb_node_free(&n[k]), QOLB_DONE);
     return 0;
 }
 
-/* A try that finds at its withdrawal that the line is granted, or is closed. */
+/* A try finds at its withdrawal that the line is granted, or that it is closed. */
 static int withdraws_late(uint32_t kind, int is_shut) {
     qolb_bytes zeros = {{0}};
     qolb_node n[2] = {{0}};
@@ -405,7 +438,7 @@ static int withdraws_late(uint32_t kind, int is_shut) {
     return 0;
 }
 
-/* ---- Wakes by a node that is told that the line is closed, and so forwards it ---- */
+/* ---- Wakes by a node that is told that the line is closed, and that therefore passes the line on ---- */
 
 static qolb_node *teller;
 static uint32_t (*tells)(qolb_node *node);
@@ -416,7 +449,7 @@ static uint32_t waits(qolb_node *node) { return qolb_spin(node, 1); }
 static uint32_t acquires(qolb_node *node) { return qolb_acquire(node); }
 static uint32_t acquires_within(qolb_node *node) { return qolb_acquire_within(node, MS); }
 
-/* While one sleeps: the teller makes its call, before which its line may be shut. */
+/* Makes the teller's call while one node sleeps. Before the call, the line may be shut. */
 static void is_told(void) {
     if (holder) shuts();
     uint64_t woken = wakes, asked = names;
@@ -425,7 +458,7 @@ static void is_told(void) {
     named = names - asked;
 }
 
-/* The second node is before one that sleeps, and polls, withdraws or links only after the line was shut. */
+/* The second node is before one that sleeps. It polls, withdraws or links only after the line was shut. */
 static int passes_on(uint32_t kind, uint32_t (*call)(qolb_node *node), int links) {
     qolb_bytes zeros = {{0}};
     qolb_node n[3] = {{0}};
@@ -444,8 +477,8 @@ static int passes_on(uint32_t kind, uint32_t (*call)(qolb_node *node), int links
     return 0;
 }
 
-/* A request on a closed line is told at once, and may have forwarded the line to a sleeper behind it. Here no node of
- * its line waits, and a sleeper of another line is not woken: the call does not even ask for the next holder. */
+/* A request on a closed line is told at once, and may have passed the line on to a sleeper behind it. Here no node of
+ * the line waits, and a sleeper of another line is not woken: the call does not even ask for the next holder. */
 static int asks_a_closed_one(uint32_t kind, uint32_t (*call)(qolb_node *node)) {
     qolb_bytes zeros = {{0}};
     qolb_node n[2] = {{0}}, closed = {0};
@@ -475,7 +508,7 @@ static void shuts_other(void) {
     if (qolb_shut(other) != QOLB_DONE) wrong++;
 }
 
-/* The line is closed as the node's time is over; or while it is busy. */
+/* The line is closed when the node's timeout expires, or while the node is busy. */
 static uint32_t is_told_as_it_gives_up(qolb_node *node) {
     event.does = shuts_other;
     event.at_withdrawal = 1;
@@ -494,8 +527,8 @@ static void is_not_called(void *unused) {
     wrong++;
 }
 
-/* A node that is told of the shut line late asks for the next holder, as the node did that shut it: a third has left a
- * wish for a call behind, and so counts as one that waits. */
+/* A node that is told late of the shut line asks for the next holder, as the node that shut it did. A third node counts
+ * as a waiter, because it has left a requested notification behind. */
 static int is_told_late(uint32_t kind, uint32_t (*call)(qolb_node *node)) {
     qolb_bytes zeros = {{0}};
     qolb_node n[3] = {{0}};
@@ -512,7 +545,7 @@ static int is_told_late(uint32_t kind, uint32_t (*call)(qolb_node *node)) {
     return 0;
 }
 
-/* A misuse releases nothing, and wakes no thread: of an empty handle, and of a node that does not hold the line. */
+/* A misuse, with an empty handle or with a node that does not hold the line, releases nothing and wakes no thread. */
 static int misuse_wakes_nobody(uint32_t kind, uint32_t (*call)(qolb_node *node)) {
     qolb_bytes zeros = {{0}};
     qolb_node n[3] = {{0}}, empty = {0};
@@ -554,12 +587,12 @@ static qolb_node *nodes;
 static uint32_t (*waits_as)(unsigned k);
 static void (*lets_go)(void);
 
-/* The first waits as long as it takes; the others are late, as their sleeps end while it sleeps. */
+/* The first node waits without a timeout. The others time out, because their sleeps end while it sleeps. */
 static uint32_t acquires_as(unsigned k) {
     return k ? qolb_acquire_within(&nodes[k], 20 * MS) : qolb_acquire(&nodes[0]);
 }
 
-/* While one sleeps the next waits and sleeps, too, and while the last does the line is released. */
+/* While one node sleeps, the next one waits and sleeps, too. While the last one sleeps, the line is released. */
 static void next_sleeps(void) {
     unsigned k = (unsigned)sleeps;
     if (k == SLEEPERS) {
@@ -571,7 +604,7 @@ static void next_sleeps(void) {
     if (waits_as(k) != QOLB_TIMEDOUT) wrong++;
 }
 
-/* Three sleep, each at its own word, and this many of them are woken, in their order. */
+/* Three nodes sleep, each at a word of its own. This number of them is woken, in their order. */
 static int wakes_so_many(uint32_t (*as)(unsigned k), void (*by)(void), unsigned many, uint32_t then) {
     waits_as = as;
     lets_go = by;
@@ -584,7 +617,7 @@ static int wakes_so_many(uint32_t (*as)(unsigned k), void (*by)(void), unsigned 
     return 0;
 }
 
-/* Also if it passes a withdrawn request. */
+/* A release wakes two, also if it passes a withdrawn request. */
 static int wakes_two(uint32_t kind, int passes) {
     qolb_bytes zeros = {{0}};
     qolb_node n[2 + SLEEPERS] = {{0}};
@@ -605,7 +638,7 @@ static void shuts_and_is_told(void) {
     if (qolb_poll(other) != QOLB_CLOSED) wrong++;
 }
 
-/* The same of a node that closes the line, and of the next one, awake, which forwards the closed line. */
+/* So does a node that closes the line, and so does the next node, which is awake and passes the closed line on. */
 static int closing_wakes_two(uint32_t kind, int passes_on) {
     qolb_bytes zeros = {{0}};
     qolb_node n[2 + SLEEPERS] = {{0}};
@@ -620,7 +653,7 @@ static int closing_wakes_two(uint32_t kind, int passes_on) {
     return 0;
 }
 
-/* If the next holder is awake, though it has slept at that place before, only the waiter behind it is woken. */
+/* If the next holder is awake, although it has slept at its place before, only the waiter behind it is woken. */
 static int wakes_behind_one_awake(uint32_t kind) {
     qolb_bytes zeros = {{0}};
     qolb_node n[3] = {{0}};
@@ -642,7 +675,7 @@ static int wakes_behind_one_awake(uint32_t kind) {
     return 0;
 }
 
-/* No two waiting nodes of a line sleep at one word, for any number of nodes; nor do nodes of two lines. */
+/* No two waiting nodes of a line sleep at the same word, for any number of nodes. Neither do nodes of two lines. */
 static int each_has_its_place(uint32_t kind) {
     enum { MOST = 200 };
     qolb_bytes zeros = {{0}};
@@ -672,7 +705,7 @@ static int wakes_whom_it_should(uint32_t kind) {
     return wakes_behind_one_awake(kind) || each_has_its_place(kind);
 }
 
-/* ---- Woken without a grant: the rest of the time is used ---- */
+/* ---- A node that is woken without a grant uses the rest of its time ---- */
 
 static void time_passes(void) { now += 5 * MS; }
 
@@ -699,14 +732,15 @@ static int woken_for_nothing(uint32_t kind) {
 }
 
 int main(void) {
-    alarm(60); /* who never looks at the clock, or never rests, does not end */
+    alarm(60); /* a thread that never looks at the clock, or never rests, does not end */
     now = 5000000000;
     if (counts_pauses() || has_one_processor()) return 1;
-    atomic_store(&qolb_pauses_, 80); /* also where there is one processor */
-    atomic_store(&qolb_processors_, 4);
+    atomic_store(&qolb_pauses_, 80); /* it is set because there may be one processor */
+    atomic_store(&qolb_processors_, PROCESSORS);
     for (uint32_t kind = 0; kind < QOLB_KINDS; kind++)
-        if (rests(kind) || learns(kind, 2) || learns(kind, 6) || withdraws_late(kind, 0) || withdraws_late(kind, 1) ||
-            each_passes_on(kind) || wakes_whom_it_should(kind) || woken_for_nothing(kind))
+        if (rests(kind) || learns(kind, 2) || learns(kind, 4) || learns(kind, 5) || learns(kind, 8) ||
+            learns(kind, 9) || withdraws_late(kind, 0) || withdraws_late(kind, 1) || each_passes_on(kind) ||
+            wakes_whom_it_should(kind) || woken_for_nothing(kind))
             return 1;
     WANT(wrong, 0);
     return 0;
