@@ -109,7 +109,7 @@ impl<A> Stress<A> {
         self.told.fetch_add(counts.told, Ordering::SeqCst);
     }
 
-    /// Returns `true` if the time is over or the clock can't be read.
+    /// Returns `true` if the time is over or the clock cannot be read.
     fn is_over<R: Clock>(&self, rt: &R) -> bool {
         match self.start.elapsed(rt) {
             Ok(spent) => spent >= self.time,

@@ -42,7 +42,7 @@ use Rattle.example_line.specs.Counter.{rise, added_by, Adds, AddsJust, HasAdded}
 one_more : (x y : ℕ) → y ≡ (x + 1) % 2 ^ 64 → (y + (2 ^ 64 - x % 2 ^ 64)) % 2 ^ 64 ≡ 1
 one_more x y e = omega (arith, e)
 
--- a port that released the line may ask
+-- a port that released the line may make a request
 pub released_quiet : (allows : List ℕ → List ℕ → Type 0) (held new : View) (write : Write) → Releases allows false held new write → may_ask new.state ≡ true
 released_quiet allows held new write releases =
     let shut = closes held.config.lease held.ends false in

@@ -27,7 +27,7 @@ use Rattle.line_blocking.specs.Acquiring.{Acquires, AcquiresTimed, ComesSoon, En
 some_node : (v : View) (config : LineConfig) → v.config ≡ config → 1 ≤ v.node → v.node ≤ config.nodes → length v.ends < length v.ends + v.config.nodes
 some_node v config is low high = let e = ap (λ (t : LineConfig). t.nodes) is in omega arith
 
--- a port that was busy may ask again
+-- a port that was busy may make another request
 pub quiet_busy : (old new : View) → IsBusy old new → may_ask new.state ≡ true
 quiet_busy old new b = by b.was
   where

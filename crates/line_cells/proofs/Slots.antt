@@ -16,7 +16,7 @@ module _ (slot_layout : SlotLayout) where
   abbrev pub AreSpare : ℕ → Payload → Homes → Type 0
   AreSpare ended y homes = (k : ℕ) → k < slot_layout.count → (slot_layout.is_out ended k → ⊥) → IsSpare y.turns_left y.closed homes k
 
-  -- if no node has the line, a node may take it, and then has it as it was granted
+  -- if no node has the line, a node may take it, and then has it as if it had been granted
   abbrev pub MayTake : Type 0
   MayTake = (ended : ℕ) (homes : Homes) (y : Payload) → length homes ≡ slot_layout.count → get_elem? homes (slot_layout.home_slot ended) ≡ some (some y) → ((k : ℕ) → k < slot_layout.count → IsSpare y.turns_left y.closed homes k)
       → (act : Act Payload) × Valid homes [] act × (length (homes_after homes [] act) ≡ length homes) × slot_layout.slots_at_grant ended y (carried_after [] act) × AreSpare ended y (homes_after homes [] act)

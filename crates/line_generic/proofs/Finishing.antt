@@ -20,7 +20,7 @@ use Rattle.line_generic.specs.Finish.{HasJoinedSome, IsGathered}
 abbrev pub views : List PortModel → List View
 views ports = map (λ (p : PortModel). p.view) ports
 
--- a port that may ask does not hold
+-- a port that may make a request does not hold the line
 quiet_holds : (state : PortState) → may_ask state ≡ true → state ≡ port_state.Holding → ⊥
 quiet_holds state quiet is = let e : may_ask state ≡ false = ap may_ask is in absurd (cc (quiet, e))
 

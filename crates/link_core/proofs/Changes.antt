@@ -66,7 +66,7 @@ module _ {c d : State} {n : ℕ} {s : NodeCall} {k : ℕ} {w : Entry} (ch : Chan
   pub point_own : point d n ≡ s.point
   point_own = ap (λ (t : NodeCall). t.point) ch.seat_own
 
-  -- a node at another point isn't n
+  -- a node at another point is not n
   pub at_other : (m : ℕ) (p q : Point) → point c n ≡ p → point c m ≡ q → (p ≡ q → ⊥) → m ≢ n
   at_other m p q a b ne e = ne (sym a ∙ ap (point c) (sym e) ∙ b)
 

@@ -29,8 +29,8 @@ and_false : (a : Bool) → (a && false) ≡ false
 and_false true = refl
 and_false false = refl
 
--- a withdrawn request that is not freed isn't clear; nor is that of a node with the line in its hand, which isn't
--- withdrawn
+-- A withdrawn request that is not freed is not clear. Neither is the request of a node with the line in its hand, which
+-- is not withdrawn.
 pub rolled_unfreed : (w : Entry) → w.freed ≡ false → is_clear Rolled w ≡ false
 rolled_unfreed w e = rw e refl
 

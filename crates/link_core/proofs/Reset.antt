@@ -31,7 +31,7 @@ module _ (config : LineConfig) (c : State) (h : Queue) (n : ℕ) (s : Matches co
   none_passed : (seat c n).passed ≡ []
   none_passed = s.unpassed n is (elim at [ inl e ↦ ap (λ (p : Point). has_line p || is_freeing p) e | inr e ↦ ap (λ (p : Point). has_line p || is_freeing p) e ])
 
-  -- a node at another point isn't n
+  -- a node at another point is not n
   not_n : (m : ℕ) (q : Point) → point c m ≡ q → (Idle ≡ q → ⊥) → (Shut ≡ q → ⊥) → m ≢ n
   not_n m q e a b f = elim at [ inl g ↦ a (sym g ∙ ap (point c) (sym f) ∙ e) | inr g ↦ b (sym g ∙ ap (point c) (sym f) ∙ e) ]
 

@@ -79,8 +79,7 @@ end_unqueued Own = refl
 end_unqueued Closing = refl
 end_unqueued Refused = refl
 
--- a withdrawn request that is freed and not clear was left with the line, and the next request is about to be linked to
--- it
+-- a withdrawn request that is freed and not clear was left with the line, and the next request is about to link to it
 module _ {config : LineConfig} {c : Core} {q : Queue} (s : Shows config c q) (joined : List Request) (unjoined : (n x : ℕ) → IsNode c n → point c n ≡ Linking x → Lacks joined (last_of n q.order)) (r : Request) (node : IsNode c r.node) (f : IsFreed c q.order r) (un : Lacks q.clear r) where
   parts : (b : Bool) (w : Entry) → w.freed ≡ true → w.done ≡ b → is_clear Rolled w ≡ false → (w.done ≡ true) × (w.link ≡ 0)
   parts false w fr d e = absurd (never (undone w fr d) e)

@@ -172,7 +172,8 @@ leaving_unlinking Left a = cc
 leaving_unlinking Rolled a = cc
 leaving_unlinking Shut a = cc
 
--- the line z is in the hand of v's node: the history x is the invariant's x0 but for what that node did in its hand
+-- The line z is in the hand of v's node. The history x is the invariant's x0, except for what that node did in its
+-- hand.
 pub record Holds (good : List ℕ → Type 0) (allows : List ℕ → List ℕ → Type 0) (key : TableKey) (x0 : History) (v : LinkGhost) (z : Payload) (x : History) : Type 0 where
   pub via : Via good allows key x0 v x
   pub home : x.core.home ≡ x0.core.home

@@ -178,7 +178,7 @@ pub not-not : (b : Bool) → not (not b) ≡ b
 not-not true = refl
 not-not false = refl
 
--- a node that may ask is clear if it has no entry
+-- a node that may make a request is clear if it has no entry
 pub clear-answer : (line : PlainView) (s : OwnerState) (node : ℕ) → Agrees line s → may_ask (node_state line node) ≡ true → 1 ≤ node → node ≤ line.nodes → (b : Bool) → list_any (is_at node) line.waiting ≡ b → not b ≡ clear_answer s node
 clear-answer line s node a may low high true waits = ap not (sym (rolled line s node a may waits))
 clear-answer line s node a may low high false quiet = ap not (sym (not_rolled line s node a low high quiet))

@@ -65,7 +65,7 @@ seen_holding port.Shut e = cc e
 same_write : (a b : Write) → a.mask.0 ≡ b.mask.0 → a.bytes.bytes ≡ b.bytes.bytes → a ≡ b
 same_write a b m e = λ i. record { mask = record { 0 = m i }; bytes = record { bytes = e i } }
 
--- an open request of a node that may ask was withdrawn, and waits behind another node's
+-- an open request of a node that may make another one was withdrawn, and waits behind another node's request
 pub rolled_behind : (s : OwnerState) (n : ℕ) → IsReached s → is_open s.queue n ≡ true → may_ask (state_of s n) ≡ true → (has s.queue.marked (last_of n s.queue.order) ≡ true)
     × (r : Request) × (turn_of s.queue.order s.queue.ends ≡ Some r) × (r.node ≢ n)
 rolled_behind s n reached stands may =

@@ -32,7 +32,7 @@ is_same-true x y h =
 pub is_same-self : (x : Request) → is_same x x ≡ true
 is_same-self x = rw (eq-eqb x.node x.node refl) (eq-eqb x.number x.number refl)
 
--- a request is one of a list if it is at a place of it
+-- a request belongs to a list if it is at a place of it
 pub has_at : (xs : List Request) (p : ℕ) (r : Request) → slice_get xs p ≡ Some r → Has xs r
 has_at xs p r e = passes_at (is_same r) xs p r e (is_same-self r)
 
@@ -40,7 +40,7 @@ has_at xs p r e = passes_at (is_same r) xs p r e (is_same-self r)
 pub place_of_request : (xs : List Request) (r : Request) → Has xs r → (p : ℕ) × (slice_get xs p ≡ Some r)
 place_of_request xs r h = let found = place_of (is_same r) xs h in (found.0, found.2 ∙ ap Some (sym (is_same-true r found.1 found.3)))
 
--- a list lacks a request that cannot be one of it
+-- a list lacks a request that cannot belong to it
 pub lacks_from : (xs : List Request) (r : Request) → (Has xs r → ⊥) → Lacks xs r
 lacks_from xs r h = false_from_ne_true (has xs r) h
 

@@ -137,7 +137,7 @@ sums-split does views bytes (r ∷ order) (Served write shut ∷ ends) le once =
 sums-split does views bytes (r ∷ order) (Gone ∷ ends) le once = sums-split does views bytes order ends (omega (arith, le)) (λ p x at. once (suc p) x at)
 sums-split does views bytes (r ∷ order) (Told ∷ ends) le once = sums-split does views bytes order ends (omega (arith, le)) (λ p x at. once (suc p) x at)
 
--- a node occurs once if it occurs and no two items are of it
+-- a node occurs once if it occurs and no two items belong to it
 none_there : (views : List View) (node : ℕ) → ((i : ℕ) (v : View) → slice_get views i ≡ Some v → v.node ≢ node) → count_by (λ (v : View). node == v.node) views ≡ 0
 none_there [] node h = refl
 none_there (v ∷ views) node h =

@@ -199,7 +199,7 @@ where
         answer
     }
 
-    /// The turns left of the lease; `None` if the node's port is not there or does not hold the line.
+    /// Returns the turns left of the lease, or `None` if the node's port is not there or does not hold the line.
     pub fn turns_left(&mut self, node: u64) -> Option<Option<u64>> {
         let port = self.take(node)?;
         let answer = if self.owns(&port) && L::state(&port) == PortState::Holding {
@@ -244,7 +244,7 @@ where
         Some(held)
     }
 
-    /// The bytes that the node sees; `None` if its port does not hold the line.
+    /// Returns the bytes that the node sees, or `None` if its port does not hold the line.
     pub fn bytes(&self, node: u64) -> Option<[u8; 64]> {
         let port = self.ports.iter().find(|port| L::node(port) == node)?;
         if L::state(port) == PortState::Holding {

@@ -31,7 +31,7 @@ where
     Some((lines, Desk::new(ports)))
 }
 
-/// A list of two items; `None` if memory is refused.
+/// Returns a list of two items, or `None` if memory is refused.
 pub(crate) fn pair<T: Drop>(alloc: Global, first: T, second: T) -> Option<Vec<T>>
     ensures { IfSome result (λ both. both.items ≡ first ∷ second ∷ []) }
 {

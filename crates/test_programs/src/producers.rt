@@ -200,7 +200,7 @@ fn job_of(node: u64, count: u64) -> Job
     }
 }
 
-/// The ports of the workers, and what each took; `None` if memory is refused.
+/// Returns the ports of the workers and what each took, or `None` if memory is refused.
 fn collect_results<L: LineSync<BoardLaw>>(
     alloc: Global,
     line: &L,

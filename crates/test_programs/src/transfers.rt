@@ -238,7 +238,7 @@ where
     Some(customers)
 }
 
-/// Returns the customers' desks, and the outcomes of all their transfers; `None` if memory is refused.
+/// Returns the customers' desks and the outcomes of all their transfers, or `None` if memory is refused.
 fn unseat<L: LineSync<AccountLaw>>(
     alloc: Global,
     lines: &Vec<L>,

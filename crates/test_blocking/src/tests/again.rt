@@ -61,7 +61,7 @@ impl<'r, R: Clock> Tries<'r, R> {
         }
     }
 
-    /// The time in nanoseconds; 0 if the clock can't be read.
+    /// The time in nanoseconds, or 0 if the clock cannot be read.
     fn nanos(&self) -> u64 {
         match self.clock.monotonic() {
             Ok(time) => u64::try_from(time.as_nanos()).unwrap_or(u64::MAX),

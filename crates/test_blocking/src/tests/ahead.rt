@@ -18,7 +18,7 @@ use std::time::Duration;
 const NODES: u64 = 5;
 
 /// How many milliseconds the waiters have to fall asleep, one attempt for each. A waiter that is still awake when it is
-/// woken ahead falls asleep later and sleeps on, as it is not at its turn.
+/// woken one turn early falls asleep later and sleeps on, because it is not at its turn.
 static NAPS: [u64; 6] = [50, 100, 200, 400, 800, 1_600];
 
 /// How many milliseconds the next holder and the waiter behind it may sleep.

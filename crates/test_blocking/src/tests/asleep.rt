@@ -39,7 +39,7 @@ struct Sharing {
     hold: Duration,
     /// Each turn closes the line.
     shuts: bool,
-    /// The turns and the time-outs of all threads together.
+    /// The turns and the timeouts of all threads together.
     turns: AtomicU64,
     late: AtomicU64,
 }
@@ -118,7 +118,7 @@ impl<R: Wait + Clock, L: ParkingLine<Free>> ScopedTask<R, L, L::Port> for Sharin
     }
 }
 
-/// The outcome of a line that threads shared: the number in its first lane, their turns, and their time-outs.
+/// The outcome of a line that threads shared: the number in its first lane, their turns, and their timeouts.
 #[derive(Clone, Copy, Debug, PartialEq, Eq)]
 struct Outcome {
     number: u64,

@@ -120,7 +120,7 @@ impl Hooks for &Notes {
     }
 }
 
-/// A clock that advances by `tick` nanoseconds at each reading; if `tick` is `None`, it can't be read.
+/// A clock that advances by `tick` nanoseconds at each reading. If `tick` is `None`, the clock cannot be read.
 #[derive(Drop)]
 pub(super) struct Ticking<'r, R> {
     /// Allows the clock's reader to wait.

@@ -173,8 +173,8 @@ where
     expect_eq(rt, "without a port", without_a_port::<L>(alloc), want);
 }
 
-/// Returns why a line of two nodes does not finish with a port of another line, and whether it finishes without it;
-/// `None` if it owned that port.
+/// Returns why a line of two nodes does not finish with a port of another line, and whether it finishes without that
+/// port. Returns `None` if the line owned that port.
 fn beside_a_stranger<L: Instrumented + Drop>(alloc: Global) -> Option<(FinishError, bool)>
 where
     L::Port: Drop,
@@ -361,8 +361,8 @@ where
     Err(Fail::from("no room was large enough"))
 }
 
-/// Hands a line of two nodes over. Returns what one node releases and what the next sees; `None` if it was not handed
-/// over.
+/// Hands a line of two nodes over. Returns what one node releases and what the next one sees, or `None` if the line was
+/// not handed over.
 fn handed<L: Instrumented + Drop>(alloc: Global) -> Option<(Line64, Line64)>
 where
     L::Port: Drop,

@@ -66,7 +66,7 @@ where
     Some(lines)
 }
 
-/// The total that is settled with this desk alone; `None` if settling is refused.
+/// Returns the total that is settled with this desk alone, or `None` if settling is refused.
 fn total_of<L: LineSync<AccountLaw> + Drop>(
     alloc: Global,
     lines: Vec<L>,
@@ -106,7 +106,7 @@ where
     expect(rt, "a day", day::<L>(alloc), Some(90));
 }
 
-/// The desk's answers at the limits of an account, and the settled total; `None` if memory is refused.
+/// Returns the desk's answers at the limits of an account and the settled total, or `None` if memory is refused.
 fn at_the_limits<L: OpenLine<AccountLaw> + Drop>(
     alloc: Global,
 ) -> Option<([Reply; 5], Option<u128>)>
@@ -213,7 +213,7 @@ where
     Ok(())
 }
 
-/// The desk's answers over two lines, and the settled total; `None` if memory is refused.
+/// Returns the desk's answers over two lines and the settled total, or `None` if memory is refused.
 fn moved_across<L: OpenLine<AccountLaw> + Drop>(alloc: Global) -> Option<([Reply; 2], Option<u128>)>
 where
     L::Port: Drop,
@@ -234,7 +234,7 @@ where
     expect(rt, "over two lines", moved_across::<L>(alloc), want);
 }
 
-/// The desk's answers at the limit of an account, and the settled total; `None` if memory is refused.
+/// Returns the desk's answers at the limit of an account and the settled total, or `None` if memory is refused.
 fn moved_to_a_full_account<L: OpenLine<AccountLaw> + Drop>(
     alloc: Global,
 ) -> Option<([Reply; 3], Option<u128>)>
