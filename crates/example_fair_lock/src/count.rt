@@ -47,7 +47,7 @@ struct After<N: Turns> {
 }
 
 impl<N: Turns> Counter<N> {
-    /// Counts an acquisition, and takes a ticket for it.
+    /// Counts an acquisition, and uses up one ticket for it.
     fn turn(&mut self, tickets: &mut Share<N>)
         requires { 0 < tickets.old.amount }
         ensures amount { tickets.new.amount + 1 ≡ tickets.old.amount }
