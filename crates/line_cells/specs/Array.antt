@@ -80,9 +80,11 @@ is_cleared Cleared = true
 is_cleared Freeing = false
 is_cleared Rolled = false
 
--- The history of the line. It has the line's lists; the node that has the line, or 0; whether the cell at its turn is
--- cleared; for each place, the node that withdrew the request there, or 0, and the node whose release passed it; and
--- the word of each node.
+-- The history of the line. It has:
+-- - the line's lists;
+-- - the node that has the line, or 0, and whether the cell at its turn is cleared;
+-- - for each place, the node that withdrew the request there, or 0, and the node whose release passed it;
+-- - the word of each node.
 pub record History : Type 0 where
   pub order : List Request
   pub ends : List End

@@ -90,9 +90,12 @@ abbrev pub is_asking : Option Move → Bool
 is_asking (Some (ask n)) = true
 is_asking _ = false
 
--- The productive events that are left after an act of n. Either the act takes only from n's own, and no other node's
--- grow; or n ends a request, and home names no node; or n frees x; or n passes m, and takes over those of m; or n makes
--- a request.
+-- The productive events that are left after an act of n. There are five cases:
+-- - the act takes only from n's own, and no other node's grow;
+-- - n ends a request, and home names no node;
+-- - n frees x;
+-- - n passes m, and takes over those of m;
+-- - n makes a request.
 pub data Pays (c d : State) (n : ℕ) (prod : Bool) (asked : ℕ) (move : Option Move) : Type 0 where
   alone : is_asking move ≡ false → d.home ≡ c.home → ((m : ℕ) → IsNode c m → m ≢ n → steps_left d m ≤ steps_left c m) → steps_left d n + one_if prod ≤ steps_left c n → Pays c d n prod asked move
   ends : is_asking move ≡ false → d.home ≡ 0 → c.home ≢ 0 → ((m : ℕ) → IsNode c m → m ≢ n → steps_left d m ≤ steps_left c m) → steps_left d n + 3 ≤ steps_left c n → Pays c d n prod asked move

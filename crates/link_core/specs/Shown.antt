@@ -84,9 +84,10 @@ abbrev pub IsCarried : LineConfig → State → List Request → List End → �
 IsCarried config c order ends n r [] = IsHeld config c ends n r
 IsCarried config c order ends n r (m ∷ ms) = IsWhole config c ends × EndedBy order ends n r × (r ≡ Refused → is_closed ends ≡ true)
 
--- The place of the line. If no request is open, the line is at home. Otherwise it is in the hand of n, whose release
--- has reached the request at its turn; or in the mailbox of t, which waits and whose turn it is; or in the mailbox of
--- q, where t will find it when it links.
+-- The place of the line. If no request is open, the line is at home. Otherwise it is in one of three places:
+-- - in the hand of n, whose release has reached the request at its turn;
+-- - in the mailbox of t, which waits and whose turn it is;
+-- - in the mailbox of q, where t will find it when it links.
 pub data Lies (config : LineConfig) (c : State) (order : List Request) (ends : List End) : Type 0 where
   at_home : length ends ≡ length order → c.place ≡ Home → IsWhole config c ends → Lies config c order ends
   in_hand : (n : ℕ) → length ends < length order → IsNode c n → c.place ≡ Hand n → has_line (point c n) ≡ true → requester_at order (length ends) ≡ current c n → IsCarried config c order ends n (seat c n).reason (seat c n).passed → Lies config c order ends

@@ -76,8 +76,10 @@ impl<R: Wait, L: Counting> Scene<R, L> for Counted {
     }
 }
 
-/// The counts of one run: whether each node had a turn; the groups that counted 12 or 13 while all others slept; the
-/// sleepers counted at the end; and the groups that counted none at the end.
+/// The counts of one run:
+/// - whether each node had a turn;
+/// - the groups that counted 12 or 13 while all others slept;
+/// - the sleepers counted at the end, and the groups that counted none at the end.
 #[derive(Clone, Copy, Debug, PartialEq, Eq)]
 struct Counts {
     had: bool,

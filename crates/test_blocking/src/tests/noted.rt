@@ -20,8 +20,11 @@ use std::thread::{Threads, yield_now};
 use std::time::Duration;
 use test_support::{HookedLine, Hooks};
 
-/// The notes of a line: busy tries; polls that found the turn not there, and how many of these came before the first
-/// and the second sleep; sleeps; the limits of the last and of the longest sleep in nanoseconds; and releases.
+/// The notes of a line:
+/// - busy tries;
+/// - polls that found that the turn had not come, and how many of these came before the first and the second sleep;
+/// - sleeps, and the timeouts of the last and of the longest sleep in nanoseconds;
+/// - releases.
 #[derive(Drop)]
 struct Notes {
     busy: AtomicU64,
