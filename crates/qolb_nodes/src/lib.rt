@@ -1,7 +1,7 @@
-//! Nodes of lines of any kind, each behind a handle of one pointer, for programs in C.
+//! Nodes of lines of any kind for programs in C. Each node is behind a handle of one pointer.
 //!
-//! A call of a node first checks the node's state. If the state does not allow the call, the answer is `Misuse` and nothing changes. The
-//! exports of `qolb_c` call these, and name no lock.
+//! Each call of a node first checks the node's state. If that state does not allow the call, the answer is `Misuse` and
+//! nothing changes. The exports of `qolb_c` call these functions, and name no kind of line.
 #![tactic(auto)]
 
 mod answer;
