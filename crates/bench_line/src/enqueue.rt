@@ -24,7 +24,8 @@ pub trait EnqueueStrategy<L: LineSync<NonDecreasing>> {
         ensures ended { (result ≡ Enq.Busy) ⊎ (result ≡ Enq.Closed)
             → IsTrue (may_ask (L.view port.new).state) };
 
-    /// Returns how many requests found the line waiting when they linked, left there by a release that did not wait for the link.
+    /// Returns how many requests found the line waiting when they linked, left there by a release that did not wait for
+    /// the link.
     fn late_links(&self) -> u64;
 }
 
@@ -49,7 +50,7 @@ pub struct TwoCalls {
 }
 
 impl TwoCalls {
-    /// Requests of which none has found the line waiting yet.
+    /// The requests by two calls, none of which has found the line waiting yet.
     pub fn new() -> TwoCalls {
         TwoCalls {
             late: AtomicU64::new(0),

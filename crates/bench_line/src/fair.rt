@@ -8,7 +8,7 @@ use std::alloc::Global;
 use std::sync::Wait;
 use std::thread::Threads;
 
-/// The task of each thread: `rounds` rounds, fewer if the lock is shut.
+/// The task of each thread: `rounds` rounds, or fewer if the lock is shut.
 #[derive(Drop)]
 struct FairRounds {
     rounds: u64,
@@ -32,7 +32,8 @@ impl<R: Wait> ScopedTask<R, FairLock<Line64>, ()> for FairRounds {
     }
 }
 
-/// Runs `rounds` rounds of each of `threads` threads, in the order of requests, or with this barging limit. Returns the line's last bytes.
+/// Runs `rounds` rounds with each of `threads` threads, in a strict lock or with this barging limit. Returns the line's
+/// last bytes.
 pub fn run_fair<R: Threads + Wait + Sync>(
     rt: &R,
     alloc: Global,

@@ -3,7 +3,7 @@ ghost use Rattle.bench_line.specs.NonDecreasing.{Rises, rises_by_nothing};
 
 use qolb_model::Keep;
 
-/// The data invariant that the first lane never falls.
+/// The data invariant that the first lane never decreases.
 pub struct NonDecreasing;
 
 impl Keep for NonDecreasing {

@@ -33,7 +33,7 @@ use std::thread::Threads;
 use std::time::{Duration, Instant};
 use stress::Stress;
 
-/// The numbers of threads that are timed, and below those that are put under stress.
+/// The numbers of threads that are timed; then the numbers of threads that are put under stress.
 static THREADS: [u64; 5] = [1, 2, 3, 4, 8];
 
 static STRESSED: [u64; 3] = [4, 8, 32];
@@ -53,31 +53,31 @@ const FEW_ROUNDS: u64 = 100;
 enum Wanted {
     /// Runs a few rounds and prints the lane, to show that no addition is lost.
     Sums,
-    /// Times this many rounds of each thread, of the lock with this name.
+    /// Times this many rounds of each thread, over the kind of line with this name.
     Times(Way, &'static str, u64),
     /// Puts the line under stress for this many seconds.
     Stress(u64),
 }
 
-/// What a timed round is of.
+/// What a timed round consists of.
 #[derive(Clone, Copy)]
 enum Way {
-    /// Each thread asks by a port of its own.
+    /// Each thread requests the line by a port of its own.
     Ports,
-    /// The threads enter a fair lock, in the order of requests. There is no line.
+    /// The threads enter a strict fair lock. There is no line.
     Fair,
-    /// The threads enter a fair lock with barging. There is no line.
+    /// The threads enter a barging fair lock. There is no line.
     Barging,
-    /// They lock the toolchain's mutex.
+    /// The threads lock the toolchain's mutex.
     Mutex,
 }
 
-/// The lock, and how its nodes ask under stress.
+/// The kind of line, and how its nodes request it under stress.
 #[derive(Clone, Copy)]
 enum Kind {
-    /// This lock. Its nodes ask by one call.
+    /// This kind of line. Its nodes request it by one call.
     AtOnce(Lock),
-    /// The link line. Its nodes ask by two calls.
+    /// The link line. Its nodes request it by two calls.
     TwoCalls,
 }
 
@@ -179,7 +179,7 @@ fn with_kind<'a>(alloc: Global, command: Command<'a>) -> Result<Command<'a>, All
     command.arg(kind)
 }
 
-/// Adds the option to ask by two calls.
+/// Adds the option to request the line by two calls.
 fn with_apart<'a>(alloc: Global, command: Command<'a>) -> Result<Command<'a>, AllocError> {
     let apart = Arg::new(alloc, "apart")
         .long("apart")
@@ -189,7 +189,7 @@ fn with_apart<'a>(alloc: Global, command: Command<'a>) -> Result<Command<'a>, Al
     command.arg(apart)
 }
 
-/// Adds an option that says what the timed rounds are of.
+/// Adds an option that says what the timed rounds consist of.
 fn with_way<'a>(
     alloc: Global,
     command: Command<'a>,
@@ -204,7 +204,7 @@ fn with_way<'a>(
     command.arg(way)
 }
 
-/// What the timed rounds are of; of ports if none of `--fair`, `--barging` and `--mutex` is given.
+/// Returns what the timed rounds consist of: calls of ports, if none of `--fair`, `--barging` and `--mutex` is given.
 fn way_of(matches: &ArgMatches) -> Way {
     if matches.get_flag("mutex") {
         Way::Mutex
@@ -244,7 +244,7 @@ fn wanted_of(matches: &ArgMatches, kind: Kind) -> Wanted {
     }
 }
 
-/// The lock, and how its nodes ask; a ring if `--kind` is not given.
+/// Returns the kind of line, and how its nodes request it. The kind is a ring if `--kind` is not given.
 fn kind_of(matches: &ArgMatches) -> Kind {
     if matches.get_flag("apart") {
         return Kind::TwoCalls;
@@ -277,7 +277,7 @@ fn run_kind<R: Threads + Wait + Clock + Print + Sync>(
     }
 }
 
-/// Runs what is asked for on a line of this discipline, whose nodes ask by one call.
+/// Runs what the command line asks for on a line of this discipline, whose nodes request it by one call.
 fn bench_at_once<
     R: Threads + Wait + Clock + Print + Sync,
     Q: Discipline<NonDecreasing> + Send + Sync,
@@ -296,7 +296,7 @@ fn bench_at_once<
     }
 }
 
-/// Opens a line of `threads` nodes, and runs what is asked for on it.
+/// Opens a line of `threads` nodes, and runs on it what the command line asks for.
 fn bench<
     R: Threads + Wait + Clock + Print + Sync,
     A: EnqueueStrategy<L> + Sync + Drop,
@@ -381,9 +381,10 @@ fn measure_mutex<R: Threads + Wait + Clock + Print + Sync>(
     show_row(rt, threads, name, rounds, start.elapsed(rt)?, &last)
 }
 
-/// Prints a row of the columns of `c/bench/peers`: A for a round that adds 1 to a lane, one phase, the time, and the rounds.
+/// Prints a row with the columns of `c/bench/peers`: A for a round that adds 1 to a lane, one phase, the time, and the
+/// rounds.
 ///
-/// The other columns are not measured here. An addition that was lost is an error.
+/// The other columns are not measured here. A lost addition is an error.
 fn show_row<R: Print>(
     rt: &R,
     threads: u64,
@@ -407,7 +408,8 @@ fn show_row<R: Print>(
     Ok(())
 }
 
-/// Puts the line under stress, and prints what the nodes did and how many additions were lost, which is an error.
+/// Puts the line under stress, and prints what the nodes did and how many additions were lost. A lost addition is an
+/// error.
 fn put_under_stress<
     R: Threads + Wait + Clock + Print + Sync,
     L: LineSync<NonDecreasing> + Sync + Drop,

@@ -34,7 +34,7 @@ pub(crate) fn add_one(line: &mut Line64) {
     set_lane(line, 0, next);
 }
 
-/// Runs `rounds` rounds by each of `threads` threads. Returns the line's last bytes.
+/// Runs `rounds` rounds with each of `threads` threads. Returns the line's last bytes.
 pub fn run_mutex<R: Threads + Wait + Sync>(
     rt: &R,
     alloc: Global,

@@ -8,12 +8,12 @@ use std::time::Duration;
 #[derive(Clone, Copy)]
 pub struct Pace {
     pub rounds: u128,
-    /// Tenths of a nanosecond a round.
+    /// The time of a round, in tenths of a nanosecond.
     pub tenths: u128,
 }
 
 impl Pace {
-    /// The speed of `rounds` rounds by each of `threads` threads in `time`.
+    /// Returns the speed of `rounds` rounds with each of `threads` threads in `time`.
     pub fn of(threads: u64, rounds: u64, time: Duration) -> Pace
         ensures rounds { result.rounds ≡ threads * rounds }
         ensures tenths { result.tenths ≡ as_nanos time * 10 / max result.rounds 1 }

@@ -16,7 +16,7 @@ use std::sync::Wait;
 /// The first lane.
 const FIRST_LANE: Mask = Mask(0xff);
 
-/// The task of each node: `rounds` rounds, fewer if the line is closed.
+/// The task of each node: `rounds` rounds, or fewer if the line is closed.
 #[derive(Clone, Copy)]
 pub struct Rounds {
     pub rounds: u64,
@@ -38,7 +38,8 @@ impl<L: LineSync<NonDecreasing>> Task<L> for Rounds {
     }
 }
 
-/// Adds 1 to the first lane in the holder's turn. The lane stays at its largest value, as the law forbids that it falls.
+/// Adds 1 to the first lane in the holder's turn. A lane at its largest value stays there, because the data invariant
+/// forbids that it decreases.
 pub fn add_one<L: LineSync<NonDecreasing>>(port: &mut L::Port)
     requires { IsGranted (L.view port.old) (L.turn port.old) }
     ensures view { L.view port.new ≡ L.view port.old }

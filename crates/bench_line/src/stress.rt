@@ -62,14 +62,14 @@ enum Turn {
     Granted,
     /// The node withdrew its request.
     Withdrawn,
-    /// The node could not ask, because its last request has not been passed yet.
+    /// The node made no request, because its last one has not been passed yet.
     Busy,
     /// The line is closed.
     Closed,
 }
 
 impl<A> Stress<A> {
-    /// A task for `time` from `start` on, whose nodes ask by `asking`.
+    /// Returns a task for `time` from `start` on, whose nodes make requests as `asking` says.
     pub fn new(asking: A, start: Instant, time: Duration) -> Stress<A> {
         Stress {
             asking,
@@ -83,7 +83,7 @@ impl<A> Stress<A> {
         }
     }
 
-    /// The way in which the nodes ask.
+    /// How the nodes make their requests.
     pub fn asking(&self) -> &A {
         &self.asking
     }
@@ -109,7 +109,7 @@ impl<A> Stress<A> {
         self.told.fetch_add(counts.told, Ordering::SeqCst);
     }
 
-    /// Returns `true` if the time is over or the clock can't be read.
+    /// Returns `true` if the time is over or the clock cannot be read.
     fn is_over<R: Clock>(&self, rt: &R) -> bool {
         match self.start.elapsed(rt) {
             Ok(spent) => spent >= self.time,
@@ -179,8 +179,8 @@ fn ask<R: Wait, L: LineSync<NonDecreasing>, A: EnqueueStrategy<L>>(
     }
 }
 
-/// Polls until the turn. After a poll it withdraws once in 64 times, otherwise yields once in 16 times, otherwise
-/// spins.
+/// Polls until the turn has come. After a poll it withdraws once in 64 times; otherwise it yields once in 16 times, and
+/// spins the other times.
 fn wait_or_withdraw<R: Wait, L: LineSync<NonDecreasing>>(
     rt: &R,
     line: &L,

@@ -46,7 +46,7 @@ adds_goes log v e old len next chain pre false is =
       rw is (ap length all, chain'),
     )
 
--- whatever the book is, the exchange adds the turn to all that was seen, or finds that the history is longer
+-- Whatever the book is, the exchange adds the turn to all that was seen, or finds that the history is longer.
 pub adds_moves : (v : List Turn) (e : Turn) (old : ℕ) → length v ≡ old → e.found ≡ last_left v
     → Moves IsKept shown moved 0 (v, (no_nib, None)) (λ n. either (n == old) (old + 1) n) (Adds (step 0 old (old + 1) e) (v, (no_nib, None)))
 adds_moves v e old len next cs log kept pre away =

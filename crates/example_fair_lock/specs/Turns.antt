@@ -19,14 +19,14 @@ IsChain log = is_chain 0 log ≡ true
 abbrev pub last_left : List Turn → ℕ
 last_left log = left_by 0 log
 
--- each turn but the first begins with what the one before left
+-- each turn but the first begins with what the one before it left
 abbrev pub BeginsWithTheLast : List Turn → Type 0
 BeginsWithTheLast log = (n : ℕ) (t u : Turn) → slice_get log n ≡ Some t → slice_get log (n + 1) ≡ Some u → u.found ≡ t.left
 
--- the turn left what it found and this amount
+-- the turn left the sum of what it found and this amount
 abbrev pub HasAdded : ℕ → Turn → Type 0
 HasAdded amount t = t.left ≡ (t.found + amount) % 2 ^ 64
 
--- ys begins with xs, and goes on
+-- the list xs is a prefix of ys
 abbrev pub IsLonger : List Turn → List Turn → Type 0
 IsLonger xs ys = IsPrefix xs ys × (length xs < length ys)

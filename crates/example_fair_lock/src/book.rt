@@ -30,7 +30,7 @@ impl Rule<Turn, u64> for BookInvariant {
     ghost moves = { λ ask before after answer. Unit {0} };
 }
 
-/// Callers trade nothing.
+/// The callers of a book trade nothing.
 pub struct Nothing;
 
 impl Gain<Turn, u64> for Nothing {
@@ -39,7 +39,7 @@ impl Gain<Turn, u64> for Nothing {
     ghost after = { λ names about answer. ftrue };
 }
 
-/// A step that adds a turn.
+/// The step that adds a turn.
 pub struct Add;
 
 impl Play<Turn, u64> for Add {
@@ -48,7 +48,7 @@ impl Play<Turn, u64> for Add {
     ghost then = { Adds };
 }
 
-/// What a step asks for: the turn.
+/// The argument of a step, which is the turn.
 impl Plain<Turn, Turn, u64> for Add {
     ghost use Rattle.std.specs.Prelude.{None};
 
@@ -57,7 +57,7 @@ impl Plain<Turn, Turn, u64> for Add {
     ghost state = { λ turn. None };
 }
 
-/// Which book it is. Each call of a program picks it.
+/// The name of a book, which each call of a program picks.
 pub trait Naming {
     ghost use Rattle.logbook.specs.Pages.{Book};
 
@@ -85,7 +85,7 @@ impl Opened {
         }
     }
 
-    /// The book's word under a name, and the front that has seen nothing.
+    /// The book's word under a name, and the front that has seen nothing yet.
     pub fn named<J: Naming>(self) -> (Book<J>, Front<J>)
         requires { self.seen.book ≡ J.book }
         ensures { result.1 ≡ [] }
@@ -113,7 +113,7 @@ pub struct Book<J: Naming> {
     ghost head_is: { head ≡ head_of J.book },
 }
 
-/// A beginning of the history that was seen. Contracts see it as its turns.
+/// A prefix of the history that a thread has seen. Contracts see it as its turns.
 #[derive(Drop)]
 pub struct Front<J: Naming> {
     turns: u64,
@@ -135,7 +135,7 @@ impl<J: Naming> Model for Front<J> {
 }
 
 impl<J: Naming> Front<J> {
-    /// How many turns it has.
+    /// Returns how many turns the front has.
     pub fn len(&self) -> u64
         ensures length { result ≡ length self.now }
         ensures chain { IsChain self.now }
@@ -143,7 +143,7 @@ impl<J: Naming> Front<J> {
         self.turns
     }
 
-    /// A copy.
+    /// Returns a copy of the front.
     pub fn again(&self) -> Front<J>
         ensures { result ≡ self.now }
     {
@@ -154,7 +154,7 @@ impl<J: Naming> Front<J> {
         }
     }
 
-    /// The longer of two fronts, which the other begins.
+    /// Returns the longer of two fronts, of which the other is a prefix.
     pub fn longer(&self, other: &Front<J>) -> Front<J>
         ensures one { (result ≡ self.now) ⊎ (result ≡ other.now) }
         ensures this { IsPrefix self.now result }
@@ -170,7 +170,8 @@ impl<J: Naming> Front<J> {
         }
     }
 
-    /// Adds a turn to all that was seen, and says whether it did. It did not where the history is longer.
+    /// Adds a turn to all turns that were seen, and says whether it did. It does not if the history is longer than what
+    /// was seen.
     pub fn add(&mut self, book: &Book<J>, turn: Turn) -> bool
         requires room { length self.old < 2 ^ 62 }
         requires next { turn.found ≡ last_left self.old }

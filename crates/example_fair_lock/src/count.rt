@@ -12,7 +12,7 @@ use std::sync::ledger::{Blank, Book, Ledger, Share};
 use std::thread;
 use std::thread::Threads;
 
-/// How often all threads enter.
+/// How often all threads enter together.
 pub trait Turns: Ledger {
     ghost turns: { ℕ };
 }
@@ -30,7 +30,7 @@ struct Counter<N: Turns> {
     ghost fits: { N.turns < 2 ^ 64 },
 }
 
-/// The tickets of one thread before it enters, and after.
+/// The tickets of one thread, before it enters and after.
 #[derive(Drop)]
 struct Before<N: Turns> {
     tickets: Share<N>,
@@ -47,7 +47,7 @@ struct After<N: Turns> {
 }
 
 impl<N: Turns> Counter<N> {
-    /// Counts an acquisition, for a ticket.
+    /// Counts an acquisition, and uses up one ticket for it.
     fn turn(&mut self, tickets: &mut Share<N>)
         requires { 0 < tickets.old.amount }
         ensures amount { tickets.new.amount + 1 ≡ tickets.old.amount }
@@ -58,7 +58,7 @@ impl<N: Turns> Counter<N> {
         *so_far += 1;
     }
 
-    /// The count, once no thread has a ticket left.
+    /// Returns the count, once no thread has a ticket left.
     fn total(mut self, all: &mut Share<N>) -> u64
         requires whole { all.old.parts ≡ N.parts }
         requires spent { all.old.amount ≡ 0 }
@@ -69,7 +69,7 @@ impl<N: Turns> Counter<N> {
     }
 }
 
-/// A thread enters once: it counts, and leaves.
+/// Enters once as one thread: counts, and leaves.
 fn have_turn<N: Turns, R: Wait>(rt: &R, lock: &FairLock<Counter<N>>, tickets: &mut Share<N>)
     requires { 0 < tickets.old.amount }
     ensures amount { tickets.new.amount + 1 ≡ tickets.old.amount }
@@ -86,7 +86,7 @@ fn have_turn<N: Turns, R: Wait>(rt: &R, lock: &FairLock<Counter<N>>, tickets: &m
     unreachable!()
 }
 
-/// A thread enters, counts, and leaves, for each ticket.
+/// Enters, counts and leaves, once for each ticket of the thread.
 fn have_turns<N: Turns, R: Wait>(
     rt: &R,
     lock: &FairLock<Counter<N>>,
@@ -99,7 +99,8 @@ fn have_turns<N: Turns, R: Wait>(
     After { tickets }
 }
 
-/// Has each of `threads` threads enter and count `each` times. Returns the count at the end, or `None` without memory.
+/// Lets each of `threads` threads enter and count `each` times. Returns the count at the end, or `None` if memory is
+/// short.
 fn run<N: Turns + Send + Sync, R: Threads + Wait + Sync>(
     rt: &R,
     alloc: Global,
@@ -133,7 +134,8 @@ fn run<N: Turns + Send + Sync, R: Threads + Wait + Sync>(
     Some(lock.into_inner().total(&mut all))
 }
 
-/// A barging lock with this limit, or a strict lock if the limit is less than two. `None` without memory.
+/// Makes a barging lock with this limit, or a strict lock if the limit is less than two. Returns `None` if memory is
+/// short.
 fn make<T: Drop>(alloc: Global, barging_limit: u16, value: T) -> Option<FairLock<T>>
     ensures strict { barging_limit < 2 → IfSome result (λ lock. lock.barging_limit ≡ 1) }
     ensures barging { 2 ≤ barging_limit →
@@ -146,7 +148,8 @@ fn make<T: Drop>(alloc: Global, barging_limit: u16, value: T) -> Option<FairLock
     }
 }
 
-/// Has each of `threads` threads enter and count `each` times. Returns the count at the end, or `None` without memory.
+/// Lets each of `threads` threads enter and count `each` times. Returns the count at the end, or `None` if memory is
+/// short.
 pub fn count<R: Threads + Wait + Sync>(
     rt: &R,
     alloc: Global,

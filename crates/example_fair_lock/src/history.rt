@@ -13,7 +13,7 @@ use std::thread::{Threads, join};
 
 const MOST: u64 = 1 << 32;
 
-/// The value under the lock: a number, beside the history that says what each turn left.
+/// The value under the lock: a number, and beside it the history that says what each turn left.
 #[derive(Drop)]
 pub struct Recorded<J: Naming> {
     number: u64,
@@ -32,7 +32,7 @@ impl<J: Naming> Model for Recorded<J> {
     ghost invariant = { λ r. r.number ≡ last_left r.front };
 }
 
-/// A turn that a thread had, by its place in the history, and a beginning of that with the turn.
+/// A turn that a thread had: its place in the history, and a prefix of the history that includes the turn.
 #[derive(Drop)]
 pub struct Had<J: Naming> {
     pub front: Front<J>,
@@ -49,8 +49,8 @@ impl<J: Naming> Recorded<J> {
         Recorded { number: 0, front }
     }
 
-    /// Adds to the number, modulo 2^64: a turn that begins with what the last one left. `None` where the history is full, or
-    /// was not seen whole: then nothing changes.
+    /// Adds to the number, modulo 2^64, in a turn that begins with what the last one left. Returns `None`, and changes
+    /// nothing, if the history is full or was not seen whole.
     #[tactic(auto, using(crate::proofs::Chains::left_after))]
     fn add(&mut self, book: &Book<J>, amount: u64) -> Option<Had<J>>
         ensures turn { IfSome result (λ had. (self.new ≡ self.old ++ had.turn ∷ [])
@@ -76,7 +76,7 @@ impl<J: Naming> Recorded<J> {
     }
 }
 
-/// A thread adds to the number, in a turn. `None` if the turn could not be added to the history.
+/// Adds to the number in a turn of one thread. Returns `None` if the turn could not be added to the history.
 fn have_turn<J: Naming, R: Wait>(
     rt: &R,
     book: &Book<J>,
@@ -91,8 +91,8 @@ fn have_turn<J: Naming, R: Wait>(
     had
 }
 
-/// Two threads add to the number, each in a turn. Both turns stand in one history, in which each begins with what the one
-/// before left. `None` without memory, or if a thread's turn could not be added.
+/// Lets two threads add to the number, each in one turn. Both turns are in one history, in which each turn begins with
+/// what the one before left. Returns `None` if memory is short, or if a thread's turn could not be added.
 pub fn two_turns<J: Naming + Send + Sync, R: Threads + Wait + Sync>(
     rt: &R,
     alloc: Global,
@@ -117,7 +117,8 @@ pub fn two_turns<J: Naming + Send + Sync, R: Threads + Wait + Sync>(
     Some((one.front.longer(&two.front), one, two))
 }
 
-/// What two threads found and left, each in a turn of its own. `None` without memory, or if a turn could not be added.
+/// Returns what two threads found and left, each in a turn of its own. Returns `None` if memory is short, or if a turn
+/// could not be added.
 fn turns_of<J: Naming + Send + Sync, R: Threads + Wait + Sync>(
     rt: &R,
     alloc: Global,

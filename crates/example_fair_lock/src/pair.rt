@@ -8,7 +8,7 @@ use std::sync::Wait;
 use std::thread;
 use std::thread::Threads;
 
-/// Two purses with 1,000 coins together.
+/// Two purses with 1,000 coins between them.
 #[derive(Drop)]
 struct Purses {
     left: u32,
@@ -17,7 +17,7 @@ struct Purses {
 }
 
 impl Purses {
-    /// Moves one coin out of the purse that has more; out of the right one if both have as many.
+    /// Moves one coin out of the purse that has more coins, or out of the right one if both have the same number.
     fn level(&mut self)
         ensures to_right { self.old.right < self.old.left → self.new.left + 1 ≡ self.old.left }
         ensures to_left { self.old.left ≤ self.old.right → self.new.left ≡ self.old.left + 1 }
@@ -32,7 +32,7 @@ impl Purses {
         }
     }
 
-    /// The coins in each.
+    /// Returns the coins in each purse.
     fn coins(self) -> (u32, u32)
         ensures left { result.0 ≡ self.left }
         ensures right { result.1 ≡ self.right }
@@ -43,7 +43,7 @@ impl Purses {
     }
 }
 
-/// A thread moves coins `times` times.
+/// Moves coins `times` times, as one thread.
 fn move_coins<R: Wait>(rt: &R, lock: &FairLock<Purses>, times: u32) {
     for _ in 0..times {
         if let Ok(mut guard) = lock.enter(rt) {
@@ -53,7 +53,8 @@ fn move_coins<R: Wait>(rt: &R, lock: &FairLock<Purses>, times: u32) {
     }
 }
 
-/// The coins in each purse after every one of `threads` threads moved one `times` times; `None` without memory.
+/// Returns the coins in each purse after every one of `threads` threads moved one `times` times, or `None` if memory is
+/// short.
 pub fn purses_after<R: Threads + Wait + Sync>(
     rt: &R,
     alloc: Global,

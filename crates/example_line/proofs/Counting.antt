@@ -42,14 +42,14 @@ use Rattle.example_line.specs.Counter.{rise, added_by, Adds, AddsJust, HasAdded}
 one_more : (x y : ℕ) → y ≡ (x + 1) % 2 ^ 64 → (y + (2 ^ 64 - x % 2 ^ 64)) % 2 ^ 64 ≡ 1
 one_more x y e = omega (arith, e)
 
--- a port that released the line may ask
+-- a port that released the line may make a request
 pub released_quiet : (allows : List ℕ → List ℕ → Type 0) (held new : View) (write : Write) → Releases allows false held new write → may_ask new.state ≡ true
 released_quiet allows held new write releases =
     let shut = closes held.config.lease held.ends false in
     quiet_after (length held.ends + 1) (state_after shut) new (may_ask-state_after shut) releases.ends_turn.releases
 
 module _ (allows : List ℕ → List ℕ → Type 0) (old mid : View) (quiet : may_ask old.state ≡ true) (past : KnowsOwnHistory old) (places : KnowsOwnPlaces old) (c : Continues allows old mid) (asks : Asks old mid) where
-  -- a port that asked, holds the line, and adds 1
+  -- a port that requested the line, holds it, and adds 1
   module _ (new : View) (turn write : Write) (granted : IsGranted mid turn) (releases : Releases allows false mid new write) (one : lane_of write.bytes.bytes 0 ≡ (lane_of (bytes_of mid) 0 + 1) % 2 ^ 64) where
     pub round_places : KnowsOwnPlaces new
     round_places = places_same mid new releases.continues.extends releases.continues.history releases.ends_turn.count (places_asked old mid c.extends c.history asks places)
@@ -63,7 +63,7 @@ module _ (allows : List ℕ → List ℕ → Type 0) (old mid : View) (quiet : m
         ∙ (ap (λ n. sum_of_own rise mid + n) (one_more (lane_of (bytes_of mid) 0) (lane_of write.bytes.bytes 0) one)
         ∙ ap (λ n. n + 1) (sums_kept old mid c.extends c.history quiet past (granted_beyond old mid c.extends c.history turn asks places granted) rise))
 
-  -- a port that asked, and is told that the line is closed
+  -- a port that made a request and is told that the line is closed
   module _ (told : IsTold mid) where
     pub told_places : KnowsOwnPlaces mid
     told_places = places_asked old mid c.extends c.history asks places
@@ -74,7 +74,7 @@ module _ (allows : List ℕ → List ℕ → Type 0) (old mid : View) (quiet : m
     pub told_added : added_by mid ≡ added_by old
     told_added = sums_kept old mid c.extends c.history quiet past (told_beyond old mid c.extends c.history asks places told) rise
 
--- a port that timed out: its request was withdrawn, or it was busy and asked nothing
+-- a port that timed out: its request was withdrawn, or the port was busy and made none
 module _ (allows : List ℕ → List ℕ → Type 0) (old new : View) (quiet : may_ask old.state ≡ true) (past : KnowsOwnHistory old) (places : KnowsOwnPlaces old) where
   none_added : Continues allows old new → KnowsOwnPlaces new → NoneServedBeyond old new → AddsJust 0 old new
   none_added c known beyond = record {
@@ -150,7 +150,7 @@ all_added rounds old new h unused adds =
       ];
     }
 
--- the promise of an `Ok`, of its value
+-- the promise about the value of an `Ok`
 pub of_ok : {T E : Type 0} (P : T → Type 0) (r : Result T E) (x : T) → result_ok r ≡ Some x → IfOk r P → P x
 of_ok P (Ok y) x is h = subst P (same_some is) h
 of_ok P (Err e) x is h = absurd (let no : None ≡ Some x = is in cc no)

@@ -28,7 +28,7 @@ use Rattle.example_line.specs.Mailbox.{in_lane, lane_sum_of, Moves, puts, takes,
 plus_none : (n : ℕ) → n ≡ n + 0
 plus_none n = omega arith
 
--- a port that asked, or was busy, has had no turn since
+-- a port that requested the line, or was busy, has had no turn since
 module _ (old new : View) (quiet : may_ask old.state ≡ true) (past : KnowsOwnHistory old) (places : KnowsOwnPlaces old) (more : Extends old new) (h : OneHistory (new ∷ [])) where
   still : KnowsOwnPlaces new → NoneServedBeyond old new → Moves (λ _. 0) old new
   still known beyond = record {
@@ -48,7 +48,7 @@ module _ (old new : View) (quiet : may_ask old.state ≡ true) (past : KnowsOwnH
   pub busy_moves : IsBusy old new → Moves (λ _. 0) old new
   busy_moves busy = still (places_same old new more h busy.count places) (busy_beyond old new more h places busy)
 
--- one turn, which found `found` in the first lane and left `left`
+-- one turn that found `found` in the first lane and left `left`
 pub turn_moves : (allows : List ℕ → List ℕ → Type 0) (old mid new : View) (turn write : Write) (found left : ℕ) → Moves (λ _. 0) old mid → IsGranted mid turn → Releases allows false mid new write
     → lane_of turn.bytes.bytes 0 ≡ found → lane_of write.bytes.bytes 0 ≡ left → Moves (λ does. does found left) old new
 turn_moves allows old mid new turn write found left before granted releases lay lies = record {
@@ -78,11 +78,11 @@ none_put lane = omega arith
 none_filled : (lane : ℕ) → fills lane lane ≡ 0
 none_filled lane = omega arith
 
--- one thing more is counted
+-- one more thing is counted
 adds_on : (a b c m d n : ℕ) → b ≡ a + m → c ≡ b + d → d ≡ n → c ≡ a + (m + n)
 adds_on a b c m d n before one is = omega (arith, before, one, is)
 
--- one value more is taken
+-- one more value is taken
 pub takes_one : (old mid new : View) (many taken value : ℕ) → value ≢ 0 → Exchanges 0 0 many taken old mid → Moves (λ does. does value 0) mid new → Exchanges 0 0 (many + 1) (taken + value) old new
 takes_one old mid new many taken value not_zero before one = record {
   places = one.places;
@@ -129,7 +129,7 @@ left_in bytes (Served write shut ∷ ends) =
 left_in bytes (Gone ∷ ends) = left_in bytes ends
 left_in bytes (Told ∷ ends) = left_in bytes ends
 
--- and it is full if it was filled once more than emptied
+-- the mailbox is full if turns filled it once more than they emptied it
 full : (bytes : List ℕ) (ends : List End) → min (lane_of (bytes_after bytes ends) 0) 1 + sum_of_all (in_lane empties) bytes ends ≡ min (lane_of bytes 0) 1 + sum_of_all (in_lane fills) bytes ends
 full bytes [] = refl
 full bytes (Served write shut ∷ ends) =
@@ -187,7 +187,7 @@ module _ {Port Output : Type 0} (view : Port → View) (port_of : Output → Por
       omega (arith, both, none, of_b, taken)
   sum_at_last good allows label config_of config (a ∷ b ∷ c ∷ more) ports bytes values total f are opening is two first second sum = absurd (let no : suc (suc (suc (length more))) ≡ 2 = two in omega (arith, no))
 
-  -- two ports of the line: one that put all values, and one that took as many, whose sum is the total
+  -- two ports of the line: one put all values, and the other took as many, whose sum is the total
   pub both_at_last : (belongs : Port → Type 0) (handed : List Output) (ports : List Port) (values total : ℕ) → ports ≡ map port_of handed → length handed ≡ 2
       → ((i : ℕ) (d : Output) → i < length handed → belongs (port_of (get_or handed i d)))
       → ((i : ℕ) (d : Output) → i < length handed → i ≡ 0 → (sum_of (get_or handed i d) ≡ 0) × HasPut values (view (port_of (get_or handed i d))))

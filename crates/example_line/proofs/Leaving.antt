@@ -18,7 +18,7 @@ use Rattle.example_line.specs.Mailbox.{HadTurn}
 pub first_lane : (line : List ℕ) (value : ℕ) → value < 2 ^ 64 → lane_of (with_lane_of line 0 value) 0 ≡ value
 first_lane line value small = omega (arith, small)
 
--- A turn was granted, found `found` in the first lane, wrote `left` there and kept the other lanes, and was released so.
+-- A turn was granted, found `found` in the first lane, wrote `left` there, kept the other lanes, and was then released.
 pub record Wrote (allows : List ℕ → List ℕ → Type 0) (mid new : View) (turn write : Write) (found left : ℕ) : Type 0 where
   pub granted : IsGranted mid turn
   pub releases : Releases allows false mid new write

@@ -43,7 +43,7 @@ sold_unspoiled : (old new : List ℕ) → spoils old new ≡ 0 → lane_of new 0
 sold_unspoiled old new none = dite (ℕ_discrete (lane_of new 0) (sold_after (lane_of old 0))) (λ e. e)
     (λ ne. let one : spoils old new ≡ 1 = ap (λ (t : Bool). cond t 0 1) (ne_eqb (lane_of new 0) (sold_after (lane_of old 0)) ne) in absurd (omega (arith, none, one)))
 
--- one sale more, or a house that is sold out
+-- one more sale, or a house that is sold out
 sale : (s : ℕ) → ((s < SEATS) × (sold_after s ≡ s + 1)) ⊎ ((SEATS ≤ s) × (sold_after s ≡ s))
 sale s = elim (cases_lt s SEATS) [
   | inl lt ↦ inl (lt, grind (arith, nat_tests))
@@ -51,7 +51,7 @@ sale s = elim (cases_lt s SEATS) [
 ]
 
 module _ (allows : List ℕ → List ℕ → Type 0) (old mid : View) (quiet : may_ask old.state ≡ true) (past : KnowsOwnHistory old) (places : KnowsOwnPlaces old) (c : Continues allows old mid) (asks : Asks old mid) where
-  -- a port that asked, holds the line, and serves a customer
+  -- a port that requested the line, holds it, and serves a customer
   module _ (new : View) (turn write : Write) (granted : IsGranted mid turn) (releases : Releases allows false mid new write) where
     pub turn_places : KnowsOwnPlaces new
     turn_places = places_same mid new releases.continues.extends releases.continues.history releases.ends_turn.count (places_asked old mid c.extends c.history asks places)
@@ -74,7 +74,7 @@ module _ (allows : List ℕ → List ℕ → Type 0) (old mid : View) (quiet : m
           plus_none : (n : ℕ) → n + 0 ≡ n
           plus_none n = omega arith
 
-  -- a port that asked, and is told that the line is closed
+  -- a port that made a request and is told that the line is closed
   pub told_does_none : (told : IsTold mid) (does : List ℕ → List ℕ → ℕ) → sum_of_own does mid ≡ sum_of_own does old
   told_does_none told does = sums_kept old mid c.extends c.history quiet past (told_beyond old mid c.extends c.history asks places told) does
 

@@ -13,8 +13,8 @@ rise old new = (lane_of new 0 + (2 ^ 64 - lane_of old 0 % 2 ^ 64)) % 2 ^ 64
 abbrev pub added_by : View → ℕ
 added_by v = sum_of_own rise v
 
--- at most `rounds` additions by the port's own turns between `old` and `new`. None of these turns shut the line. There are fewer than
--- `rounds` only if the port is told closed.
+-- The port's own turns between `old` and `new` made at most `rounds` additions. None of these turns shut the line.
+-- There are fewer than `rounds` only if the port is told that the line is closed.
 pub record Adds (rounds : ℕ) (old new : View) : Type 0 where
   pub places : KnowsOwnPlaces new
   pub unshut : HasNotShut old → HasNotShut new
@@ -23,13 +23,13 @@ pub record Adds (rounds : ℕ) (old new : View) : Type 0 where
   pub added : added_by new ≡ added_by old + turns
   pub all : (turns ≡ rounds) ⊎ IsTold new
 
--- exactly `many` added by the port's own turns between `old` and `new`. None of these turns shut the line.
+-- The port's own turns between `old` and `new` added exactly `many`. None of these turns shut the line.
 pub record AddsJust (many : ℕ) (old new : View) : Type 0 where
   pub places : KnowsOwnPlaces new
   pub unshut : HasNotShut old → HasNotShut new
   pub added : added_by new ≡ added_by old + many
 
--- `rounds` added by all turns of the port, none of which shut the line; or the port is told closed
+-- all turns of the port added `rounds`, and none of them shut the line; or the port is told that the line is closed
 pub record HasAdded (rounds : ℕ) (v : View) : Type 0 where
   pub places : KnowsOwnPlaces v
   pub unshut : HasNotShut v

@@ -21,8 +21,8 @@ IsLate old new = IsBusy old new ⊎ IsWithdrawn new
 abbrev pub HadNoTurn : View → View → Type 0
 HadNoTurn old new = IsLate old new ⊎ IsTold new
 
--- a turn that found `found` in the first lane and left `left` there, for the port's last request. It did not change the other lanes, and
--- closed the line only if it was the last of a lease. Only withdrawn requests ended after it.
+-- A turn for the port's last request, which found `found` in the first lane and left `left` there. It did not change
+-- the other lanes, and closed the line only if it was the last of a lease. Only withdrawn requests ended after it.
 pub record HadTurn (found left : ℕ) (new : View) : Type 0 where
   pub before : List End
   pub write : Write
@@ -37,15 +37,16 @@ pub record HadTurn (found left : ℕ) (new : View) : Type 0 where
 abbrev pub WasFull : View → Type 0
 WasFull new = (value : ℕ) × (value ≢ 0) × HadTurn value value new
 
--- what `does` counts of a turn that changes the bytes so, by its first lane
+-- what `does` counts of a turn that changes the bytes in this way, by its first lane
 abbrev pub in_lane : (ℕ → ℕ → ℕ) → List ℕ → List ℕ → ℕ
 in_lane does old new = does (lane_of old 0) (lane_of new 0)
 
--- the sum of that over the port's own turns
+-- the sum of these counts over the port's own turns
 abbrev pub lane_sum_of : (ℕ → ℕ → ℕ) → View → ℕ
 lane_sum_of does v = sum_of_own (in_lane does) v
 
--- The port's own turns between `old` and `new` add up to `total`, whatever is counted of a turn that changes the first lane.
+-- The port's own turns between `old` and `new` add up to `total`, whatever `does` counts of a turn that changes the
+-- first lane.
 pub record Moves (total : (ℕ → ℕ → ℕ) → ℕ) (old new : View) : Type 0 where
   pub places : KnowsOwnPlaces new
   pub sums : (does : ℕ → ℕ → ℕ) → ((lane : ℕ) → does lane lane ≡ 0) → lane_sum_of does new ≡ lane_sum_of does old + total does

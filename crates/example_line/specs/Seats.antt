@@ -10,7 +10,7 @@ use Rattle.example_line.specs.declared.capacity.TheConstants.{SEATS}
 abbrev pub IsWithin : List ℕ → Type 0
 IsWithin bytes = lane_of bytes 0 ≤ SEATS
 
--- a turn that finds the data invariant kept leaves it kept
+-- a turn that finds the data invariant satisfied leaves it satisfied
 abbrev pub StaysWithin : List ℕ → List ℕ → Type 0
 StaysWithin old new = IsWithin old → IsWithin new
 
@@ -26,8 +26,8 @@ serves old new = if lane_of new 0 == sold_after (lane_of old 0) then 1 else 0
 abbrev pub spoils : List ℕ → List ℕ → ℕ
 spoils old new = if lane_of new 0 == sold_after (lane_of old 0) then 0 else 1
 
--- The port's own turns between `old` and `new` served customers and did nothing else; none shut the line. They were `customers`, or the
--- port is told closed.
+-- The port's own turns between `old` and `new` served customers and did nothing else, and none of them shut the line.
+-- They served `customers` customers, or the port is told that the line is closed.
 pub record Serves (customers : ℕ) (old new : View) : Type 0 where
   pub places : KnowsOwnPlaces new
   pub unshut : HasNotShut old → HasNotShut new
@@ -36,7 +36,8 @@ pub record Serves (customers : ℕ) (old new : View) : Type 0 where
   pub unspoiled : sum_of_own spoils new ≡ sum_of_own spoils old
   pub all : (turns ≡ customers) ⊎ IsTold new
 
--- all turns of the port served customers, and none shut the line; they were `customers`, or the port is told closed
+-- All turns of the port served customers, and none shut the line. They served `customers` customers, or the port is
+-- told that the line is closed.
 pub record HasServed (customers : ℕ) (v : View) : Type 0 where
   pub places : KnowsOwnPlaces v
   pub unshut : HasNotShut v

@@ -52,7 +52,7 @@ fn sell_one<L: LineSync<SeatLimit>>(port: &mut L::Port)
     }
 }
 
-/// Serves `customers` customers, each in a turn of the line, unless the port is told that the line is closed.
+/// Serves `customers` customers, each in one turn of the line, unless the port is told that the line is closed.
 fn serve<R: Wait, L: LineSync<SeatLimit>>(rt: &R, line: &L, port: &mut L::Port, customers: u64)
     requires belongs { L.belongs line.now port.old }
     requires state { IsTrue (may_ask (L.view port.old).state) }
@@ -96,8 +96,8 @@ impl<R: Wait, L: LineSync<SeatLimit>> ScopedTask<R, L, L::Port> for Clerk {
 
 /// Sells seats with `clerks` threads, each to `customers` customers.
 ///
-/// Returns the number of seats sold, or `None` if the line, memory or a thread is refused. A seat is sold to each customer, while there are
-/// seats.
+/// Returns the number of seats sold, or `None` if the line, memory or a thread is refused. A seat is sold to each
+/// customer, while there are seats.
 pub fn sell<R: Threads + Wait + Sync, L: OpenLine<SeatLimit> + Sync + Drop>(
     rt: &R,
     alloc: Global,

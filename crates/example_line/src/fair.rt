@@ -12,7 +12,7 @@ use std::sync::Wait;
 
 /// Acquires a line that two nodes share. Blocks until the line is granted or closed.
 ///
-/// After the request is made, and before the first poll, the other node has at most one turn before this node's.
+/// Between the request and this node's turn, counted from before the first poll, the other node has at most one turn.
 pub fn after_the_other<R: Wait, L: LineSync<Free>>(rt: &R, line: &L, port: &mut L::Port) -> Got
     requires belongs { L.belongs line.now port.old }
     requires state { IsTrue (may_ask (L.view port.old).state) }

@@ -16,10 +16,10 @@ use std::alloc::Global;
 use std::sync::Wait;
 use std::thread::{Threads, yield_now};
 
-/// Polls before a node withdraws its request.
+/// How often a node polls before it withdraws its request.
 pub const PATIENCE: u64 = 100;
 
-/// All bytes of a line. The first lane contains the value; 0 means that there is none.
+/// All bytes of a line. The first lane contains the value, and 0 means that there is none.
 const WHOLE: Mask = Mask(0xffff_ffff_ffff_ffff);
 
 /// How a bounded request for the line ended.
@@ -33,7 +33,8 @@ pub enum Acquired {
     Closed,
 }
 
-/// Requests the line, polls at most `patience` times, then withdraws the request. Yields the processor between polls, and never blocks.
+/// Requests the line, polls at most `patience` times, and then withdraws the request. Yields the processor between
+/// polls, and never blocks.
 pub fn ask<L: LineSync<Free>>(line: &L, port: &mut L::Port, patience: u64) -> Acquired
     requires belongs { L.belongs line.now port.old }
     requires state { IsTrue (may_ask (L.view port.old).state) }
@@ -72,9 +73,10 @@ pub fn ask<L: LineSync<Free>>(line: &L, port: &mut L::Port, patience: u64) -> Ac
     }
 }
 
-/// Puts `value` into the mailbox if it is empty.
+/// Puts `value` into the mailbox if the mailbox is empty.
 ///
-/// Returns `true` if this node's turn found 0 and wrote `value`; `false` if it had no turn or found a value, which it left there.
+/// Returns `true` if this node's turn found 0 and wrote `value`. Returns `false` if the node had no turn, or found a
+/// value, which it left there.
 pub fn try_put<L: LineSync<Free>>(line: &L, port: &mut L::Port, value: u64) -> bool
     requires belongs { L.belongs line.now port.old }
     requires state { IsTrue (may_ask (L.view port.old).state) }
@@ -104,7 +106,7 @@ pub fn try_put<L: LineSync<Free>>(line: &L, port: &mut L::Port, value: u64) -> b
 
 /// Takes the value from the mailbox, if there is one.
 ///
-/// Returns `None` if this node had no turn, or its turn found 0.
+/// Returns `None` if this node had no turn, or if its turn found 0.
 pub fn try_take<L: LineSync<Free>>(line: &L, port: &mut L::Port) -> Option<u64>
     requires belongs { L.belongs line.now port.old }
     requires state { IsTrue (may_ask (L.view port.old).state) }
@@ -132,7 +134,7 @@ pub fn try_take<L: LineSync<Free>>(line: &L, port: &mut L::Port) -> Option<u64>
     if value == 0 { None } else { Some(value) }
 }
 
-/// Puts `value` into the mailbox, and tries until it has.
+/// Puts `value` into the mailbox, and tries again until it succeeds.
 fn put<R: Wait, L: LineSync<Free>>(rt: &R, line: &L, port: &mut L::Port, value: u64)
     requires belongs { L.belongs line.now port.old }
     requires state { IsTrue (may_ask (L.view port.old).state) }
@@ -149,7 +151,7 @@ fn put<R: Wait, L: LineSync<Free>>(rt: &R, line: &L, port: &mut L::Port, value: 
     }
 }
 
-/// Takes a value from the mailbox, and tries until it has one.
+/// Takes a value from the mailbox, and tries again until it succeeds.
 fn take<R: Wait, L: LineSync<Free>>(rt: &R, line: &L, port: &mut L::Port) -> u64
     requires belongs { L.belongs line.now port.old }
     requires state { IsTrue (may_ask (L.view port.old).state) }
@@ -252,8 +254,9 @@ fn gather<P: Drop>(alloc: Global, handed: Vec<Handed<P>>) -> Option<(Vec<P>, u64
 
 /// Hands the values 1 to `values` from node 1 to node 2.
 ///
-/// Returns the sum of the values taken, which is that of 1 to `values` modulo 2^64; or `None` if the line, memory or a thread is refused.
-/// Nothing bounds the number of tries: if the second thread is refused, the first waits for ever to put a second value.
+/// Returns the sum of the values taken, which is that of 1 to `values` modulo 2^64, or `None` if the line, memory or a
+/// thread is refused. Nothing bounds the number of tries: if the second thread is refused, the first waits for ever to
+/// put a second value.
 pub fn hand_over<R: Threads + Wait + Sync, L: OpenLine<Free> + Sync + Drop>(
     rt: &R,
     alloc: Global,

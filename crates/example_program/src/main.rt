@@ -58,7 +58,8 @@ impl<R: Wait, L: LineSync<Free>> ScopedTask<R, L, L::Port> for Rounds {
     }
 }
 
-/// Opens a line, runs a thread for each node, and returns the first lane at the end; `None` if the line, memory or a thread is refused.
+/// Opens a line, runs a thread for each node, and returns the first lane at the end, or `None` if the line, memory or a
+/// thread is refused.
 fn count<R: Threads + Wait + Sync, L: OpenLine<Free> + Sync + Drop>(
     rt: &R,
     alloc: Global,

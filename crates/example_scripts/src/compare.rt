@@ -17,15 +17,15 @@ pub enum Form {
     Schedule,
     /// A step script.
     Steps,
-    /// A work script whose report is the same in every schedule, over lines of each kind.
+    /// A work script whose report is the same in every schedule, and over lines of each kind.
     Work(WorkKind),
 }
 
-/// Runs the script in each way that there is for it, and compares.
+/// Runs the script in each possible way, and compares the outputs.
 ///
 /// # Errors
 ///
-/// The output differs from the answer, or the script is refused.
+/// The call fails if the output differs from the answer, or if the script is refused.
 pub fn compare<R: Threads + Wait + Sync>(
     rt: &R,
     alloc: Global,
@@ -54,11 +54,11 @@ pub fn compare<R: Threads + Wait + Sync>(
     Ok(())
 }
 
-/// Draws the script as an SVG, and compares.
+/// Draws the script as an SVG, and compares the picture.
 ///
 /// # Errors
 ///
-/// The picture differs, or the script is refused or is work.
+/// The call fails if the picture differs, or if the script is refused or is work.
 pub fn compare_picture(
     alloc: Global,
     form: Form,
@@ -76,7 +76,7 @@ pub fn compare_picture(
     }
 }
 
-/// Returns an error unless `compare` takes a right answer, and refuses a wrong one and another form.
+/// Returns an error unless `compare` accepts a right answer, and refuses a wrong answer and another form.
 pub fn refuses_others<R: Threads + Wait + Sync>(rt: &R, alloc: Global) -> anyhow::Result<()> {
     let script = b"nodes 1 lines 1\nenq 1 0\n";
     let right = b"granted\nline 0 served 0 withdrawn 0 told 0 left 1\n";
@@ -101,7 +101,7 @@ fn expect(said: &[u8], wanted: &[u8]) -> anyhow::Result<()>
     Ok(())
 }
 
-/// The output of the schedule over lines of the kind.
+/// Returns the output of the schedule over lines of this kind.
 fn replay(alloc: Global, script: &[u8], kind: Option<Lock>) -> anyhow::Result<Vec<u8>> {
     let mut said = Vec::new(alloc);
     let done = run_schedule_with(
@@ -116,7 +116,7 @@ fn replay(alloc: Global, script: &[u8], kind: Option<Lock>) -> anyhow::Result<Ve
     }
 }
 
-/// The output of the step script.
+/// Returns the output of the step script.
 fn steps(alloc: Global, script: &[u8]) -> anyhow::Result<Vec<u8>> {
     let mut said = Vec::new(alloc);
     let done = run_steps(
@@ -130,7 +130,7 @@ fn steps(alloc: Global, script: &[u8]) -> anyhow::Result<Vec<u8>> {
     }
 }
 
-/// The report of the work over lines of the lock.
+/// Returns the report of the work over lines of this kind.
 fn report<R: Threads + Wait + Sync>(
     rt: &R,
     alloc: Global,

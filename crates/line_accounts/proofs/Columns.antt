@@ -28,7 +28,7 @@ pub columns_none : {Line Port : Type 0} (belongs : Line → Port → Type 0) (vi
 columns_none {Line} {Port} belongs view lines columns none empty = λ k d lt.
     subst (λ (lines : List Line). IsColumn belongs view lines (slice_index_or columns k d).items) (sym none) (subst (IsColumn belongs view []) (sym (empty k d lt)) (column_none belongs view))
 
--- one line more, and a new port of it
+-- one more line, and a new port of it
 pub over_more : {Line Port : Type 0} (belongs : Line → Port → Type 0) (lines : List Line) (line : Line) (ports : List Port) (port : Port) → AreOver belongs lines ports → belongs line port → AreOver belongs (lines ++ line ∷ []) (ports ++ port ∷ [])
 over_more {Line} {Port} belongs lines line ports port over own = record {
   count = length-append ports (port ∷ []) ∙ (ap (λ n. n + 1) over.count ∙ sym (length-append lines (line ∷ [])));
@@ -158,7 +158,7 @@ pub column_at : {Line Port : Type 0} (belongs : Line → Port → Type 0) (view 
     → (k : ℕ) (column : Vec Port Global) → slice_get columns k ≡ Some column → IsColumn belongs view lines column.items
 column_at {Line} {Port} belongs view lines columns all k column at = subst (λ (c : Vec Port Global). IsColumn belongs view lines c.items) (get_or_from_slice_get columns k column column at) (all k column (slice_get_within columns k column at))
 
--- one desk more, and one list less
+-- one more desk, and one list fewer
 pub desks_move : {Port : Type 0} (desks desks_then : List (DeskOf Port)) (desk : DeskOf Port) (column : Vec Port Global) (rest columns : List (Vec Port Global)) → desks_then ≡ desks ++ desk ∷ [] → desk.ports ≡ column.items → columns ≡ column ∷ rest
     → map (λ (desk : DeskOf Port). desk.ports) desks_then ++ map (λ (column : Vec Port Global). column.items) rest ≡ map (λ (desk : DeskOf Port). desk.ports) desks ++ map (λ (column : Vec Port Global). column.items) columns
 desks_move {Port} desks desks_then desk column rest columns pushed is step =

@@ -190,7 +190,8 @@ module _ {Line Port : Type 0} (belongs : Line → Port → Type 0) (view : Port 
         let (desk, at_desk, at_place) = port_was i port at_port in
         subst (λ (w : View). KnowsOwnPlaces w) (sym is) (left.at_rest i desk (length lines) port at_desk at_place).places
 
--- what is left of all lines and desks: the first lines, and the first ports of each desk; the lines behind these are settled
+-- what is left of all lines and desks: the first lines, and the first ports of each desk; the lines behind these are
+-- settled
 module _ {Line Port : Type 0} (belongs : Line → Port → Type 0) (view : Port → View) (label_of : Line → ℕ) (config_of : Line → LineConfig) (all_lines : List Line) (all_desks : List (DeskOf Port)) where
   pub record IsRest (lines : List Line) (desks : List (DeskOf Port)) : Type 0 where
     pub line_was : (i : ℕ) (line : Line) → slice_get lines i ≡ Some line → slice_get all_lines i ≡ Some line
@@ -206,7 +207,7 @@ module _ {Line Port : Type 0} (belongs : Line → Port → Type 0) (view : Port 
     gone = λ i line le at. absurd (let lt = slice_get_within all_lines i line at in omega (arith, le, lt));
   }
 
-  -- one line more is settled, with the last port of each desk
+  -- one more line is settled, with the last port of each desk
   module _ (lines : List Line) (line : Line) (old new : List (DeskOf Port)) (ports : List Port) (left : IsLeft belongs view config_of (lines ++ line ∷ []) old) (t : TakesLast old new ports) (rest : IsRest (lines ++ line ∷ []) old) where
     taken_are : ArePortsOf all_desks (length lines) ports
     taken_are = record {

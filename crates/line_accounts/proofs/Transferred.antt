@@ -94,7 +94,7 @@ module _ {Port : Type 0} (view : Port → View) (lines source target amount : �
     does = subst (λ k. Does (lane_in source) k (view p) (view p_then) (view q) (view q_then)) target_lane (subst (λ k. Does k to (view p) (view p_then) (view q) (view q_then)) source_lane does);
   }
 
-  -- at two: the lower line's and the higher's, of which the lower pays if `up` says so
+  -- a transfer at two ports, the lower line's and the higher's, of which the lower pays if `up` says so
   pub transfers_between : (low high : ℕ) (p p_then q q_then : Port) (up : Bool) → ((up ≡ true) × (i < j) × (low ≡ i) × (high ≡ j)) ⊎ ((up ≡ false) × (j < i) × (low ≡ j) × (high ≡ i))
       → slice_get d.ports low ≡ Some p → slice_get d.ports high ≡ Some q → (reply : Reply) → MovesBetween up (view p) (view p_then) (view q) (view q_then) from to amount reply
       → Transfers view lines source target amount d (record { ports = set (set d.ports low p_then) high q_then; paid_in = d.paid_in; paid_out = d.paid_out }) reply

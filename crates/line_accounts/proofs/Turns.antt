@@ -14,7 +14,7 @@ use Rattle.qolb_model.specs.Sums.{sum_of_all, KnowsOwnPlaces}
 use Rattle.qolb_model.proofs.Sums.{sums_of_ports}
 use Rattle.line_accounts.specs.Paid.{rise, fall, paid_by, drawn_by}
 
--- after some ends the total and all falls are the total before and all rises
+-- after some ends, the total and all falls are together the total before and all rises
 step : (before mid after falls rises : ℕ) → after + falls ≡ mid + rises → after + ((before - mid) + falls) ≡ before + ((mid - before) + rises)
 step before mid after falls rises h = omega (arith, h)
 
@@ -26,7 +26,8 @@ turns-balance bytes (Served write shut ∷ ends) =
 turns-balance bytes (Gone ∷ ends) = turns-balance bytes ends
 turns-balance bytes (Told ∷ ends) = turns-balance bytes ends
 
--- of a finished line: the bytes' total and all that was drawn are the opening's total and all that was paid in
+-- for a finished line, the total of the bytes and all that was drawn are together the total of the opening and all that
+-- was paid in
 pub finished_total : (good : List ℕ → Type 0) (allows : List ℕ → List ℕ → Type 0) (label : ℕ) (config : LineConfig) (views : List View) (bytes : List ℕ)
     → IsFinished good allows label config views bytes → ((i : ℕ) (v : View) → slice_get views i ≡ Some v → KnowsOwnPlaces v)
     → lanes_total bytes + sum_by drawn_by views ≡ lanes_total config.opening.bytes + sum_by paid_by views
@@ -37,7 +38,7 @@ finished_total good allows label config views bytes f places =
     ∙ (turns-balance config.opening.bytes f.history.ends
     ∙ ap (λ n. lanes_total config.opening.bytes + n) (whole rise)))
 
--- what the first turns did is a part of what all did
+-- what the first turns did is a part of what all turns did
 sum_of_first : (does : List ℕ → List ℕ → ℕ) (bytes : List ℕ) (p : ℕ) (ends : List End) → sum_of_all does bytes (take p ends) ≤ sum_of_all does bytes ends
 sum_of_first does bytes zero ends = omega arith
 sum_of_first does bytes (suc p) [] = omega arith
@@ -45,7 +46,7 @@ sum_of_first does bytes (suc p) (Served write shut ∷ ends) = let rest = sum_of
 sum_of_first does bytes (suc p) (Gone ∷ ends) = sum_of_first does bytes p ends
 sum_of_first does bytes (suc p) (Told ∷ ends) = sum_of_first does bytes p ends
 
--- at no place has a port of a finished line known of more than the opening's total and all that was paid in
+-- no port of a finished line has ever known of more than the opening's total and all that was paid in
 pub found_within : (good : List ℕ → Type 0) (allows : List ℕ → List ℕ → Type 0) (label : ℕ) (config : LineConfig) (views : List View) (bytes : List ℕ)
     → IsFinished good allows label config views bytes → ((i : ℕ) (v : View) → slice_get views i ≡ Some v → KnowsOwnPlaces v) → (v : View) → IsAmong views v → (p : ℕ) → p ≤ length v.ends
     → lanes_total (bytes_after v.config.opening.bytes (take p v.ends)) ≤ lanes_total config.opening.bytes + sum_by paid_by views

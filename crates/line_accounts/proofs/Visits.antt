@@ -31,7 +31,7 @@ use Rattle.qolb_model.proofs.OwnTurns.{NoneServedBeyond, asks_later, places_same
 plus-zero : (a b : ℕ) → a ≡ b → a ≡ b + 0
 plus-zero a b e = omega arith
 
--- a port that asked, whose request, if it made one, was not served
+-- a port that requested the line and whose request, if it made one, was not served
 module _ (old new : View) (rest : IsAtRest old) (past : KnowsOwnHistory old) (go_on : Continues StayBalances old new) where
   pays_nothing : NoneServedBeyond old new → Pays old new 0 0
   pays_nothing beyond = record {
@@ -116,7 +116,7 @@ module _ (held_line new : View) (write : Write) (releases : Releases StayBalance
       cut_after : take (length held_line.ends + 1) new.ends ≡ held_line.ends ++ Served write shut ∷ []
       cut_after = ap (take (length held_line.ends + 1)) releases.ends_turn.ends ∙ take-append-add held_line.ends (Served write shut ∷ passed) 1
 
-  -- the whole call, from its asking on
+  -- the whole call, from its request on
   pub takes_turn : (old : View) (turn : Write) → Holds old held_line turn → TakesTurn old new (bytes_of held_line) write.bytes.bytes
   takes_turn old turn h = record {
     continues = record {

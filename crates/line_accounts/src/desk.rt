@@ -82,7 +82,8 @@ impl<L: LineSync<AccountLaw>> Desk<L> {
     }
 }
 
-/// Pays the amount into the account, in one turn of its line. Polls at most `patience` times for that turn. Does not allocate.
+/// Pays the amount into the account, in one turn of its line. Polls at most `patience` times for that turn. Does not
+/// allocate.
 pub fn deposit<L: LineSync<AccountLaw>>(
     lines: &[L],
     desk: &mut Desk<L>,
@@ -111,7 +112,8 @@ pub fn deposit<L: LineSync<AccountLaw>>(
     )
 }
 
-/// Pays the amount out of the account, in one turn of its line. Polls at most `patience` times for that turn. Does not allocate.
+/// Pays the amount out of the account, in one turn of its line. Polls at most `patience` times for that turn. Does not
+/// allocate.
 pub fn take_out<L: LineSync<AccountLaw>>(
     lines: &[L],
     desk: &mut Desk<L>,

@@ -39,7 +39,7 @@ where
     }
 }
 
-/// Returns the least line with fewer than `count` ports, or `None` if each has enough.
+/// Returns the smallest line with fewer than `count` ports, or `None` if each line has enough.
 fn first_short<L, P>(opened: &[(L, Vec<P>)], count: usize) -> Option<usize>
     ensures { MatchOption result (AreEnough count opened.now) (IsFirstShort count opened.now) }
 {

@@ -1,4 +1,4 @@
-//! Accounts that are striped over several lines. No money is lost, whatever the schedule of the threads.
+//! Accounts that are striped over several lines. No money is lost, however the threads are scheduled.
 #![tactic(auto)]
 
 mod answer;

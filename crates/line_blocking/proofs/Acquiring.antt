@@ -27,7 +27,7 @@ use Rattle.line_blocking.specs.Acquiring.{Acquires, AcquiresTimed, ComesSoon, En
 some_node : (v : View) (config : LineConfig) → v.config ≡ config → 1 ≤ v.node → v.node ≤ config.nodes → length v.ends < length v.ends + v.config.nodes
 some_node v config is low high = let e = ap (λ (t : LineConfig). t.nodes) is in omega arith
 
--- a port that was busy may ask again
+-- a port that was busy may make another request
 pub quiet_busy : (old new : View) → IsBusy old new → may_ask new.state ≡ true
 quiet_busy old new b = by b.was
   where
@@ -35,7 +35,7 @@ quiet_busy old new b = by b.was
     by (inl was) = ap may_ask (b.state ∙ was)
     by (inr was) = ap may_ask (b.state ∙ was)
 
--- granted or told at once
+-- the request is granted or told at once
 acquired_once : (allows : List ℕ → List ℕ → Type 0) (old mid new : View) (turn : Write) (answer : Enq) (got : Got)
     → Extends old mid → mid.count ≡ old.count → Enqueues allows mid new turn answer → answer ≢ enq.Busy
     → (got ≡ Granted → answer ≡ enq.Granted) → (got ≡ Closed → answer ≡ enq.Closed) → Acquires allows old new turn got
@@ -47,7 +47,7 @@ acquired_once allows old mid new turn answer got e same q asked granted closed =
   told = λ is. q.told (closed is);
 }
 
--- granted or told after a wait
+-- the request is granted or told after a wait
 pub acquired_waiting : (allows : List ℕ → List ℕ → Type 0) (old mid now new : View) (first turn : Write) (got : Got)
     → Extends old mid → mid.count ≡ old.count → Enqueues allows mid now first enq.Queued
     → EndsWait allows now new turn got → Acquires allows old new turn got
@@ -60,7 +60,7 @@ acquired_waiting allows old mid now new first turn got e same q w =
       told = w.told;
     }
 
--- granted or told at once, within a time
+-- the request is granted or told at once, within a time
 acquired_at_once : (allows : List ℕ → List ℕ → Type 0) (old mid new : View) (turn : Write) (answer : Enq) (got : TimedAcquire)
     → Extends old mid → mid.count ≡ old.count → Enqueues allows mid new turn answer → answer ≢ enq.Busy
     → (got ≡ timed_acquire.Granted → answer ≡ enq.Granted) → (got ≡ timed_acquire.Closed → answer ≡ enq.Closed) → got ≢ timed_acquire.TimedOut → AcquiresTimed allows old new turn got
@@ -73,7 +73,7 @@ acquired_at_once allows old mid new turn answer got e same q asked granted close
   late = λ is. absurd (some is);
 }
 
--- granted, told or withdrawn after a wait
+-- the request is granted, told or withdrawn after a wait
 pub acquired_within : (allows : List ℕ → List ℕ → Type 0) (old mid now new : View) (first turn : Write) (got : TimedAcquire)
     → Extends old mid → mid.count ≡ old.count → Enqueues allows mid now first enq.Queued
     → EndsWaitTimed allows now new turn got → AcquiresTimed allows old new turn got
@@ -89,7 +89,7 @@ acquired_within allows old mid now new first turn got e same q w =
       late = λ is. inl (asks, joined, w.late is);
     }
 
--- granted or told at a poll, after polls that answered `Waiting`
+-- the request is granted or told at a poll, after polls that answered `Waiting`
 polled : (allows : List ℕ → List ℕ → Type 0) (old mid new : View) (turn : Write) (answer : Poll) (got : Got)
     → Extends old mid → mid.count ≡ old.count → Polls allows mid new turn answer
     → (got ≡ Granted → answer ≡ poll.Granted) → (got ≡ Closed → answer ≡ poll.Closed) → EndsWait allows old new turn got
@@ -100,7 +100,7 @@ polled allows old mid new turn answer got e same p granted closed = record {
   told = λ is. p.told (closed is);
 }
 
--- a wait without a time limit, as one that ended in time
+-- a wait without a timeout, as a wait that ended in time
 in_time : (allows : List ℕ → List ℕ → Type 0) (old new : View) (turn : Write) (got : Got) (timed : TimedAcquire)
     → EndsWait allows old new turn got → (timed ≡ timed_acquire.Granted → got ≡ Granted) → (timed ≡ timed_acquire.Closed → got ≡ Closed)
     → timed ≢ timed_acquire.TimedOut → EndsWaitTimed allows old new turn timed
@@ -126,7 +126,7 @@ module _ (allows : List ℕ → List ℕ → Type 0) (old mid new : View) (turn 
   pub polled_told_in_time : Polls allows mid new turn poll.Closed → EndsWaitTimed allows old new turn timed_acquire.Closed
   polled_told_in_time p = in_time allows old new turn Closed timed_acquire.Closed (polled_told p) (λ is. cc is) (λ _. refl) (λ is. cc is)
 
--- withdrawn, granted or told after a poll that answered `Waiting`
+-- the request is withdrawn, granted or told after a poll that answered `Waiting`
 pub waits_on : (allows : List ℕ → List ℕ → Type 0) (old mid now new : View) (polled turn : Write) (got : TimedAcquire) → Extends old mid → mid.count ≡ old.count
     → Polls allows mid now polled poll.Waiting → EndsWaitTimed allows now new turn got → EndsWaitTimed allows old new turn got
 waits_on allows old mid now new polled turn got e same p w = record {
@@ -166,7 +166,7 @@ module _ {Port : Type 0} (view : Port → View) (counters : Port → Counters) (
     bounded_bypass = some_node (view asked) config sound.config_is sound.first_node sound.last_node;
   }
 
-  -- granted after a wait
+  -- the request was granted after a wait
   pub soon_waiting : (new : Port) (turn : Write) → Enqueues allows (view mid) (view asked) first enq.Queued
       → Continues allows (view asked) (view new) → (view new).count ≡ (view asked).count → IsGranted (view new) turn → ComesSoon view counters old new
   soon_waiting new turn q c count granted = record {
@@ -194,11 +194,11 @@ closed_in_time is = cc is
 pub looked_first : (first now last : ℕ) → first ≤ now → last ≡ now + 1 → first + 1 ≤ last
 looked_first first now last before more = omega arith
 
--- and has polled as often as before, and more
+-- the port has polled as often as before, or more often
 pub looked_more : (first now last : ℕ) → first ≤ now → last ≡ now + 1 → first ≤ last
 looked_more first now last before more = omega arith
 
--- a wait with a time limit that is late is not granted
+-- a wait with a timeout that is late is not granted
 pub late_ungranted : timed_acquire.TimedOut ≢ timed_acquire.Granted
 late_ungranted is = cc is
 
@@ -213,7 +213,7 @@ busy_still old mid new same still b = record { was = by b.was; unclear = b.uncle
     by (inl was) = inl (sym still ∙ was)
     by (inr was) = inr (sym still ∙ was)
 
--- and is late
+-- the port is late
 pub busy_within : (allows : List ℕ → List ℕ → Type 0) (old mid new : View) (turn : Write) → Extends old mid → mid.count ≡ old.count → mid.state ≡ old.state
     → Enqueues allows mid new turn enq.Busy → AcquiresTimed allows old new turn timed_acquire.TimedOut
 busy_within allows old mid new turn e same still q = record {
@@ -225,6 +225,6 @@ busy_within allows old mid new turn e same still q = record {
   late = λ _. inr (busy_still old mid new same still (q.busy refl));
 }
 
--- a port that has polled since it asked has polled
+-- a port that has polled since it made its request has polled
 pub looked_meanwhile : (old mid asked new : ℕ) → mid ≡ old → asked ≡ mid → asked + 1 ≤ new → old + 1 ≤ new
 looked_meanwhile old mid asked new same still more = omega arith

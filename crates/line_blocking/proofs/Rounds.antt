@@ -104,7 +104,7 @@ meets_others allows stance place old before rest port behind before_then now por
   is = map-append stance before_then (port_then ∷ behind_then);
 }
 
--- there is a port at a place of the ports
+-- each place of the ports has a port
 pub some_port : {P X : Type 0} (old before rest : List P) (place : ℕ) → old ≡ before ++ rest → length before ≡ place → length rest ≡ 0 → place < length old → X
 some_port old before rest place is at none low = absurd (omega (arith, ap length is, length-append before rest))
 

@@ -11,7 +11,7 @@ use Rattle.line_board.specs.Law.{Changes}
 use Rattle.line_board.specs.PutsAndTakes.{put_between, taken_between, standing, puts_of, takes_of, IsQueue}
 use Rattle.line_board.proofs.Steps.{standing-stand, step_balances}
 
--- the puts and takes of two lists of ends, one behind the other
+-- the puts and takes of two lists of ends, one after the other
 pub puts-append : (bytes : List ℕ) (xs ys : List End) → puts_of bytes (xs ++ ys) ≡ puts_of bytes xs ++ puts_of (bytes_after bytes xs) ys
 puts-append bytes [] ys = refl
 puts-append bytes (Served write shut ∷ xs) ys =

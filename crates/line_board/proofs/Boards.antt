@@ -10,7 +10,7 @@ use Rattle.line_lanes.proofs.EachLane.{lanes_of-at}
 use Rattle.qolb_model.proofs.Lists.{same_some}
 use Rattle.line_board.specs.Board.{are_zeros, count_of, is_board, tasks_of, Stand}
 
--- all numbers are zero if each is, and each if all are
+-- all numbers are zero if each is, and each is if all are
 pub are_zeros-from : (xs : List ℕ) → ((j : ℕ) → j < length xs → get_or xs j 0 ≡ 0) → are_zeros xs ≡ true
 are_zeros-from [] each = refl
 are_zeros-from (x ∷ xs) each = rw (eq-eqb x 0 (each 0 (omega arith))) (are_zeros-from xs (λ j h. each (suc j) (omega (arith, h))))
@@ -86,7 +86,7 @@ module _ (bytes : List ℕ) (few : count_of bytes ≤ 7) where
 pub is_board-from : (bytes : List ℕ) → count_of bytes ≤ 7 → are_zeros (slice_range bytes 1 8) ≡ true → are_zeros (drop (count_of bytes + 1) (lanes_of bytes)) ≡ true → is_board bytes ≡ true
 is_board-from bytes few blank unused = rw (le-leb (count_of bytes) 7 few, blank) unused
 
--- no board if one part fails
+-- a line is not a board if one part fails
 not_board : (bytes : List ℕ) → is_board bytes ≡ false → tasks_of bytes ≡ None
 not_board bytes is = ap (λ b. if b then Some (take (count_of bytes) (drop 1 (lanes_of bytes))) else None) is
 

@@ -71,7 +71,7 @@ first_written tasks few = record {
   unused = λ j above below. lane-with_lane_other zeros 0 (length tasks) j refl (omega arith) (omega arith) below (omega arith) ∙ zero_lane j below;
 }
 
--- and with one task more
+-- the board with one more task
 pub next_written : (bytes tasks : List ℕ) (done : ℕ) → length tasks ≤ 7 → done < length tasks → get_or tasks done 0 < 2 ^ 64 → IsWritten bytes tasks done → IsWritten (with_lane_of bytes (done + 1) (get_or tasks done 0)) tasks (done + 1)
 next_written bytes tasks done few more fits w =
     let task = get_or tasks done 0 in
@@ -95,7 +95,7 @@ low-length bytes long = length-take 7 (drop 1 bytes) ∙ omega (arith, length-dr
 low-at : (bytes : List ℕ) (j : ℕ) → j < 7 → get_or (slice_range bytes 1 8) j 0 ≡ slice_index bytes (1 + j)
 low-at bytes j h = get_or-take 7 (drop 1 bytes) j 0 h ∙ get_or-drop 1 bytes j 0
 
--- with all tasks it is their board
+-- with all tasks it is the board of these tasks
 pub written_laid : (bytes tasks : List ℕ) → length tasks ≤ 7 → IsWritten bytes tasks (length tasks) → IsLaid bytes tasks
 written_laid bytes tasks few w = record {
   few = few;

@@ -13,7 +13,7 @@ of_none B (Some x) e a = absurd (let f : Some x ≡ None = e in cc f)
 pub none_or_some : {T : Type 0} (o : Option T) (x : T) → o ≡ None → o ≡ Some x → ⊥
 none_or_some o x none some = let e : None ≡ Some x = sym none ∙ some in cc e
 
--- a property of the error of a result that is one
+-- a property of the error of a result that is an error
 pub failed_with : {T E P : Type 0} (r : Result T E) → result_ok r ≡ None → OnErr r P → P
 failed_with (Err y) e h = h
 failed_with (Ok y) e h = absurd (let f : Some y ≡ None = e in cc f)

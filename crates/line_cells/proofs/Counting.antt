@@ -9,7 +9,7 @@ use Rattle.qolb_model.specs.declared.config.TheConstants.{MAX_NODES}
 use Rattle.line_cells.specs.Counting.{least, cells_for, mask_for}
 use Rattle.line_cells.specs.Layout.{cell_of, ticket_of}
 
--- with one more bit, if `bits` are not enough
+-- the least number with one more bit, if `bits` are not enough
 least_more : (more bits nodes : ℕ) → 2 ^ bits ≤ nodes → least (suc more) bits nodes ≡ least more (bits + 1) nodes
 least_more more bits nodes h = ap (λ (b : Bool). if b then bits else least more (bits + 1) nodes) (le-ltb nodes (2 ^ bits) h)
 
@@ -24,7 +24,7 @@ enough (suc more) bits nodes n low h = elim (cases_lt nodes (2 ^ bits)) [
   | inr many ↦ subst (λ (k : ℕ). n < 2 ^ k) (sym (least_more more bits nodes many)) (enough more (bits + 1) nodes n low (let e : bits + suc more ≡ bits + 1 + more = omega arith in subst (λ (k : ℕ). n < 2 ^ k) e h))
 ]
 
--- and they are not more than there may be
+-- the number of bits is within its limits
 near : (more bits nodes : ℕ) → (bits ≤ least more bits nodes) × (least more bits nodes ≤ bits + more)
 near zero bits nodes = (omega arith, omega arith)
 near (suc more) bits nodes = elim (cases_lt nodes (2 ^ bits)) [
@@ -32,7 +32,7 @@ near (suc more) bits nodes = elim (cases_lt nodes (2 ^ bits)) [
   | inr many ↦ let e = least_more more bits nodes many in let n = near more (bits + 1) nodes in (omega arith, omega arith)
 ]
 
--- there are more cells than nodes, 2 to 256
+-- there are more cells than nodes, from 2 to 256
 pub node_below : (nodes n : ℕ) → n ≤ nodes → n ≤ MAX_NODES → n < cells_for nodes
 unfolding cells_for
 node_below nodes n low few = enough 7 1 nodes n low (omega arith)

@@ -77,7 +77,7 @@ module _ (cells : Cells) (slot_layout : SlotLayout) (good : List ℕ → Type 0)
     more : (s : Request) → Has x.clear s → Has (clear_with (own v.view) ps (x.clear ++ r ∷ [])) s
     more s h = more_clear (own v.view) ps (x.clear ++ r ∷ []) s (has_left x.clear (r ∷ []) s h)
 
-    -- after the last one the own request is clear
+    -- after the last passed node is freed, the node's own request is clear
     own_clear : (l : List ℕ) → after_walk l ≡ Idle → Has (clear_with (own v.view) l (x.clear ++ r ∷ [])) (own v.view)
     own_clear [] e = has_last (x.clear ++ r ∷ []) (own v.view)
     own_clear (p ∷ l) e = absurd (cc e)

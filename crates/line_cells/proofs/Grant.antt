@@ -50,16 +50,16 @@ some_list : (l : List ℕ) (q : ℕ) → l ++ q ∷ [] ≢ []
 some_list [] q e = cc
 some_list (p ∷ ps) q e = cc
 
--- The cells of a lock with `ended` ended requests, of which the next is changed so, to grant it. If no node withdrew
--- there, its old word is read as 0, and the line goes home; otherwise it names the node that withdrew, and the
--- releasing node still has the line.
+-- The cells of a lock with `ended` ended requests, of which the next one is changed in this way to grant it. If no node
+-- withdrew there, its old word is read as 0, and the line goes home. Otherwise the word names the node that withdrew,
+-- and the releasing node still has the line.
 abbrev pub GrantsNext : ℕ → Cells → (ℕ → ℕ → ℕ) → (ℕ → ℕ → ℕ) → ℕ → Bool → (ℕ → ℕ) → Type 0
 GrantsNext count cells seen withdrawn_by ended cleared change = (holder : ℕ) (marks says : ℕ → ℕ) → marks (ended + count) ≡ 0 → cells ended holder cleared marks says
     → (marks (ended + 1) ≡ 0 → (seen (ended + 1) (says (cell_of count (ended + 1))) ≡ 0) × cells (ended + 1) 0 false marks (put says (cell_of count (ended + 1)) (change (says (cell_of count (ended + 1))))))
     × (0 < marks (ended + 1) → marks (ended + 1) ≤ MAX_NODES → 0 < holder
     → (seen (ended + 1) (says (cell_of count (ended + 1))) ≢ 0) × (withdrawn_by (ended + 1) (says (cell_of count (ended + 1))) ≡ marks (ended + 1)) × cells (ended + 1) holder false marks (put says (cell_of count (ended + 1)) (change (says (cell_of count (ended + 1))))))
 
--- a line that has no lease had none, and one that is open was
+-- a line that has no lease had none before, and a line that is open was open before
 none_before : (lease : Option ℕ) (xs ys : List End) → turns_left lease ys ≡ None → turns_left lease xs ≡ None
 none_before None xs ys is = refl
 none_before (Some turns) xs ys is = absurd (cc is)
@@ -68,7 +68,7 @@ or_before : (a b : Bool) → (a || b) ≡ false → a ≡ false
 or_before false b is = refl
 or_before true b is = is
 
--- therefore a slot that was behind the line is behind it once more
+-- a slot that was behind the line is therefore still behind it
 behind_goes : (lease : Option ℕ) (ends : List End) (e : End) (z : Payload) → IsBehind (turns_left lease ends) (is_closed ends) z → IsBehind (turns_left lease (ends ++ e ∷ [])) (is_closed (ends ++ e ∷ [])) z
 behind_goes lease ends e z b = record {
   turns = λ is. b.turns (none_before lease ends (ends ++ e ∷ []) is);
@@ -313,7 +313,7 @@ module _ (cells : Cells) (slot_layout : SlotLayout) (good : List ℕ → Type 0)
             go [] = fine_clear good allows key (record x { ends = x.ends ++ e ∷ []; cleared = false }) v.own.place (own v.view) one below placed unclear
             go (p ∷ l) = one
 
-            -- what ended just now is the own request, or a withdrawn one
+            -- the request that has just ended is the node's own, or a withdrawn one
             settled : (p : ℕ) (r : Request) (end : End) → p + 1 ≡ length (x.ends ++ e ∷ []) → At x.order p r → At (x.ends ++ e ∷ []) p end → is_gone end ≡ false → Has (clear_with (own v.view) v.own.passed x.clear) r
             settled p r end last at en kind = let here : p ≡ length x.ends = (let l = longer in omega arith) in
                 let same : end ≡ e = ⊎_elim (λ z. absurd (let a = z.0 in omega arith)) (λ z. z.1) (push_cases x.ends e p end en) in
@@ -369,7 +369,7 @@ module _ (cells : Cells) (slot_layout : SlotLayout) (good : List ℕ → Type 0)
 
     -- the seat's slots, in which the line is stored for the successor
     module _ (slots : Slots) (laid : slot_layout.slots_at_release (length v.view.ends) y slots) where
-      -- what was behind the line is behind it after this end
+      -- what was behind the line is still behind it after this end
       spare : AreSpare slot_layout (length v.view.ends) y s.homes
       spare k few inside =
           let z = r.shown.spare k few (λ some out. inside (subst (λ es. slot_layout.is_out (length es) k) (sym same_ends) out)) in (

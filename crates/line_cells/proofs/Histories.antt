@@ -72,7 +72,7 @@ module _ (good : List ℕ → Type 0) (allows : List ℕ → List ℕ → Type 0
   pub alone_history : (x : History) → HistoryInv good allows key x → (n : ℕ) (w : ArrayGhost) → NodeInv key x n w → OneHistory (w.view ∷ [])
   alone_history x f n w ok = one_history x f (w.view ∷ []) (λ v i. (n, w, sym (among_one w.view v i), ok))
 
-  -- a node knows what became of each of its requests: one that has no end is its last, and waits or holds
+  -- a node knows what became of each of its requests: a request that has no end is its last, and waits or holds
   pub own_history : (x : History) → HistoryInv good allows key x → (n : ℕ) (w : ArrayGhost) → NodeInv key x n w → KnowsOwnHistory w.view
   own_history x f n w ok p r known mine = elim (cases_lt p (length x.ends)) [
     | inl ended ↦ (let end = element_at x.ends p ended in go end.0 end.1 (is_gone end.0) refl)

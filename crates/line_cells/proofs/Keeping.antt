@@ -22,11 +22,11 @@ use Rattle.line_generic.specs.declared.table.Payload.{Payload}
 use Rattle.line_cells.specs.SlotLayout.{SlotLayout, Homes, IsSpare}
 use Rattle.line_cells.specs.Array.{ArrayGhost, ArrayState, At, Cells, History, NodeInv, HistoryInv, Represents, ArrayRule}
 
--- a word that is no cell's changes none
+-- a change of a word that is no cell's changes no cell
 pub cells_else : (words : List ℕ) (i z : ℕ) → ((c : ℕ) → cell_at c ≢ i) → cells_in (set words i z) ≡ cells_in words
 cells_else words i z ne = λ j c. get_or-set_other words i (cell_at c) z 0 (ne c) j
 
--- a cell's changes that one alone
+-- a change of a cell's word changes that cell alone
 pub cells_put : (count : ℕ) (words : List ℕ) (q z : ℕ) → length words ≡ word_count count → q < count → cells_in (set words (cell_at q) z) ≡ put (cells_in words) q z
 cells_put count words q z wide small = λ j c. each c j
   where
@@ -77,11 +77,11 @@ module _ (cells : Cells) (slot_layout : SlotLayout) (good : List ℕ → Type 0)
       once : (k : ℕ) → 0 < k → k ≤ key.config.nodes → count_of k (drop (length r.history.ends) r.history.order) ≤ 1
       once k a b = count_once k (drop (length r.history.ends) r.history.order) (λ i j q t at at' mine mine'. let ok = r.each k a b in let l = place k ok i q at mine in let m = place k ok j t at' mine' in omega arith)
 
-  -- nor than the nodes of terms that are the line's
+  -- no more requests are open than a line with these terms has nodes
   pub few_open : (s : ArrayState) (r : Rule s) (config : LineConfig) → config ≡ key.config → length r.history.order ≤ length r.history.ends + config.nodes
   few_open s r config is = subst (λ (t : LineConfig). length r.history.order ≤ length r.history.ends + t.nodes) (sym is) (window s r)
 
-  -- far ahead nothing is marked
+  -- no request is marked far ahead
   pub blank : (s : ArrayState) (r : Rule s) → r.history.marks (length r.history.ends + slot_layout.cells) ≡ 0
   blank s r = dite (ℕ_discrete (r.history.marks (length r.history.ends + slot_layout.cells)) 0) (λ z. z)
       (λ ne. let k = r.history_inv.marked (length r.history.ends + slot_layout.cells) (omega arith) in let h = slice_get_within r.history.order (length r.history.ends + slot_layout.cells) k.0 k.1 in let w = window s r in let f = r.shown.more in absurd (omega arith))

@@ -87,7 +87,7 @@ module _ (cells : Cells) (slot_layout : SlotLayout) (good : List ℕ → Type 0)
           ),
         )))
 
-    -- what a look finds that is told by a token and the lower half of the word
+    -- what a look finds is decided by a token and the lower half of the word
     pub looks_next : (cells_for : ℕ → ℕ) → slot_layout.cells ≡ cells_for key.config.nodes
         → (slots_at_grant : ℕ → ℕ → Payload → Slots → Type 0) (kept : ℕ → ℕ → Option ℕ → Slots → Type 0) (laid : ℕ → ℕ → Payload → Slots → Type 0) (signals_turn : ℕ → ℕ → Bool) (token : ℕ) → token ≡ token_of v.own.place
         → ((found : ℕ) → signals_turn token (found % 2 ^ 32) ≡ false → waits v.own.place found) → ((found : ℕ) → signals_turn token (found % 2 ^ 32) ≡ true → comes_to v.own.place found)

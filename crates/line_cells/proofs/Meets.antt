@@ -96,7 +96,7 @@ module _ (cells : Cells) (slot_layout : SlotLayout) (good : List ℕ → Type 0)
   abbrev Rule : ArrayState → Type 0
   Rule = ArrayRule cells slot_layout good allows key
 
-  -- two entries of one seat, which tell each other what they know
+  -- two entries of one seat tell each other what they know
   module _ (s : ArrayState) (r : Rule s) (me : ℕ) (v u : ArrayGhost) (at : get_elem? s.views me ≡ some (v ∷ u ∷ [])) where
     first_ok : NodeInv key r.history v.view.node v
     first_ok = let m = r.members me 0 (v ∷ u ∷ []) v at refl in subst (NodeInv key r.history v.view.node) m.is (r.each v.view.node m.low m.high)
@@ -126,7 +126,7 @@ module _ (cells : Cells) (slot_layout : SlotLayout) (good : List ℕ → Type 0)
       members = pair_members node_of key.config.nodes r.who r.owner s.views r.members me v u at (merged_ghost v u) (merged_ghost u v) refl refl;
     }
 
-    -- one that knows all ends learns of none
+    -- a node that knows all ends learns of none
     whole_stays : (xs ys : List End) → xs ≡ r.history.ends → IsPrefix ys r.history.ends → longer xs ys ≡ xs
     whole_stays xs ys whole begins = longer_whole xs ys r.history.ends whole begins ∙ sym whole
 
@@ -160,7 +160,7 @@ module _ (cells : Cells) (slot_layout : SlotLayout) (good : List ℕ → Type 0)
         ),
       )
 
-  -- the holder's slots go home, for a moment
+  -- the holder's slots go home for a moment
   pub return_slots_next : (me slots i : ℕ) (m : SeatContents) (v : ArrayGhost) (left : Option ℕ) → left ≡ turns_left v.view.config.lease v.view.ends → m.0 ≡ v ∷ [] → v.view.state ≡ port_state.Holding → (v.view.config ≡ key.config → MayReturnSlots slot_layout left m.1) → Allows Rule slots me m i (λ n. n) (slots_returned (step slots i 0 0 none) m)
   return_slots_next me slots i m v left turns is holds_open may_return_slots s r deep at small =
       let at' : get_elem? s.views me ≡ some (v ∷ []) = at ∙ ap some is in

@@ -41,7 +41,7 @@ module _ {n : ℕ} {v : ArrayGhost} {ended : ℕ} {clear : List Request} {marks 
       none : (i p : ℕ) → At w.own.passed i p → ⊥
       none i p at = at_none i p (subst (λ (z : List ℕ). At z i p) (same ∙ none_passed) at)
 
--- and still knows, if another request gets clear
+-- the node still knows this when another request becomes clear
 pub knows_clear : (order : List Request) (ends : List End) (clear : List Request) (n : ℕ) (w : View) (q : Request) → ViewInv order ends clear n w → ViewInv order ends (clear ++ q ∷ []) n w
 knows_clear order ends clear n w q k = record {
   orders = k.orders;
@@ -53,11 +53,11 @@ knows_clear order ends clear n w q k = record {
 }
 
 module _ (key : TableKey) (x : History) (n : ℕ) (v : ArrayGhost) (ok : NodeInv key x n v) where
-  -- what it had freed is clear
+  -- the requests that the node had freed are clear
   pub freed_so : (r : Request) → Has v.view.freed r → Has x.clear r
   freed_so r h = has_prefix v.view.clear x.clear r ok.knows.clears (ok.knows.freed_clear r h)
 
-  -- another node asks
+  -- another node makes a request
   pub others_ask : (q : Request) → q.node ≢ n → NodeInv key (record x { order = x.order ++ q ∷ [] }) n v
   others_ask q other = record {
     who = ok.who;
@@ -112,7 +112,8 @@ module _ (key : TableKey) (x : History) (n : ℕ) (v : ArrayGhost) (ok : NodeInv
     joins = ok.joins;
   }
 
-  -- the request t at its turn ends, by a step of m, which has the line: it is m's own, or it is withdrawn and ends so
+  -- The request t at its turn ends, by a step of m, which has the line. Either t is m's own request, or it is withdrawn
+  -- and ends so.
   pub others_end : (m : ℕ) (t : Request) (e : End) (releaser_of : ℕ → ℕ) → At x.order (length x.ends) t → (t.node ≡ m) ⊎ (0 < x.marks (length x.ends)) → (0 < x.marks (length x.ends) → is_gone e ≡ true) → n ≢ m → x.holder ≡ m
       → ((p : ℕ) → p ≤ length x.ends → releaser_of p ≡ x.releaser_of p) → NodeInv key (record x { ends = x.ends ++ e ∷ []; cleared = false; releaser_of = releaser_of }) n v
   others_end m t e releaser_of turn whose gone other had same = record {

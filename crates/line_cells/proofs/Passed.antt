@@ -44,18 +44,18 @@ module _ (cells : Cells) (slot_layout : SlotLayout) (good : List ℕ → Type 0)
   marked i p e = let h = ok.passes.passed i p e in let m = r.history_inv.marked p h.marked in
       (m.0, m.1, m.2, subst (Lacks r.history.clear) (at_same r.history.order p h.request m.0 (prefix_get v.view.order r.history.order p h.request ok.knows.orders h.at) m.1) h.unclear)
 
-  -- what is passed is the last request of a node that is rolled
+  -- a passed request is the last one of a node that is rolled
   last : (i p k : ℕ) → At v.own.passed i p → r.history.marks p ≡ k → 0 < k → k ≤ key.config.nodes → ((r.who k).own.point ≡ Rolled) × ((r.who k).own.place ≡ p)
   last i p k e is a b = let h = ok.passes.passed i p e in let m = marked i p e in (r.each k a b).marks.last p m.0 m.1 (m.2 ∙ is) h.marked m.3
 
-  -- what the node knows there is what is there
+  -- what the node knows of a place is what is there
   known : (i p : ℕ) (q : Request) → At v.own.passed i p → At v.view.order p q → (q.node ≡ r.history.marks p) × (0 < q.node) × (q.node ≤ key.config.nodes)
   known i p q e has = let m = marked i p e in
       let same : m.0 ≡ q = at_same r.history.order p m.0 q m.1 (prefix_get v.view.order r.history.order p q ok.knows.orders has) in
       let within = r.history_inv.nodes p m.0 m.1 in
       (ap (λ (z : Request). z.node) (sym same) ∙ m.2, subst (λ (z : Request). 0 < z.node) same within.0, subst (λ (z : Request). z.node ≤ key.config.nodes) same within.1)
 
-  -- the passed requests are of other nodes, each of another one
+  -- the passed requests are of other nodes, each of a different one
   pub others_passed : is_releasing v.own.point ≡ true → AreOfOthers v.view.node v.view.order v.own.passed
   others_passed walks = record {
     others = λ i p q e has mine. let k = known i p q e has in

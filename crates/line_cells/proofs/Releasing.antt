@@ -15,11 +15,11 @@ use Rattle.line_cells.specs.Array.{ArrayGhost}
 use Rattle.line_cells.specs.Steps.{end_of, next_end, Ended}
 use Rattle.line_cells.specs.Releases.{ReleasesLine, FinishesWalk}
 
--- a node that has passed none ends its own request next
+-- a node that has passed no request ends its own next
 ends_own : (w : ArrayGhost) (y : Payload) (closed : Bool) → w.own.passed ≡ [] → is_closed w.view.ends ≡ closed → next_end w y ≡ own_end closed y
 ends_own w y closed none is = (λ i. end_of (none i) (is i) y)
 
--- a release that walked on is a release
+-- a release that walked on is a whole release
 pub lets_on : (v u t : ArrayGhost) (y : Payload) → v.own.passed ≡ [] → Ended v u y → Extends u.view t.view → FinishesWalk u t → ReleasesLine v y t
 lets_on v u t y none e more w =
     let ended : u.view.ends ≡ v.view.ends ++ own_end (is_closed v.view.ends) y ∷ [] = e.ends ∙ ap (λ x. v.view.ends ++ x ∷ []) (ends_own v y (is_closed v.view.ends) none refl) in

@@ -28,7 +28,8 @@ use Rattle.line_cells.proofs.Slots.{MayTake}
 use Rattle.line_cells.proofs.Taking.{Takes, StaysBehind, take_entry, asked_at, near, behind, found_is, home, act, brought, shows_turn, learns_take, taken_not_waits, taken_rule}
 use Rattle.line_cells.proofs.Turning.{goes_step}
 
--- The cells of a lock after the node n withdraws its request at this place, which is behind the turn, by a step that changes the cell so.
+-- The cells of a lock after the node n withdraws its request at this place, which is behind the turn, by a step that
+-- changes the cell in this way.
 abbrev pub Withdraws : ℕ → Cells → ℕ → ℕ → (ℕ → ℕ) → Type 0
 Withdraws count cells place n change = (ended holder : ℕ) (cleared : Bool) (marks says : ℕ → ℕ) → 0 < n → n ≤ MAX_NODES → ended < place → place < ended + count → marks place ≡ 0 → cells ended holder cleared marks says
     → cells ended holder cleared (put marks place n) (put says (cell_of count place) (change (says (cell_of count place))))

@@ -21,7 +21,7 @@ module _ (cells : Cells) (slot_layout : SlotLayout) (good : List ℕ → Type 0)
   abbrev Rule : ArrayState → Type 0
   Rule = ArrayRule cells slot_layout good allows key
 
-  -- the same entries in other seats
+  -- the same entries, in other seats
   reseated : (s : ArrayState) (r : Rule s) (views : List (List ArrayGhost)) (owner : ℕ → ℕ × ℕ) → AreMembers node_of key.config.nodes r.who owner views → Rule record { words = s.words; homes = s.homes; views = views }
   reseated s r views owner all = record {
     history = r.history;

@@ -12,11 +12,11 @@ use Rattle.line_cells.specs.Layout.{ticket_at, ticket_of}
 use Rattle.line_cells.specs.SlotLayout.{SlotLayout, Homes, IsBehind, IsSpare, one_slot}
 
 module _ (slot_layout : SlotLayout) where
-  -- all slots but those that are out are at home
+  -- all slots are at home, except those that are out
   abbrev pub AreSpare : ℕ → Payload → Homes → Type 0
   AreSpare ended y homes = (k : ℕ) → k < slot_layout.count → (slot_layout.is_out ended k → ⊥) → IsSpare y.turns_left y.closed homes k
 
-  -- if no node has the line, a node may take it, and then has it as it was granted
+  -- if no node has the line, a node may take it, and then has it as if it had been granted
   abbrev pub MayTake : Type 0
   MayTake = (ended : ℕ) (homes : Homes) (y : Payload) → length homes ≡ slot_layout.count → get_elem? homes (slot_layout.home_slot ended) ≡ some (some y) → ((k : ℕ) → k < slot_layout.count → IsSpare y.turns_left y.closed homes k)
       → (act : Act Payload) × Valid homes [] act × (length (homes_after homes [] act) ≡ length homes) × slot_layout.slots_at_grant ended y (carried_after [] act) × AreSpare ended y (homes_after homes [] act)
@@ -27,7 +27,7 @@ module _ (slot_layout : SlotLayout) where
       → (act : Act Payload) × Valid homes slots act × (length (homes_after homes slots act) ≡ length homes) × (carried_after slots act ≡ [])
       × (get_elem? (homes_after homes slots act) (slot_layout.home_slot (ended + 1)) ≡ some (some y)) × ((k : ℕ) → k < slot_layout.count → IsSpare y.turns_left y.closed (homes_after homes slots act) k)
 
-  -- or it may keep the line for the next turn, as if it had been granted then
+  -- the node may keep the line for the next turn, as if it had been granted then
   abbrev pub MayKeep : Type 0
   MayKeep = (ended : ℕ) (homes : Homes) (slots : Slots) (y : Payload) → length homes ≡ slot_layout.count → slot_layout.slots_at_release ended y slots → AreSpare ended y homes
       → (act : Act Payload) × Valid homes slots act × (length (homes_after homes slots act) ≡ length homes) × slot_layout.slots_at_grant (ended + 1) y (carried_after slots act) × AreSpare (ended + 1) y (homes_after homes slots act)
@@ -36,7 +36,7 @@ module _ (slot_layout : SlotLayout) where
   abbrev pub LaysOne : Type 0
   LaysOne = (ended : ℕ) (y z : Payload) (slots : Slots) → slot_layout.slots_at_release ended y slots → slot_layout.slots_at_release ended z slots → y ≡ z
 
-  -- these slots may go home, and no other is moved
+  -- these slots may go home, and no other slot is moved
   abbrev pub MayReturnSlots : Option ℕ → Slots → Type 0
   MayReturnSlots left slots = (homes : Homes) → length homes ≡ slot_layout.count
       → (act : Act Payload) × Valid homes slots act × (length (homes_after homes slots act) ≡ length homes) × (carried_after slots act ≡ []) × ((k : ℕ) (closed : Bool) → IsSpare left closed homes k → IsSpare left closed (homes_after homes slots act) k)
@@ -56,7 +56,7 @@ pub opened_count : (n : ℕ) (y : Payload) → length (map some (replicate n y))
 opened_count zero y = refl
 opened_count (suc n) y = ap suc (opened_count n y)
 
--- what goes home moves no other slot from there
+-- slots that go home move no other slot from there
 pub stays_spare : (left : Option ℕ) (closed : Bool) (homes : Homes) (j k : ℕ) (y : Payload) → IsBehind left closed y → IsSpare left closed homes k → IsSpare left closed (set homes j (some y)) k
 stays_spare left closed homes j k y b h = dite (ℕ_discrete k j)
     (λ e. (y, subst (λ q. get_elem? (set homes j (some y)) q ≡ some (some y)) (sym e) (set_here homes j (some y) (subst (λ q. q < length homes) e (elem_within homes k (some h.0) h.1))), b))
@@ -66,7 +66,7 @@ stays_spare left closed homes j k y b h = dite (ℕ_discrete k j)
 pub itself : (y : Payload) → IsBehind y.turns_left y.closed y
 itself y = record { turns = λ e. e; is_open = λ e. e }
 
--- what is open is behind a closed line, too
+-- a slot that is open is behind a closed line, too
 pub open_behind : (left : Option ℕ) (y : Payload) → IsBehind left false y → (closed : Bool) → IsBehind left closed y
 open_behind left y b closed = record { turns = b.turns; is_open = λ _. b.is_open refl }
 
@@ -76,7 +76,7 @@ abbrev first_payload : Payload → Slots → Payload
 first_payload d [] = d
 first_payload d (x ∷ xs) = x.1
 
--- the line lies in it at first, and at the end
+-- the line lies in it at the beginning and at the end
 pub one_first : one_slot.home_slot 0 < one_slot.count
 one_first = omega arith
 

@@ -33,13 +33,13 @@ use Rattle.line_cells.proofs.Slots.{MayTake, AreSpare}
 use Rattle.line_cells.proofs.Keeping.{rule_step, mine_ok, mine_low, window, cell_shown}
 use Rattle.qolb_model.proofs.Leases.{open_has_turns}
 
--- The cell of a request at its turn, if no node has the line: it does not read as waiting. And after the node n takes the line by a step
--- that changes the cell so, the cells keep their invariant.
+-- The cell of a request at its turn, if no node has the line, does not read as waiting. After the node n takes the line
+-- by a step that changes the cell in this way, the cells keep their invariant.
 abbrev pub Takes : ℕ → Cells → (ℕ → ℕ → Type 0) → ℕ → ℕ → (ℕ → ℕ) → Type 0
 Takes count cells waits place n change = (cleared : Bool) (marks says : ℕ → ℕ) → 0 < n → marks place ≡ 0 → cells place 0 cleared marks says
     → (waits place (says (cell_of count place)) → ⊥) × cells place n false marks (put says (cell_of count place) (change (says (cell_of count place))))
 
--- the cell of a request that is behind the turn and not withdrawn: it does not show a grant
+-- the cell of a request that is behind the turn and not withdrawn does not show a grant
 abbrev pub StaysBehind : ℕ → Cells → (ℕ → ℕ → Type 0) → ℕ → Type 0
 StaysBehind count cells shows_turn place = (ended holder : ℕ) (cleared : Bool) (marks says : ℕ → ℕ) → ended < place → place < ended + count → marks place ≡ 0 → cells ended holder cleared marks says
     → shows_turn place (says (cell_of count place)) → ⊥
@@ -61,7 +61,7 @@ at_turn key x n v ok l = go v.own.point refl
     go Freeing e = absurd (clash_at has_line Freeing l e refl)
     go Rolled e = absurd (clash_at has_line Rolled l e refl)
 
--- and it keeps its request
+-- the node keeps its request
 pub line_kept : (q : Point) → has_line q ≡ true → is_unfinished q ≡ true
 line_kept Idle e = absurd (cc e)
 line_kept Queued e = refl
@@ -149,7 +149,7 @@ module _ (cells : Cells) (slot_layout : SlotLayout) (good : List ℕ → Type 0)
     pub behind : v.own.place ≢ length r.history.ends → (length r.history.ends < v.own.place) × (r.history.marks v.own.place ≡ 0)
     behind later = let l = ok.last_request.queued queued in (omega arith, ok.marks.unmarked (ap is_unfinished queued))
 
-    -- what its cell says
+    -- what the request's cell says
     pub found_is : slice_index s.words i ≡ cells_in s.words (cell_of slot_layout.cells v.own.place)
     found_is = ap (slice_index s.words) word
 
@@ -219,7 +219,7 @@ module _ (cells : Cells) (slot_layout : SlotLayout) (good : List ℕ → Type 0)
       pub learns_take : Continues allows v.view (take_entry r.history).view
       learns_take = continues good allows key r.history (take_past r.history) take_fine v.view.node v.view.node v (take_entry r.history) ok (take_node r.history here ok) refl ok.knows.orders ok.knows.endings ok.knows.clears (λ q h. h) (λ q h. h) (λ q h. h)
 
-      -- if the lock's cells have what they must
+      -- the cells of the lock have what they must have
       module _ (waits : ℕ → ℕ → Type 0) (change : ℕ → ℕ) (takes : Takes slot_layout.cells cells waits v.own.place v.view.node change) where
         taken : (waits v.own.place (cells_in s.words (cell_of slot_layout.cells v.own.place)) → ⊥) × cells v.own.place v.view.node false r.history.marks (put (cells_in s.words) (cell_of slot_layout.cells v.own.place) (change (cells_in s.words (cell_of slot_layout.cells v.own.place))))
         taken = takes r.history.cleared r.history.marks (cells_in s.words) low (ok.marks.unmarked (ap is_unfinished queued))

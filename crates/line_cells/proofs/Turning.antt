@@ -8,7 +8,7 @@ use Rattle.line_generic.specs.declared.table.Payload.{Payload}
 use Rattle.line_cells.specs.Steps.{SeatContents, IsOfOneNode, single, Advances, after_reset}
 use Rattle.line_cells.specs.Array.{ArrayGhost}
 
--- one counted step
+-- one step, which is counted
 pub goes_step : (allows : List ℕ → List ℕ → Type 0) (m : SeatContents) (v w : ArrayGhost) (slots : List (ℕ × Payload)) → m.0 ≡ v ∷ [] → Continues allows v.view w.view → w.steps ≡ v.steps + 1 → Advances allows m (w ∷ [], slots) 1
 goes_step allows m v w slots is c n = record {
   of_one_node = refl;
@@ -38,6 +38,6 @@ goes_same allows a w same n = record {
   steps = n;
 }
 
--- the step that clears the own word
+-- the step that clears the node's own word
 pub goes_reset : (allows : List ℕ → List ℕ → Type 0) (a b : SeatContents) → b ≡ (after_reset (single a.0) ∷ [], a.1) → Advances allows a b 1
 goes_reset allows a b is = subst (λ m. Advances allows a m 1) (sym is) (goes_same allows a (after_reset (single a.0)) refl refl)

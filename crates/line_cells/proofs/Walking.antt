@@ -46,7 +46,7 @@ pub record FreesFirst (v : ArrayGhost) (i : ℕ) (w : ArrayGhost) : Type 0 where
   pub clear : (k p : ℕ) (r : Request) → k < i → At v.own.passed k p → At v.view.order p r → Has w.view.clear r
   pub own_clear : drop i v.own.passed ≡ [] → Has w.view.clear (own w.view)
 
--- at first none is
+-- at first none of them is freed
 pub frees_none : (v : ArrayGhost) → v.own.point ≡ Freeing → v.own.passed ≢ [] → FreesFirst v 0 v
 frees_none v p some = record {
   point = p ∙ by v.own.passed some;
@@ -74,7 +74,7 @@ frees_which v w nodes i node f many are is =
     let made = are.each i here.0 node here.1 is in
     (f.point ∙ ap after_walk cut, made.3, (here.0, drop (i + 1) v.own.passed, made.0, f.passed ∙ cut, subst (λ o. At o here.0 made.0) (sym f.order) made.1, made.2))
 
--- and one more is freed
+-- one more node is freed
 pub frees_next : (v w x : ArrayGhost) (nodes : List ℕ) (i node : ℕ) → FreesFirst v i w → length nodes ≡ length v.own.passed → AreNodesAt v.view v.own.passed nodes → At nodes i node → Extends w.view x.view
     → ((q : ℕ) (ps : List ℕ) (r : Request) → w.own.passed ≡ q ∷ ps → At w.view.order q r → Frees w ps r x) → FreesFirst v (i + 1) x
 frees_next v w x nodes i node f many are is more frees =
@@ -115,7 +115,7 @@ frees_next v w x nodes i node f many are is more frees =
         let places_same : q ≡ p = same_some (sym a ∙ (ap (slice_get places) (sym e) ∙ b)) in
         same_some (sym c ∙ (ap (slice_get order) places_same ∙ d))
 
--- until all are
+-- the node goes on until all are freed
 pub frees_all : (v w : ArrayGhost) (i : ℕ) → FreesFirst v i w → length v.own.passed ≤ i → FreesAll v w
 frees_all v w i f le = let none : drop i v.own.passed ≡ [] = history i v.own.passed le in record {
   point = f.point ∙ ap after_walk none;
@@ -190,7 +190,7 @@ pub record IsHome (nodes : List ℕ) (w : ArrayGhost) : Type 0 where
   pub known : length w.view.ends ≤ length w.view.order
   pub unmarked : (r : Request) → turn_of w.view.order w.view.ends ≡ Some r → Lacks w.view.marked r
 
--- therefore it begins
+-- the freeing therefore begins
 pub walk_begins : (v : ArrayGhost) → v.own.passed ≡ length v.view.ends ∷ [] → AreOfOthers v.view.node v.view.order v.own.passed → 2 ≤ v.view.config.nodes → Walked v [] v
 walk_begins v passed others two = record {
   config = refl;
@@ -211,7 +211,7 @@ walk_begins v passed others two = record {
 pub stands_first : (v : ArrayGhost) (found : ℕ) → v.own.point ≡ Passing → v.own.passed ≡ length v.view.ends ∷ [] → (r : Request) × At v.view.order (length v.view.ends) r × (r.node ≡ found) × (r.node ≤ v.view.config.nodes) → StandsAt [] found v
 stands_first v found passing passed first = record { point = passing; many = omega (arith, ap length passed); request = first.0; at = first.1; is_by = first.2; high = first.3 }
 
--- a node that has passed one ends a withdrawn request next
+-- a node that has passed a request ends a withdrawn request next
 ends_gone : (ps : List ℕ) (closed : Bool) (y : Payload) (k : ℕ) → length ps ≡ k + 1 → end_of ps closed y ≡ Gone
 ends_gone [] closed y k e = absurd (omega (arith, e))
 ends_gone (p ∷ ps) closed y k e = refl
@@ -374,7 +374,7 @@ pub record IsWalking (slot_layout : SlotLayout) (allows : List ℕ → List ℕ 
   pub stands : found ≢ 0 → Carried slot_layout s t × StandsAt nodes node (ghost_of t)
   pub home : found ≡ 0 → HasNoSlot t × IsHome nodes (ghost_of t)
 
--- what it carries to the next grant
+-- what the walk carries to the next grant
 pub walk_carries : (slot_layout : SlotLayout) (allows : List ℕ → List ℕ → Type 0) (s t : ArraySeat) (nodes : List ℕ) (steps found node : ℕ) (y : Payload) → IsWalking slot_layout allows s nodes steps found node t → found ≢ 0 → slot_layout.slots_at_grant (length (ghost_of s).view.ends) y s.me.1 → MatchesEnds (ghost_of s) y
     → slot_layout.slots_at_grant (length (ghost_of t).view.ends) y t.me.1 × IsNextPayload allows (ghost_of t) y
 walk_carries slot_layout allows s t nodes steps found node y k more slot bare =
@@ -384,7 +384,7 @@ walk_carries slot_layout allows s t nodes steps found node y k more slot bare =
 pub ended_longer : (v w : ArrayGhost) (y : Payload) → Ended v w y → length w.view.ends ≡ length v.view.ends + 1
 ended_longer v w y e = omega (arith, ap length e.ends, length-append v.view.ends (next_end v y ∷ []))
 
--- and what it has done after that
+-- what the walk has done after that grant
 pub walk_step : (slot_layout : SlotLayout) (allows : List ℕ → List ℕ → Type 0) (s t u : ArraySeat) (nodes : List ℕ) (steps more all found node next by_node : ℕ) (y : Payload) → IsWalking slot_layout allows s nodes steps found node t → found ≢ 0 → (ghost_of s).view.config.nodes ≤ MAX_NODES
     → (ghost_of s).view.state ≡ state_after y.closed → IsSameSeat t u → Advances allows t.me u.me more → Ended (ghost_of t) (ghost_of u) y
     → (next ≡ 0 → HasNoSlot u × IsHandedOver (ghost_of t) (ghost_of u)) → (next ≢ 0 → Carried slot_layout t u × Passes (ghost_of t) by_node (ghost_of u)) → steps + more ≡ all
@@ -399,6 +399,6 @@ walk_step slot_layout allows s t u nodes steps more all found node next by_node 
       home = λ z. ((home z).0, is_home (ghost_of t) (ghost_of u) nodes node y here.1 ended (home z).1);
     }
 
--- all its steps, with those that freed the nodes, one for each
+-- all steps of the walk, including one for each node that it freed
 pub walked_steps : (slot_layout : SlotLayout) (allows : List ℕ → List ℕ → Type 0) (s t u : ArraySeat) (nodes : List ℕ) (steps found node freed all : ℕ) → IsWalking slot_layout allows s nodes steps found node t → Advances allows t.me u.me freed → freed ≡ length nodes → steps + length nodes ≡ all → Advances allows s.me u.me all
 walked_steps slot_layout allows s t u nodes steps found node freed all k advances each sum = let whole : steps + freed ≡ all = omega arith in subst (Advances allows s.me u.me) whole (goes_trans allows s.me t.me u.me steps freed k.advances advances)

@@ -80,9 +80,11 @@ is_cleared Cleared = true
 is_cleared Freeing = false
 is_cleared Rolled = false
 
--- The history of the line. It has the line's lists; the node that has the line, or 0; whether the cell at its turn is
--- cleared; for each place, the node that withdrew the request there, or 0, and the node whose release passed it; and
--- the word of each node.
+-- The history of the line. It has:
+-- - the line's lists;
+-- - the node that has the line, or 0, and whether the cell at its turn is cleared;
+-- - for each place, the node that withdrew the request there, or 0, and the node whose release passed it;
+-- - the word of each node.
 pub record History : Type 0 where
   pub order : List Request
   pub ends : List End
@@ -96,8 +98,8 @@ pub record History : Type 0 where
 -- What holds of the node n with the ghost state e. It has several parts, each about what that part reads of the
 -- history.
 
--- The node has passed the request at the place p and has not freed its node. (Each request is passed by one release, so the lists
--- of different releases share no place.)
+-- The node has passed the request at the place p and has not freed its node. (Each request is passed by one release, so
+-- the lists of different releases share no place.)
 pub record HasPassed (ended : ℕ) (clear : List Request) (marks releaser_of : ℕ → ℕ) (n : ℕ) (e : ArrayGhost) (p : ℕ) : Type 0 where
   pub in_release : is_releasing e.own.point ≡ true
   pub releaser_is : releaser_of p ≡ n
@@ -118,8 +120,8 @@ pub record IdentityInv (key : TableKey) (n : ℕ) (v : View) : Type 0 where
   pub label : v.label ≡ key.label
   pub config : v.config ≡ key.config
 
--- The view's lists are prefixes of the history's. They include the end of every own request that was served or told; an own
--- request that was withdrawn may have ended later.
+-- The view's lists are prefixes of the history's. They include the end of every own request that was served or told; an
+-- own request that was withdrawn may have ended later.
 pub record ViewInv (order : List Request) (ends : List End) (clear : List Request) (n : ℕ) (v : View) : Type 0 where
   pub orders : IsPrefix v.order order
   pub endings : IsPrefix v.ends ends

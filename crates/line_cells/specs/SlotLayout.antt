@@ -22,9 +22,11 @@ pub record IsBehind (left : Option ℕ) (closed : Bool) (z : Payload) : Type 0 w
 abbrev pub IsSpare : Option ℕ → Bool → Homes → ℕ → Type 0
 IsSpare left closed homes k = (y : Payload) × (get_elem? homes k ≡ some (some y)) × IsBehind left closed y
 
--- The slots of a kind of line: the numbers of its cells and slots; for each number of ended requests, the slot of the
--- line while no node has it, and the slots that are out while some node does; and the slots of a node to which this
--- payload was granted, and of a node that has stored it for its successor.
+-- The slots of a kind of line:
+-- - the numbers of its cells and slots;
+-- - for each number of ended requests, the slot of the line while no node has it, and the slots that are out while some
+--   node does;
+-- - the slots of a node to which this payload was granted, and of a node that has stored it for its successor.
 pub record SlotLayout : Type 1 where
   pub cells : ℕ
   pub some_cells : 0 < cells

@@ -11,7 +11,7 @@ use Rattle.line_generic.specs.PortPhases.{PortPhases}
 use Rattle.line_generic.specs.Steps.{ghost_of, SeatAdvances}
 use Rattle.line_generic.specs.Ports.{IsPort, IsForwarded, IsSeated}
 
--- its fields are as they are between calls
+-- the port's fields are as they are between calls
 pub passed_port : {O : Type 0} {allows : List ℕ → List ℕ → Type 0} {q : PortPhases O} {s t : LineSeat O} {n : ℕ} (label node token : ℕ) (z : LocalCopy) (state : PortState)
     → (ghost_of q.initial s).view.label ≡ label → (ghost_of q.initial s).view.node ≡ node → SeatAdvances allows q.initial s t n → IsForwarded q t state × (state ≢ port_state.Holding)
     → IsPort q label node t z token state

@@ -40,7 +40,7 @@ pub equal-is_one : (left : Option ℕ) → option_eq eqb left (Some 1) ≡ is_on
 equal-is_one None = refl
 equal-is_one (Some _) = refl
 
--- a request at its turn, or behind another, was not busy
+-- a request that is at its turn, or behind another one, was not busy
 pub came_asked : {answer : Enqueued} → answer ≡ enqueued.AtTurn → answer ≢ enqueued.Busy
 came_asked is busy = cc (is, busy)
 
@@ -49,18 +49,18 @@ behind_asked is busy = cc (is, busy)
 
 -- after n steps of a port of the line
 module _ {O : Type 0} {initial : O} {good : List ℕ → Type 0} {allows : List ℕ → List ℕ → Type 0} {key : TableKey} {table_id : TableId} {p : PortModel} (s : LineSeat O) (y : LocalCopy) (steps poll_count : ℕ) {token : ℕ} {went_to : Option ℕ} (b : BelongsTo good allows key table_id p) (is : port_model initial s y steps poll_count token went_to ≡ p) {t : LineSeat O} {n : ℕ} (w : SeatAdvances allows initial s t n) where
-  -- it goes on knowing
+  -- the port's view goes on from what it knew
   pub call_continues : Continues allows p.view (ghost_of initial t).view
   call_continues = w.advances.continues p.view (subst (λ (x : PortModel). Continues allows p.view x.view) (sym is) (continues_sound good allows key.label key.config p.view b.sound))
 
-  -- it belongs to the line
+  -- the port belongs to the line
   pub call_belongs : (z : LocalCopy) (steps : ℕ) {poll_count token : ℕ} {went_to : Option ℕ} → BelongsTo good allows key table_id (port_model initial t z steps poll_count token went_to)
   call_belongs z steps {poll_count = poll_count} = record {
     table_is = w.seat.0 ∙ (ap (λ (x : PortModel). x.table) is ∙ b.table_is);
     sound = sound_goes good allows key.label key.config p.view (ghost_of initial t).view b.sound call_continues;
   }
 
-  -- its seat is that of its node
+  -- the port's seat is that of its node
   pub call_seat : (node : ℕ) → (ghost_of initial s).view.node ≡ node → IsSeated good allows key table_id initial node t
   call_seat node node_is = record {
     of_one_node = w.advances.of_one_node;
@@ -90,14 +90,14 @@ module _ {O : Type 0} (initial : O) {p : PortModel} (s : LineSeat O) (y : LocalC
   pub call_links_on : {v w : View} → Links (ghost_of initial s).view v → Extends v w → w.count ≡ v.count → Links p.view w
   call_links_on {v = v} {w = w} links more same = call_links (record { count = same ∙ links.count; joined = joined_goes v w links.joined more same })
 
--- it knows how many nodes the line has
+-- the port knows how many nodes the line has
 pub call_nodes : {O : Type 0} (initial : O) {good : List ℕ → Type 0} {allows : List ℕ → List ℕ → Type 0} {key : TableKey} {table_id : TableId} {p : PortModel} (s : LineSeat O) (y : LocalCopy) (steps poll_count : ℕ) {token : ℕ} {went_to : Option ℕ} → BelongsTo good allows key table_id p → port_model initial s y steps poll_count token went_to ≡ p
     → nodes_of initial s ≡ key.config.nodes
 call_nodes initial s y steps poll_count b is = ap (λ (t : LineConfig). t.nodes) (ap (λ (x : PortModel). x.view.config) is ∙ b.sound.config_is)
 
 -- a port between calls
 module _ {O : Type 0} {q : PortPhases O} {label node : ℕ} {p : PortModel} (s : LineSeat O) (y : LocalCopy) (token steps poll_count : ℕ) {went_to : Option ℕ} (state : PortState) (between : IsPort q label node s y token state) (is : port_model q.initial s y steps poll_count token went_to ≡ p) where
-  -- the state that it shows is its own
+  -- the state that the port shows is its own
   pub own_state : p.view.state ≡ state
   own_state = ap (λ (x : PortModel). x.view.state) (sym is) ∙ between.shows_state
 
@@ -108,14 +108,14 @@ module _ {O : Type 0} {q : PortPhases O} {label node : ℕ} {p : PortModel} (s :
   pub own_word : (wait_word : ℕ → ℕ → ℕ → ℕ) (nodes : ℕ) → nodes_of q.initial s ≡ nodes → wait_word nodes node token ≡ wait_word p.view.config.nodes p.view.node p.token
   own_word wait_word nodes many = λ i. wait_word ((sym many ∙ ap (λ (x : PortModel). x.view.config.nodes) is) i) ((sym between.node_is ∙ ap (λ (x : PortModel). x.view.node) is) i) (is i).token
 
-  -- if the port holds, that is the word of the turn, as any port has it that sees the turn
+  -- if the port holds the line, that word is the word of the turn, as any port knows it that sees the turn
   pub held_word : (wait_word : ℕ → ℕ → ℕ → ℕ) (wake_word : View → ℕ) (nodes : ℕ) → nodes_of q.initial s ≡ nodes
       → ((m : ℕ) (u v : View) (own : O) → q.holds_open m (length v.ends) own → SeesTurn u v → wait_word v.config.nodes v.node m ≡ wake_word u)
       → p.view.state ≡ port_state.Holding → (u : View) → SeesTurn u p.view → wait_word nodes node token ≡ wake_word u
   held_word wait_word wake_word nodes many law held u sees =
       (λ i. wait_word (sym many i) (sym between.node_is i) token) ∙ law token u (ghost_of q.initial s).view (ghost_of q.initial s).own (holds_of held).at (subst (λ (x : PortModel). SeesTurn u x.view) (sym is) sees)
 
-  -- it writes
+  -- a port after its holder wrote
   pub written_port : (z : LocalCopy) (mask : ℕ) (bytes : List ℕ) → p.view.state ≡ port_state.Holding → z.bytes.bytes ≡ merged y.bytes.bytes bytes mask → z.mask.bits ≡ bit_or y.mask.bits mask → z.turns_left ≡ y.turns_left
       → IsPort q label node s z token state
   written_port z mask bytes held b m c = record {
@@ -127,7 +127,7 @@ module _ {O : Type 0} {q : PortPhases O} {label node : ℕ} {p : PortModel} (s :
     node_is = between.node_is;
   }
 
-  -- a holder's turns: the line is put back into it, closed or not
+  -- the turns of a holder, when the line is put back, closed or not
   module _ {good : List ℕ → Type 0} {allows : List ℕ → List ℕ → Type 0} {key : TableKey} {table_id : TableId} (b : BelongsTo good allows key table_id p) (held : p.view.state ≡ port_state.Holding)
       (shut closed : Bool) (is_shut : closed ≡ (shut || is_one y.turns_left)) (u : LineSeat O) (same : IsSameSeat s u) (entries : u.me.0 ≡ s.me.0) (back : (z : Payload) × q.slots_at_release key.config.nodes token z u.me.1 × IsStored y closed z) where
     its : Holds q s y token
@@ -152,7 +152,7 @@ module _ {O : Type 0} {q : PortPhases O} {label node : ℕ} {p : PortModel} (s :
       back.2.closed_is,
     )
 
-    -- and released
+    -- a port after its holder released the line
     pub released_with : {t : LineSeat O} {n : ℕ} → SeatAdvances allows q.initial s t n → EndsTurn (ghost_of q.initial u).view (own_end (is_closed (ghost_of q.initial u).view.ends) back.0) (state_after back.0.closed) (ghost_of q.initial t).view → Releases allows shut p.view (ghost_of q.initial t).view p.turn
     released_with {t = t} w l = record {
       continues = c;

@@ -20,7 +20,7 @@ use Rattle.line_generic.specs.Finish.{HasJoinedSome, IsGathered}
 abbrev pub views : List PortModel → List View
 views ports = map (λ (p : PortModel). p.view) ports
 
--- a port that may ask does not hold
+-- a port that may make a request does not hold the line
 quiet_holds : (state : PortState) → may_ask state ≡ true → state ≡ port_state.Holding → ⊥
 quiet_holds state quiet is = let e : may_ask state ≡ false = ap may_ask is in absurd (cc (quiet, e))
 
@@ -63,7 +63,7 @@ module _ {O : Type 0} (q : PortPhases O) (label node : ℕ) (s : LineSeat O) (y 
     quiet = all_rest (λ (o : PortModel). may_ask o.view.state ≡ true) p rest quiets;
   }
 
-  -- the same, of a list of ports with this one at its head
+  -- the same for a list of ports with this one at its head
   pub gathers_head : (table_id : TableId) (ports rest : List PortModel) → ports ≡ p ∷ rest → All (λ (o : PortModel). o.table ≡ table_id) ports → All (λ (o : PortModel). may_ask o.view.state ≡ true) ports → HasJoinedSome q.in_state table_id ports rest s
   gathers_head table_id ports rest e tables quiets = subst (λ ps. HasJoinedSome q.in_state table_id ps rest s) (sym e)
       (gathers_first table_id rest (subst (All (λ (o : PortModel). o.table ≡ table_id)) e tables) (subst (All (λ (o : PortModel). may_ask o.view.state ≡ true)) e quiets))
@@ -72,7 +72,7 @@ module _ {O : Type 0} (q : PortPhases O) (label node : ℕ) (s : LineSeat O) (y 
   pub head_table : (table_id : TableId) (ports rest : List PortModel) (whole : LineSeat O) (left : List PortModel) → left ≡ p ∷ rest → HasJoinedSome q.in_state table_id ports left whole → s.table_id ≡ table_id
   head_table table_id ports rest whole left e h = ap (λ (o : PortModel). o.table) is ∙ all_first (λ (o : PortModel). o.table ≡ table_id) p rest (subst (All (λ (o : PortModel). o.table ≡ table_id)) e h.tables)
 
-  -- a seat more
+  -- one more seat
   pub gathers_more : (table_id : TableId) (ports rest : List PortModel) (old new : LineSeat O) → HasJoinedSome q.in_state table_id ports (p ∷ rest) old → new.table_id ≡ old.table_id → new.me ≡ (old.me.0 ++ s.me.0, old.me.1) → HasJoinedSome q.in_state table_id ports rest new
   gathers_more table_id ports rest old new h t m = record {
     table = t ∙ h.table;

@@ -58,7 +58,7 @@ carries_told allows w y c closed =
       allowed = subst (λ e. AreAllowed allows (bytes_of w.view) (e ∷ [])) (sym end) tt;
     }
 
--- what was clear before a place is so later
+-- what was clear before a place is clear later
 clear_goes : (v w : View) (place : ℕ) → place ≤ length v.order → place ≤ length v.ends → Extends v w → IsClearBefore v place → IsClearBefore w place
 clear_goes v w place low ended more c = λ p r e next at end kept.
     let made = element_at v.order p (omega (arith, next, low)) in
@@ -67,7 +67,7 @@ clear_goes v w place low ended more c = λ p r e next at end kept.
     let same_end : was.0 ≡ e = same_some (sym (prefix_get v.ends w.ends p was.0 more.ends was.1) ∙ end) in
     has_prefix v.clear w.clear r more.clear (c p r e next (made.1 ∙ ap Some same) (was.1 ∙ ap Some same_end) kept)
 
--- and its port was told
+-- the node's port was told that the line is closed
 pub told_by : {O : Type 0} {holds_open : ℕ → ℕ → O → Type 0} {holds_closed : ℕ → View → O → Payload → Type 0} {token : ℕ} (w t : NodeGhost O) (y : Payload) → IsAtTurn holds_open holds_closed token w y → y.closed ≡ true → Extends w.view t.view → EndsTurn w.view (own_end (is_closed w.view.ends) y) (state_after y.closed) t.view → IsTold t.view
 told_by w t y c closed more l =
     let is : is_closed w.view.ends ≡ true = sym c.closed ∙ closed in
@@ -82,7 +82,7 @@ told_by w t y c closed more l =
       clear_before = clear_goes w.view t.view (length w.view.ends) (omega (arith, slice_get_within w.view.order (length w.view.ends) (own w.view) c.turn)) (omega arith) more c.clear;
     }
 
--- an open line that was granted is in the port, without a write
+-- an open line that was granted is in the port, and nothing is written to it
 merged_fresh : (base : List ℕ) (z : LocalCopy) → length z.bytes.bytes ≡ 64 → z.mask.bits ≡ 0 → z.bytes.bytes ≡ base → written base (write_in z) ≡ z.bytes.bytes
 merged_fresh base z line mask is = ap (λ m. merged base z.bytes.bytes m) mask ∙ merged-none base z.bytes.bytes (ap length (sym is) ∙ line) ∙ sym is
 

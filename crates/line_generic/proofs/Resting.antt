@@ -30,7 +30,7 @@ module _ {O : Type 0} {q : PortPhases O} {label node : ℕ} {p : PortModel} (s :
     slot = (between.rests_so not_held).1;
   }
 
-  -- it rests still, in the state that the look has left
+  -- the port is still at rest, in the state that the look has left
   after : IsInState q left token t
   after = looked.stays token before
 
@@ -47,7 +47,7 @@ module _ {O : Type 0} {q : PortPhases O} {label node : ℕ} {p : PortModel} (s :
     node_is = advances.advances.extends.node ∙ between.node_is;
   }
 
-  -- and what it has found is so
+  -- what the look found is true
   pub looked_found : {good : List ℕ → Type 0} {key : TableKey} {table_id : TableId} → BelongsTo good allows key table_id p → LooksIfClear allows p.view (ghost_of q.initial t).view clear
   looked_found b = record {
     continues = call_continues s y steps poll_count b is advances;

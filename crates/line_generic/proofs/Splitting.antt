@@ -51,7 +51,7 @@ module _ (good : List ℕ → Type 0) (allows : List ℕ → List ℕ → Type 0
   pub split_unused : AreUnused ports
   split_unused = λ k x l. let (p, at) = element_at ports k l in subst (λ (q : PortModel). IsUnused q) (sym (get_or_from_slice_get ports k p x at)) (d.each k p at).2
 
--- the same seat
+-- the seat stays the same
 pub same_me : {O : Type 0} {a b : LineSeat O} → a ≡ b → a.me ≡ b.me
 same_me e = ap (λ p. p.me) e
 

@@ -14,7 +14,7 @@ goes_trans allows initial a b c i j f g = record {
   steps = omega (arith, f.steps, g.steps);
 }
 
--- what the slot has is no matter
+-- the contents of the slot do not matter
 pub put_on : {O : Type 0} {allows : List ℕ → List ℕ → Type 0} {initial : O} {a b c : SeatContents O} {n : ℕ} → b.0 ≡ a.0 → Advances allows initial b c n → Advances allows initial a c n
 put_on {O} {allows} {initial} {a} {b} {c} {n} same goes = record {
   of_one_node = goes.of_one_node;
@@ -23,17 +23,17 @@ put_on {O} {allows} {initial} {a} {b} {c} {n} same goes = record {
   steps = subst (λ es. (single initial c.0).steps ≡ (single initial es).steps + n) same goes.steps;
 }
 
--- and then by more
+-- the seat advances by some steps and then by more
 pub then : {O : Type 0} {allows : List ℕ → List ℕ → Type 0} {initial : O} {s t u : LineSeat O} {i j : ℕ} → SeatAdvances allows initial s t i → SeatAdvances allows initial t u j → SeatAdvances allows initial s u (i + j)
 then {allows = allows} {initial = initial} {s = s} {t = t} {u = u} {i = i} {j = j} a b = record {
   seat = (b.seat.0 ∙ a.seat.0, b.seat.1 ∙ a.seat.1);
   advances = goes_trans allows initial s.me t.me u.me i j a.advances b.advances;
 }
 
--- and then on to n steps in all
+-- the seat advances by some steps and then on to n steps in all
 pub then_to : {O : Type 0} {allows : List ℕ → List ℕ → Type 0} {initial : O} {s t u : LineSeat O} {i j : ℕ} → SeatAdvances allows initial s t i → i ≤ j → SeatAdvances allows initial t u (j - i) → SeatAdvances allows initial s u j
 then_to {allows = allows} {initial = initial} {s = s} {u = u} {i = i} {j = j} a more b = let e : i + (j - i) ≡ j = omega arith in subst (SeatAdvances allows initial s u) e (then a b)
 
--- what is put into the slot first is no matter
+-- what is put into the slot first does not matter
 pub put_then : {O : Type 0} {allows : List ℕ → List ℕ → Type 0} {initial : O} {s t u : LineSeat O} {n : ℕ} → IsSameSeat s t × (t.me.0 ≡ s.me.0) → SeatAdvances allows initial t u n → SeatAdvances allows initial s u n
 put_then put w = record { seat = (w.seat.0 ∙ put.0.0, w.seat.1 ∙ put.0.1); advances = put_on put.1 w.advances }

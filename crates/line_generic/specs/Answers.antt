@@ -66,7 +66,7 @@ module _ {O : Type 0} (q : PortPhases O) (nodes token : ℕ) where
   abbrev pub WaitsOn : LineSeat O → Type 0
   WaitsOn s = HasNoSlot s × IsStillQueued q.in_state token (ghost_of q.initial s)
 
-  -- the node's request is still to be linked to its predecessor's
+  -- the node must still link its request to its predecessor's
   abbrev pub IsToLink : LineSeat O → Type 0
   IsToLink s = HasNoSlot s × IsUnlinked q.in_state token (ghost_of q.initial s)
 

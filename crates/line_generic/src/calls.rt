@@ -1,4 +1,7 @@
 //! The calls of `LineSync`, written once for all kinds of lines.
+//!
+//! Each call steps as its discipline says. A call that releases the line then wakes waiters, as the wake policy of the
+//! line says.
 ghost use Rattle.std.specs.Prelude.{◌≡◌, ◌+◌, IfOk, IfErr, true, false};
 ghost use Rattle.qolb_model.specs.Calls.{MergesViews};
 ghost use Rattle.qolb_model.specs.OneOwner.{turn_after};

@@ -1,5 +1,7 @@
 //! Waiters that park outside the library. The line names the words on which they wait, and the line's caller unparks
 //! them.
+//!
+//! The nodes for C (`qolb_nodes`) use this policy.
 ghost use Rattle.std.specs.Prelude.{◌≡◌, Some};
 ghost use Rattle.qolb_model.specs.declared.answer.PortState.TheVariants as port_state;
 ghost use Rattle.qolb_model.specs.declared.view.View.{View};

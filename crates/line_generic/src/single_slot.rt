@@ -1,4 +1,6 @@
 //! The slot of a lock that uses one slot for all turns.
+//!
+//! The ring and the link line use one slot. The ticket line has one slot for each cell.
 ghost use Rattle.std.specs.Prelude.{◌≡◌, ◌≢◌, ℕ, Option, [], Some, false};
 ghost use mathlib.Core.Option.{some};
 ghost use lib.ListN.{get_elem?};

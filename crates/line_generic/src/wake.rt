@@ -1,4 +1,7 @@
 //! Waiters park, and releases unpark them. No call of this file changes the table.
+//!
+//! A line has one of three wake policies: `Parking` unparks waiters, `SpinOnly` wakes nobody, and `SleepersElsewhere`
+//! notes the words of the waiters for its caller.
 ghost use Rattle.std.specs.Prelude.{◌≡◌, ℕ, ◌<◌, false, Option, None};
 ghost use Rattle.line_generic.specs.Answers.{IsSeatOfNode};
 ghost use Rattle.line_generic.specs.Steps.{IsInState};

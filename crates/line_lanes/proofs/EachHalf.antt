@@ -21,7 +21,7 @@ each_half P low high k h = go (cases_order k 32)
     go (inr (inl lt)) = low k lt
     go (inr (inr gt)) = let e : 32 + (k - 32) ≡ k = omega arith in subst P e (high (k - 32) (omega arith))
 
--- two halves, joined, by the byte at each place
+-- two halves that are joined, by the byte at each place
 pub joined_at : (byte : ℕ → ℕ) (low high : List ℕ) → length low ≡ 32 → ((k : ℕ) → k < 32 → slice_index low k ≡ byte k) → ((k : ℕ) → k < 32 → slice_index high k ≡ byte (32 + k)) → (k : ℕ) → k < 64 → slice_index (low ++ high) k ≡ byte k
 joined_at byte low high long_low at_low at_high =
     each_half (λ k. slice_index (low ++ high) k ≡ byte k)

@@ -8,7 +8,7 @@ use Rattle.line_lanes.proofs.LaneBytes.{with_lane-at, length-with_lane}
 use Rattle.line_lanes.proofs.MaskBits.{is_masked-mask_by}
 use Rattle.line_lanes.proofs.Masked.{merged-by}
 
--- a place outside of the lane's mask is one of another lane
+-- a place outside the mask of a lane belongs to another lane
 of_another : (k i : ℕ) → is_within (8 * k) 8 i ≡ false → (i / 8 == k) ≡ false
 of_another k i off = grind (arith, off)
 

@@ -36,7 +36,7 @@ merged-self line mask long = sym (merged-by line line line mask long (λ k h. ei
     either x true = refl
     either x false = refl
 
--- two masked writes, one after the other, are one under both masks
+-- two masked writes, one after the other, are one write under both masks
 pub merged-twice : (base turn new : List ℕ) (a b : ℕ) → merged base turn a ≡ turn → merged base (merged turn new b) (bit_or a b) ≡ merged turn new b
 merged-twice base turn new a b held = sym (merged-by (merged turn new b) base (merged turn new b) (bit_or a b) (length-merged turn new b) at)
   where

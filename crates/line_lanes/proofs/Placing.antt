@@ -23,7 +23,7 @@ inside off len k le lt = within_is off len k true true (le-leb off k le) (lt-ltb
 after : (off len k : ℕ) → off ≤ k → off + len ≤ k → is_within off len k ≡ false
 after off len k le ge = within_is off len k true false (le-leb off k le) (le-ltb k (off + len) ge)
 
--- before the first place, at one of them, or after the last
+-- a place before the first, at one of them, or after the last
 places : (off len k : ℕ) → (k < off) ⊎ ((off ≤ k) × (k < off + len) ⊎ (off ≤ k) × (off + len ≤ k))
 places off len k = first (cases_order k off)
   where

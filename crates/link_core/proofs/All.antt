@@ -30,7 +30,7 @@ use Rattle.link_core.proofs.Leave.{home_keeps, done_left_keeps, done_rolled_keep
 use Rattle.link_core.proofs.Grant.{node_m, grant_keeps, grant_rolled_keeps}
 use Rattle.link_core.proofs.Free.{freed_keeps}
 
--- a passed node that is to be freed is a node
+-- a passed node that must be freed is a node
 pub freed_node : {config : LineConfig} {c : State} {h : Queue} (n x : ℕ) (rest : List ℕ) (s : Matches config c h) → IsNode c n → (seat c n).passed ≡ x ∷ rest → IsNode c x
 freed_node {c = c} n x rest s a ps =
     subst (λ (y : ℕ). IsNode c y) (ap (λ (ps : List ℕ). slice_index_or ps 0 0) ps) (s.passes n 0 a (subst (λ (ps : List ℕ). 0 < length ps) (sym ps) (omega arith))).node

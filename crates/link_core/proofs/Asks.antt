@@ -1,4 +1,4 @@
--- A step that makes a request: what both such steps have in common.
+-- What both kinds of steps that make a request have in common.
 use Rattle.std.proofs.Common.{◌≡◌, ◌≢◌, ℕ, ◌+◌, ◌<◌, ◌≤◌, true, false, ◌||◌, List, [], length, refl, sym, ◌∙◌, ap, subst, inl, inr, arith}
 use Rattle.std.proofs.lemmas.Bool.{cases_eq, cases_Bool}
 use Rattle.line_lanes.specs.declared.line.Mask.{Mask}

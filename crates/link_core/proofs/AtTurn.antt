@@ -26,7 +26,7 @@ use Rattle.link_core.proofs.Follows.{sits_at, granted_for, granted_turn, waits_b
 use Rattle.link_core.proofs.Kept.{Leaves, lies_kept, rests_kept, rests_held}
 use Rattle.link_core.proofs.Quiet.{IsQuiet, quiet_shows}
 
--- by a load, or by a roll after the grant; w is n's entry after it
+-- a node takes the line by a load, or by a roll after the grant; w is n's entry afterwards
 module _ (config : LineConfig) (c : State) (h : Queue) (n : ℕ) (s : Matches config c h) (is : IsNode c n) (at : point c n ≡ Queued) (gr : (entry c n).granted ≡ true)
     (ents : List Entry) (sts : List NodeCall) (w : Entry) (ch : Changed c (record c { place = Hand n; mask = no_mask; entries = ents; seats = sts }) n (seat_at_arrival n c.closed) n w) where
   abbrev d : State
@@ -96,7 +96,7 @@ load_busy_keeps config c h n s is un =
 abbrev pub rolls : Entry → Entry
 rolls w = record w { rolled = true }
 
--- withdrawing
+-- the node withdraws
 module _ (config : LineConfig) (c : State) (h : Queue) (n : ℕ) (s : Matches config c h) (is : IsNode c n) (at : point c n ≡ Queued) (un : (entry c n).granted ≡ false)
     (ents : List Entry) (sts : List NodeCall) (ch : Changed c (record c { entries = ents; seats = sts }) n (record (seat c n) { point = Rolled }) n (rolls (entry c n))) where
   abbrev e : State

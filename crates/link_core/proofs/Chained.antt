@@ -31,12 +31,12 @@ use Rattle.link_core.proofs.All.{freed_node, closed_wide}
 abbrev on_way : ℕ → List ℕ → ℕ → ℕ
 on_way n ps i = slice_index_or (n ∷ ps) i 0
 
--- the last of them is the node that the release has reached
+-- the last of these is the node that the release has reached
 on_way_last : (n : ℕ) (ps : List ℕ) → on_way n ps (length ps) ≡ last_or n ps
 on_way_last n [] = refl
 on_way_last n (p ∷ ps) = on_way_last p ps
 
--- an entry after a step: what it had it has, unless it is of no release
+-- an entry after a step keeps what it had, unless it belongs to no release
 pub record Grows (v w : Entry) : Type 0 where
   pub link : v.link ≢ 0 → w.link ≢ 0
   pub done : v.done ≡ true → w.done ≡ true
@@ -56,7 +56,7 @@ module _ {c d : State} {n : ℕ} {s : NodeCall} {k : ℕ} {w : Entry} (ch : Chan
     | inr ne ↦ subst (λ (y : Entry). Grows (entry c x) y) (sym (ch.entry_other x ne)) (grows_same (entry c x))
   ]
 
-  -- the others keep theirs
+  -- the other releases keep their chains
   chained_by : ((m i : ℕ) → IsNode c m → i < length (seat c m).passed → on_way m (seat c m).passed i ≡ k → Grows (entry c (on_way m (seat c m).passed i)) w)
       → ((m x : ℕ) → IsNode c m → point c m ≡ Granting x → current c m ≡ k → Grows (entry c (current c m)) w)
       → IsOwn c d n s → IsChained d
@@ -90,14 +90,14 @@ module _ {c d : State} {n : ℕ} {s : NodeCall} {k : ℕ} {w : Entry} (ch : Chan
     done = λ m z. subst (λ (ps : List ℕ). (entry d (last_or n ps)).done ≡ true) (sym e) (g m z);
   }
 
-  -- or has none
+  -- the seat has no passed nodes
   own_none : s.passed ≡ [] → ((m : ℕ) → s.point ≢ Granting m) → IsOwn c d n s
   own_none e ne = record {
     links = λ i l. absurd (let k : length s.passed ≡ 0 = ap length e in omega arith);
     done = λ m z. absurd (ne m z);
   }
 
-  -- or the call goes on to its end
+  -- the call goes on to its end
   own_close : Grows (entry c k) w → (p : Point) → ((m : ℕ) → p ≢ Granting m) → s ≡ seat_at_close p (seat c n) → IsOwn c d n s
   own_close f p ne e = by (seat c n).passed refl
     where
@@ -107,7 +107,7 @@ module _ {c d : State} {n : ℕ} {s : NodeCall} {k : ℕ} {w : Entry} (ch : Chan
       by (x ∷ xs) z = own_same f (ap (λ (t : NodeCall). t.passed) e ∙ ap (λ (ps : List ℕ). (seat_with ps p (seat c n).reason).passed) z ∙ sym z)
           (λ m y. let q : Freeing ≡ Granting m = sym (ap (λ (t : NodeCall). t.point) e ∙ ap (λ (ps : List ℕ). (seat_with ps p (seat c n).reason).point) z) ∙ y in cc)
 
-  -- therefore the chains are kept if the seat keeps its passed nodes, has none, or its call goes on to its end
+  -- the chains are therefore kept if the seat keeps its passed nodes, has none, or its call goes on to its end
   pub chained_same : Grows (entry c k) w → s.passed ≡ (seat c n).passed → ((m : ℕ) → s.point ≢ Granting m) → IsChained d
   chained_same f e ne = chained_grows f (own_same f e (λ m z. absurd (ne m z)))
 

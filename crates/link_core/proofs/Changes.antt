@@ -14,7 +14,7 @@ use Rattle.link_core.specs.Places.{IsLast}
 use Rattle.link_core.specs.State.{State, IsWide, NodeCall, empty, unused, entry, seat, point, IsNode, put_entry, put_seat}
 use Rattle.link_core.specs.Shown.{has_line, is_freeing, passed, HasReached, IsPassed, ArePassed, IsOnce, IsUnpassed}
 
--- of the seats only n's is changed, to s, and of the entries only k's, to w
+-- among the seats only n's changes, to s, and among the entries only k's, to w
 pub record Changed (c d : State) (n : ℕ) (s : NodeCall) (k : ℕ) (w : Entry) : Type 0 where
   pub nodes : d.nodes ≡ c.nodes
   pub seat_own : seat d n ≡ s
@@ -40,7 +40,7 @@ changed_seat c n s i a = record {
   entry_other = λ m ne. refl;
 }
 
--- therefore it is if the words and the line change, too
+-- the same holds if the words and the line change, too
 pub moved_both : (c : State) (hm : ℕ) (pl : Place) (cl : Bool) (mk : Mask) (lf : Option ℕ) (n : ℕ) (s : NodeCall) (k : ℕ) (w : Entry) → IsWide c → IsNode c n → IsNode c k → Changed c (put_seat n s (put_entry k w (record c { home = hm; place = pl; closed = cl; mask = mk; left = lf }))) n s k w
 moved_both c hm pl cl mk lf n s k w i a b = record {
   nodes = refl;
@@ -66,7 +66,7 @@ module _ {c d : State} {n : ℕ} {s : NodeCall} {k : ℕ} {w : Entry} (ch : Chan
   pub point_own : point d n ≡ s.point
   point_own = ap (λ (t : NodeCall). t.point) ch.seat_own
 
-  -- a node at another point isn't n
+  -- a node at another point is not n
   pub at_other : (m : ℕ) (p q : Point) → point c n ≡ p → point c m ≡ q → (p ≡ q → ⊥) → m ≢ n
   at_other m p q a b ne e = ne (sym a ∙ ap (point c) (sym e) ∙ b)
 

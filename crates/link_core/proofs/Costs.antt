@@ -30,7 +30,7 @@ use Rattle.link_core.proofs.All.{freed_node, freed_rolled, closed_wide, closed_p
 use Rattle.link_core.proofs.Unset.{granted_unset, rolled_unset, freed_unset}
 use Rattle.link_core.proofs.Others.{home_busy}
 
--- an entry after a step: the flags that it had it has
+-- an entry after a step still has the flags that it had
 pub record Grows (v w : Entry) : Type 0 where
   pub granted : v.granted ≡ true → w.granted ≡ true
   pub done : v.done ≡ true → w.done ≡ true
@@ -54,7 +54,7 @@ grows_freed v = record { granted = λ e. e; done = λ e. e; freed = λ e. refl }
 grows_linked : (v : Entry) (n : ℕ) → Grows v (linked v n)
 grows_linked v n = record { granted = λ e. e; done = λ e. e; freed = λ e. e }
 
--- therefore no more is to go by it
+-- no more events are therefore left after it
 linking_least : (a b : Bool) → (a ≡ true → b ≡ true) → cond b 4 5 ≤ cond a 4 5
 linking_least true b f = rw (f refl) (omega arith)
 linking_least false true f = omega arith
@@ -67,7 +67,7 @@ rolled_least false false true y f g = rw (g refl) (omega arith)
 rolled_least false false false true f g = omega arith
 rolled_least false false false false f g = omega arith
 
--- in the seat of an act, what is to go: at an arrival, at the end of a release, and at most one for a load
+-- the events that are left in the seat of an act: at an arrival, at the end of a release, and at most one for a load
 pub arrival_steps_left : (c : State) (w : Entry) (n : ℕ) (b : Bool) → steps_left_at c w (seat_at_arrival n b).point ≡ 3
 arrival_steps_left c w n true = refl
 arrival_steps_left c w n false = refl
@@ -85,13 +85,17 @@ pub brings_arrival : (b : Bool) → brings_line (told_at_arrival b) ≡ true
 brings_arrival true = refl
 brings_arrival false = refl
 
--- a move of the queue that asks
+-- a move of the queue that makes a request
 abbrev pub is_asking : Option Move → Bool
 is_asking (Some (ask n)) = true
 is_asking _ = false
 
--- The productive events left after an act of n. The act takes only from n's own, and no other node's grow; or n ends a request, and home
--- names no node; or n frees x; or n passes m, and takes over those of m; or n makes a request.
+-- The productive events that are left after an act of n. There are five cases:
+-- - the act takes only from n's own, and no other node's grow;
+-- - n ends a request, and home names no node;
+-- - n frees x;
+-- - n passes m, and takes over those of m;
+-- - n makes a request.
 pub data Pays (c d : State) (n : ℕ) (prod : Bool) (asked : ℕ) (move : Option Move) : Type 0 where
   alone : is_asking move ≡ false → d.home ≡ c.home → ((m : ℕ) → IsNode c m → m ≢ n → steps_left d m ≤ steps_left c m) → steps_left d n + one_if prod ≤ steps_left c n → Pays c d n prod asked move
   ends : is_asking move ≡ false → d.home ≡ 0 → c.home ≢ 0 → ((m : ℕ) → IsNode c m → m ≢ n → steps_left d m ≤ steps_left c m) → steps_left d n + 3 ≤ steps_left c n → Pays c d n prod asked move
@@ -100,7 +104,7 @@ pub data Pays (c d : State) (n : ℕ) (prod : Bool) (asked : ℕ) (move : Option
   asks : asked ≡ 1 → move ≡ Some (ask n) → prod ≡ false → d.home ≢ 0 → ((m : ℕ) → IsNode c m → m ≢ n → steps_left d m ≤ steps_left c m) → steps_left d n ≤ steps_left c n + 5 → Pays c d n prod asked move
 
 module _ {c d : State} {n : ℕ} {s : NodeCall} {k : ℕ} {w : Entry} (ch : Changed c d n s k w) where
-  -- no other node has more left
+  -- no other node has more events left
   others_by : (k ≢ n → Grows (entry c k) w) → ((m : ℕ) → IsNode c m → point c m ≡ Linking k → steps_left_linking w ≤ steps_left_linking (entry c k)) → (m : ℕ) → IsNode c m → m ≢ n → steps_left d m ≤ steps_left c m
   others_by f g m a ne = subst (λ (p : Point). steps_left_at d (entry d m) p ≤ steps_left c m) (sym (point_other ch m ne)) (go (point c m) refl)
     where
@@ -137,11 +141,11 @@ module _ {c d : State} {n : ℕ} {s : NodeCall} {k : ℕ} {w : Entry} (ch : Chan
   others : Grows (entry c k) w → (m : ℕ) → IsNode c m → m ≢ n → steps_left d m ≤ steps_left c m
   others f = others_by (λ _. f) (λ m a e. linking_least (entry c k).done w.done f.done)
 
-  -- n's own
+  -- the events that n itself has left
   own : (a b : ℕ) → ((v : Entry) → steps_left_at d v s.point ≡ a) → steps_left c n ≡ b → (steps_left d n ≡ a) × (steps_left c n ≡ b)
   own a b f e = (ap (steps_left_at d (entry d n)) (point_own ch) ∙ f (entry d n), e)
 
--- what is to go at a point
+-- the events that are left at a point
 at_point_c : (c : State) (n : ℕ) (p : Point) → point c n ≡ p → steps_left c n ≡ steps_left_at c (entry c n) p
 at_point_c c n p e = ap (steps_left_at c (entry c n)) e
 
@@ -153,14 +157,14 @@ releases_steps_left c n e (leaving at) = at_point_c c n (Leaving e) at
 freed_steps_left : (c : State) (v : Entry) (rest : List ℕ) (r : ReleaseCause) → steps_left_at c v (seat_with rest (point_at_end r) r).point ≡ 0
 freed_steps_left c v rest r = close_steps_left c v rest (point_at_end r) r (end_steps_left c v r)
 
--- a holder that closes the line has as many left as before, and no other node has more
+-- a holder that closes the line has as many events left as before, and no other node has more
 closed_others : (c : State) (n : ℕ) → IsWide c → IsNode c n → (m : ℕ) → IsNode c m → m ≢ n → steps_left (closed_by n c) m ≤ steps_left c m
 closed_others c n w a = others (moved_seat c c.home c.place true c.mask c.left n _ w a) (grows_same (entry c n))
 
 closed_own : (c : State) (n : ℕ) → IsWide c → IsNode c n → steps_left (closed_by n c) n ≡ 3
 closed_own c n w a = at_point_c (closed_by n c) n (Leaving n) (closed_point c n w a)
 
--- a release goes home, and no node has more left
+-- a release goes home, and no node has more events left
 home_own : (c : State) (n : ℕ) → IsWide c → IsNode c n → steps_left (gone_home n c) n ≡ 0
 home_own c n w a = ap (steps_left_at (gone_home n c) (entry (gone_home n c) n)) (point_own (moved_seat c 0 Home c.closed c.mask (turns_after n c) n _ w a))
     ∙ close_steps_left (gone_home n c) (entry (gone_home n c) n) (seat c n).passed (point_at_end (seat c n).reason) (seat c n).reason (end_steps_left (gone_home n c) (entry (gone_home n c) n) (seat c n).reason)
@@ -178,7 +182,7 @@ rolled_least_one true = omega arith
 rolled_least_one false = omega arith
 
 module _ (config : LineConfig) (c : State) (h : Queue) (w : IsWide c) (s : Matches config c h) where
-  -- no node is to link to a node whose request has ended
+  -- no node still has to link to a node whose request has ended
   unlinked : (n m : ℕ) → (point c n ≡ Idle) ⊎ (point c n ≡ Shut) → IsNode c m → point c m ≡ Linking n → ⊥
   unlinked n m at a e =
       let k = behind_unclear s m n a e in

@@ -9,8 +9,8 @@ use Rattle.link_core.specs.Shown.{Matches}
 use Rattle.link_core.specs.Moves.{made}
 use Rattle.link_core.specs.Promise.{Says}
 
--- An act of n leads from a state that matches a queue to one that matches the queue after this move; besides, ended requests are cleared,
--- if they may be.
+-- An act of n leads from a state that matches a queue to one that matches the queue after this move; besides, ended
+-- requests are cleared, if they may be.
 pub record Advances (config : LineConfig) (d : State) (h : Queue) (n : ℕ) (t : Answer) (move : Option Move) (may : Bool) : Type 0 where
   pub after : Queue
   pub makes : after ≡ record (made h move) { clear = after.clear }

@@ -71,7 +71,7 @@ module _ {config : LineConfig} {c : State} {h : Queue} {n : ℕ} (s : Matches co
       go Closing (m ∷ ms) e k = passed_mark m ms e
       go Refused (m ∷ ms) e k = passed_mark m ms e
 
-  -- and the turns that are left
+  -- the turns that are left
   pub turns : turns_after n c ≡ turns_left config.lease fs
   turns = go (seat c n).reason (seat c n).passed
     where
@@ -106,7 +106,7 @@ module _ {config : LineConfig} {c : State} {h : Queue} {n : ℕ} (s : Matches co
   pub grows : IsPrefix h.ends fs
   grows = prefix_append h.ends (x ∷ [])
 
-  -- n's own last request has ended, by its reason
+  -- n's own last request has ended, for its cause
   pub ended : EndedBy h.order fs n (seat c n).reason
   ended = go (seat c n).reason (seat c n).passed refl refl facts.4
     where
@@ -132,7 +132,7 @@ module _ {config : LineConfig} {c : State} {h : Queue} {n : ℕ} (s : Matches co
   pub later_other : (p : ℕ) → length h.ends < p → p < length h.order → requester_at h.order p ≢ n
   later_other p a l e = let k = has_ended ended p (subst (λ (m : ℕ). IsLast h.order m p) e (s.distinct p (omega arith) l)) in let j = longer in absurd (omega arith)
 
-  -- a line that was told closed is closed
+  -- a line about which a node was told that it is closed is closed
   pub told_closed : (seat c n).reason ≡ Refused → is_closed fs ≡ true
   told_closed e = is_closed-append h.ends (x ∷ []) ∙ ap (λ b. b || is_closed (x ∷ [])) (old (seat c n).reason (seat c n).passed e facts.4)
     where
@@ -142,7 +142,7 @@ module _ {config : LineConfig} {c : State} {h : Queue} {n : ℕ} (s : Matches co
       old Refused [] e k = k.1
       old r (m ∷ ms) e k = k.2 e
 
-  -- and in no mailbox
+  -- the line is in no mailbox
   pub unboxed : (q : ℕ) → c.place ≢ Mailbox q
   unboxed q e = let f : Hand n ≡ Mailbox q = sym (in_its_hand s n is lined) ∙ e in cc
 

@@ -34,7 +34,7 @@ linking_some true = omega arith
 linking_some false = omega arith
 
 module _ {config : LineConfig} {c : State} {q : Queue} (s : Matches config c q) where
-  -- a request behind the one at its turn has all its way to go
+  -- a request behind the one at its turn has its whole way to go
   waits_steps_left : (m p : ℕ) → IsNode c m → IsLast q.order m p → length q.ends < p → p < length q.order → requester_at q.order p ≡ m → (x : Point) → point c m ≡ x → Sits c q.order q.ends m x → 4 ≤ steps_left_at c (entry c m) x
   waits_steps_left m p a last b l f Idle e y = let k = y p last in absurd (omega arith)
   waits_steps_left m p a last b l f Ready e y = let k = y.0 p last in absurd (omega arith)
@@ -72,7 +72,7 @@ module _ {config : LineConfig} {c : State} {q : Queue} (s : Matches config c q) 
       let i = (s.nodes p (omega arith)).0 in
       omega arith
 
-  -- and then at least three events are to go
+  -- at least three events are then left
   has_three : (n : ℕ) → IsNode c n → 3 ≤ steps_left c n → 3 ≤ all_steps_left c
   has_three n a l = let k = sum_has c.nodes n (steps_left c) a.0 a.1 in omega arith
 
@@ -102,7 +102,7 @@ module _ {config : LineConfig} {c : State} {q : Queue} (s : Matches config c q) 
   pub busy_has_three : c.home ≢ 0 → 3 ≤ all_steps_left c
   busy_has_three ne = three_left (open_by_home ne) s.lies
 
--- the rank, by home
+-- the rank, in terms of home
 pub rank_idle : (c : State) → c.home ≡ 0 → rank c ≡ all_steps_left c
 rank_idle c e = ap (λ (h : ℕ). cond (eqb h 0) (all_steps_left c) (all_steps_left c - 2)) e
 
@@ -204,7 +204,7 @@ module _ {config : LineConfig} {c : State} {q : Queue} (w : IsWide c) (s : Match
     falls_by : is_productive e t ≡ true → v n ≡ false → rank_at d r.order p < rank_at c q.order p
     falls_by y f = let a = sum_falls c d n is v next first f y pays in let b = to_same q.order (order_same (not_asking pays y)) in omega arith
 
-  -- for all
+  -- the same for all requests
   abbrev none : ℕ → Bool
   none _ = false
 

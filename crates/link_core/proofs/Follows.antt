@@ -29,7 +29,8 @@ and_false : (a : Bool) → (a && false) ≡ false
 and_false true = refl
 and_false false = refl
 
--- a withdrawn request that is not freed isn't clear; nor is that of a node with the line in its hand, which isn't withdrawn
+-- A withdrawn request that is not freed is not clear. Neither is the request of a node with the line in its hand, which
+-- is not withdrawn.
 pub rolled_unfreed : (w : Entry) → w.freed ≡ false → is_clear Rolled w ≡ false
 rolled_unfreed w e = rw e refl
 
@@ -71,7 +72,7 @@ module _ {config : LineConfig} {c : State} {h : Queue} (s : Matches config c h) 
   pub sits_at : (n : ℕ) (p : Point) → IsNode c n → point c n ≡ p → Sits c h.order h.ends n p
   sits_at n p a e = subst (λ (p : Point). Sits c h.order h.ends n p) e (s.sits n a)
 
-  -- a node that is to link at its turn finds the line left for it
+  -- a node that still has to link when its turn has come finds the line left for it
   pub left_for : (x q : ℕ) → Lies config c h.order h.ends → length h.ends < length h.order → requester_at h.order (length h.ends) ≡ x → point c x ≡ Linking q → (c.place ≡ Mailbox q) × ((entry c q).done ≡ true) × ((point c q ≡ Left) ⊎ (point c q ≡ Rolled)) × IsWhole config c h.ends
   left_for x q (at_home e b w) l t p = absurd (omega arith)
   left_for x q (in_hand r a i b f g y) l t p = elim (turn_in_hand r i f) [
@@ -108,7 +109,7 @@ module _ {config : LineConfig} {c : State} {h : Queue} (s : Matches config c h) 
             cc
       ]
 
-  -- the request before one that is to link isn't clear
+  -- the request before one that must still be linked is not clear
   pub behind_unclear : (x q : ℕ) → IsNode c x → point c x ≡ Linking q → is_clear (point c q) (entry c q) ≡ false
   behind_unclear x q a e =
       let b = sits_at x (Linking q) a e in
@@ -163,7 +164,7 @@ module _ {config : LineConfig} {c : State} {h : Queue} (s : Matches config c h) 
   hand_lies n e (granted y a b k f g w) = let j : Hand n ≡ Mailbox y = sym e ∙ k in cc
   hand_lies n e (left y z a b k f g i j w) = let x : Hand n ≡ Mailbox z = sym e ∙ k in cc
 
-  -- if the request before one that is to link is done, the later one is at its turn
+  -- if the request before one that must still be linked is done, the later one is at its turn
   pub done_turn : (x q : ℕ) → IsNode c x → point c x ≡ Linking q → (entry c q).done ≡ true → (b : IsBehind c h.order h.ends q x) → length h.ends ≡ b.at + 1
   done_turn x q a e f b = elim (cases_lt (length h.ends) (b.at + 1)) [
     | inl l ↦
@@ -192,7 +193,7 @@ module _ {config : LineConfig} {c : State} {h : Queue} (s : Matches config c h) 
       let t = (s.fresh b.at b.waits b.own.known).granted (ap (λ (m : ℕ). (entry c m).granted) b.own.its ∙ g) in
       subst (λ (p : ℕ). IsLast h.order x p) t b.own
 
-  -- one that isn't granted waits behind
+  -- a node that is not granted waits behind the turn
   pub waits_behind : (x : ℕ) (a : IsNode c x) (e : point c x ≡ Queued) → (entry c x).granted ≡ false → (b : IsWaiting c h.order h.ends x) → length h.ends < b.at
   waits_behind x a e g b = elim (cases_lt (length h.ends) b.at) [
     | inl l ↦ l

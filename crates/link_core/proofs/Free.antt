@@ -47,7 +47,7 @@ module _ (config : LineConfig) (c : State) (h : Queue) (n x : ℕ) (rest : List 
   first : IsPassed c h.order h.ends n x
   first = subst (λ (y : ℕ). IsPassed c h.order h.ends n y) (ap (λ (ps : List ℕ). slice_index_or ps 0 0) ps) (s.passes n 0 is (subst (λ (ps : List ℕ). 0 < length ps) (sym ps) (omega arith)))
 
-  -- a passed node has ended, since n has not the line
+  -- a passed node's request has ended, because n does not have the line
   first_ended : first.at < length h.ends
   first_ended = elim first.come [
     | inl l ↦ slice_get_within h.ends first.at Gone l
@@ -94,7 +94,7 @@ module _ (config : LineConfig) (c : State) (h : Queue) (n x : ℕ) (rest : List 
   own_passed : (seat d n).passed ≡ rest
   own_passed = ap (λ (s : NodeCall). s.passed) ch.seat_own ∙ close_passed rest (point_at_end (seat c n).reason) (seat c n).reason
 
-  -- a request that is still passed was one place later, at n, or is at its old place
+  -- a request that is still passed was one place later at n, or is at its old place
   passed_cases : (m i : ℕ) → i < length (seat d m).passed → (j : ℕ) × (j < length (seat c m).passed) × (passed d m i ≡ passed c m j) × (((m ≡ n) × (j ≡ i + 1)) ⊎ ((m ≢ n) × (j ≡ i)))
   passed_cases m i l = elim (cases_eq m n) [
     | inl e ↦
@@ -105,7 +105,7 @@ module _ (config : LineConfig) (c : State) (h : Queue) (n x : ℕ) (rest : List 
     | inr ne ↦ (i, subst (λ (s : NodeCall). i < length s.passed) (ch.seat_other m ne) l, ap (λ (s : NodeCall). slice_index_or s.passed i 0) (ch.seat_other m ne), inr (ne, refl))
   ]
 
-  -- x is passed no more
+  -- x is no longer passed
   not_x : (m i : ℕ) → IsNode c m → (l : i < length (seat d m).passed) → passed c m (passed_cases m i l).0 ≢ x
   not_x m i a l e =
       let y = passed_cases m i l in

@@ -170,7 +170,7 @@ module _ {config : LineConfig} {c : State} {h : Queue} {n m : ℕ} (s : Matches 
   own_passed : (seat d n).passed ≡ (seat c n).passed ++ m ∷ []
   own_passed = ap (λ (s : NodeCall). s.passed) ch.seat_own
 
-  -- what is passed now was passed before, or is m
+  -- a node that is passed now was passed before, or is m
   passed_cases : (x i : ℕ) → i < length (seat d x).passed → ((i < length (seat c x).passed) × (passed d x i ≡ passed c x i)) ⊎ ((x ≡ n) × (i ≡ length (seat c n).passed) × (passed d x i ≡ m))
   passed_cases x i l = elim (cases_eq x n) [
     | inl e ↦

@@ -30,7 +30,7 @@ use Rattle.link_core.proofs.Orders.{request_got}
 use Rattle.link_core.proofs.Others.{linked_box, granted_box, idle_home, spared}
 
 module _ {config : LineConfig} {c : State} {h : Queue} (w : IsWide c) (s : Matches config c h) where
-  -- it was clear, or its node has left the line for this one
+  -- the request was clear, or its node has left the line for this one
   clear_by : {d : State} {n : ℕ} {t : Answer} {m : Option Move} {b : Bool} (on : Advances config d h n t m b) → IsPrefix h.order on.after.order → on.after.ends ≡ h.ends → ((x : ℕ) → c.place ≢ Hand x)
       → ((x : ℕ) → HasLeft c x → c.place ≡ Mailbox x → (p : ℕ) → p + 1 ≡ length h.ends → Has on.after.clear (request h.order p)) → IsClearBefore on.after
   clear_by on order ends nowhere left p r e at is was ng =
@@ -45,7 +45,7 @@ module _ {config : LineConfig} {c : State} {h : Queue} (w : IsWide c) (s : Match
             subst (λ (x : Request). Has on.after.clear x) k (left r.node y (s.settled.boxed r.node i y.done y.unlinked) p l)
       ]
 
-  -- no node has left it for a node that waits, or if it is at home
+  -- no node has left the line for a waiting node, nor if the line is at home
   granted_by : {d : State} {n : ℕ} {t : Answer} {m : Option Move} {b : Bool} (on : Advances config d h n t m b) → IsPrefix h.order on.after.order → on.after.ends ≡ h.ends → ((x : ℕ) → c.place ≢ Hand x)
       → IsNode c n → point c n ≡ Queued → (entry c n).granted ≡ true → IsClearBefore on.after
   granted_by {n = n} on order ends nowhere a at gr = clear_by on order ends nowhere (λ x y box p l.
@@ -53,7 +53,7 @@ module _ {config : LineConfig} {c : State} {h : Queue} (w : IsWide c) (s : Match
       let same : n ≡ x = cc in
       let v : Queued ≡ Left = sym at ∙ ap (point c) same ∙ y.point in cc)
 
-  -- a node that links finds it left, and by its link the entry becomes clear
+  -- a node that links finds the line left, and by its link the entry becomes clear
   linked_by : (d : State) (n p : ℕ) {t : Answer} {m : Option Move} {b : Bool} (on : Advances config d h n t m b) → on.after.order ≡ h.order → on.after.ends ≡ h.ends → ((x : ℕ) → c.place ≢ Hand x)
       → (a : IsNode c n) → point c n ≡ Linking p → (entry c p).done ≡ true → d ≡ put_seat n (seat_at_arrival n c.closed) (put_entry p (linked (entry c p) n) (record c { place = Hand n; mask = no_mask })) → IsClearBefore on.after
   linked_by d n p on order ends nowhere a at dn e = clear_by on (subst (λ (o : List Request). IsPrefix h.order o) (sym order) (prefix_self h.order)) ends nowhere (λ x y box q l.

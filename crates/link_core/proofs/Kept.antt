@@ -21,7 +21,7 @@ use Rattle.link_core.specs.State.{State, NodeCall, entry, seat, point, IsNode, l
 use Rattle.link_core.specs.Shown.{is_rolled, has_line, ByReason, HasEnded, IsWhole, IsHeld, IsCarried, Lies, at_home, in_hand, granted, left, IsReleasing, Sits, HasReached, IsPassed, IsGranting, IsFresh, HasLeft, Rests, IsSettled}
 use Rattle.link_core.proofs.Changes.{Changed, is_node}
 
--- an act from c to d, which takes the order o to o2 and the ends es to fs, leaves alone what x is in
+-- an act from c to d, which takes the order o to o2 and the ends es to fs, does not touch what x is in
 pub record Spares (c d : State) (o o2 : List Request) (es fs : List End) (x : ℕ) : Type 0 where
   pub nodes : d.nodes ≡ c.nodes
   pub seat : seat d x ≡ seat c x
@@ -95,7 +95,7 @@ module _ {c d : State} {o o2 : List Request} {es fs : List End} {x : ℕ} (k : S
   pub sits_kept : Sits c o es x (point c x) → Sits d o2 fs x (point d x)
   sits_kept h = subst (λ (p : Point). Sits d o2 fs x p) (sym point_kept) (at_point_kept (point c x) refl h)
 
--- what an act that makes no request leaves alone: of the seats only n's is changed, and of the entries only k's
+-- what an act that makes no request does not touch: among the seats only n's changes, and among the entries only k's
 pub spares_by : {c d : State} {n : ℕ} {s : NodeCall} {k : ℕ} {w : Entry} (ch : Changed c d n s k w) (o : List Request) (es fs : List End) (x : ℕ) → x ≢ n → (k ≢ n → w.rolled ≡ (entry c k).rolled) → (k ≢ n → point c k ≢ Ready) → IsPrefix es fs
     → ((p : ℕ) → is_rolled (point c x) ≡ false → IsLast o x p → length es ≤ p → length fs ≤ p)
     → ((q p : ℕ) → point c x ≡ Linking q → IsLast o q p → IsLast o x (p + 1) → (entry d q).link ≡ (entry c q).link)
@@ -120,7 +120,7 @@ spares_by {c} {d} {n} {s} {k} {w} ch o es fs x ne rolled ready ended later behin
   line = λ e. let y = line e in (y.0, y.1, (λ l. (l, refl)), y.2);
 }
 
--- what is fresh stays so
+-- a fresh request stays fresh
 pub fresh_kept : (c d : State) (t t2 x p : ℕ) → (entry d x).freed ≡ (entry c x).freed → (entry d x).granted ≡ (entry c x).granted → (entry d x).done ≡ (entry c x).done → (p ≡ t → p ≡ t2) → (IsGranting c → IsGranting d) → IsFresh c t x p → IsFresh d t2 x p
 fresh_kept c d t t2 x p a b e f g h = record {
   freed = a ∙ h.freed;
@@ -128,7 +128,7 @@ fresh_kept c d t t2 x p a b e f g h = record {
   done = λ y. let z = h.done (sym e ∙ y) in (f z.0, g z.1);
 }
 
--- what is passed stays so
+-- a passed node stays passed
 pub passed_kept : (c d : State) (o o2 : List Request) (es fs : List End) (n x : ℕ) → d.nodes ≡ c.nodes → point d x ≡ point c x → (entry d x).freed ≡ (entry c x).freed → ((p : ℕ) → IsLast o x p → IsLast o2 x p) → ((p : ℕ) → IsLast o x p → HasReached c es n p → HasReached d fs n p) → IsPassed c o es n x → IsPassed d o2 fs n x
 passed_kept c d o o2 es fs n x ns a b e f h = record {
   node = (h.node.0, subst (λ (n : ℕ). x ≤ n) (sym ns) h.node.1);
@@ -139,7 +139,7 @@ passed_kept c d o o2 es fs n x ns a b e f h = record {
   come = f h.at h.last h.come;
 }
 
--- what a list has, a longer one has
+-- a longer list has what the list has
 pub has_more : (old new : List Request) (r : Request) → IsPrefix old new → Has old r → Has new r
 has_more old new r b h = subst (λ (rs : List Request). Has rs r) b.1 (has_left old b.0 r h)
 
@@ -186,7 +186,7 @@ module _ {c d : State} {o o2 : List Request} {es : List End} (k : Leaves c d o o
       let stays : (point d q ≡ Left) ⊎ (point d q ≡ Rolled) = elim h [ inl v ↦ inl (y.0 ∙ v) | inr v ↦ inr (y.0 ∙ v) ] in
       left t q (k.turn a).0 ((k.turn a).1 ∙ b) (k.place ∙ e) (y.2 ∙ f) (y.1 ∙ g) stays (k.linking t q a b i) (whole_kept config j)
 
-  -- and what was left behind it leaves there
+  -- a line that was left in an entry is still left there
   left_kept : (x : ℕ) → HasLeft c x → HasLeft d x
   left_kept x l = let y = k.tail x (inl l.point) l.unlinked l.done in record { point = y.0 ∙ l.point; done = y.2 ∙ l.done; unlinked = y.1 ∙ l.unlinked }
 
@@ -196,11 +196,11 @@ module _ {c d : State} {o o2 : List Request} {es : List End} (k : Leaves c d o o
     | inr y ↦ inr (left_kept r.node y)
   ]
 
--- with the line in a hand nothing is said of the last end
+-- while the line is in a hand, nothing is claimed of the last end
 pub rests_held : (d : State) (n : ℕ) (o : List Request) (es : List End) (clear : List Request) → d.place ≡ Hand n → Rests d o es clear
 rests_held d n o es clear a none = absurd (none n a)
 
--- of the entries only k's is changed, to w, and the line may move
+-- among the entries only k's changes, to w, and the line may move
 pub settled_by : {c d : State} {n : ℕ} {s : NodeCall} {k : ℕ} {w : Entry} (ch : Changed c d n s k w) (o o2 : List Request) (es fs : List End) (old new : List Request) → IsNode c k → IsSettled c o es old
     → ((x : ℕ) → x ≢ k → c.place ≡ Mailbox x → d.place ≡ Mailbox x) → (w.done ≡ true → w.link ≡ 0 → d.place ≡ Mailbox k) → ((entry c k).link ≤ c.nodes → w.link ≤ c.nodes)
     → Rests d o2 fs new → IsSettled d o2 fs new

@@ -131,7 +131,7 @@ module _ {config : LineConfig} {c : State} {h : Queue} {n e : ℕ} (s : Matches 
   at_e : IsLast h.order e (length h.ends)
   at_e = subst (λ (m : ℕ). IsLast h.order m (length h.ends)) cur (its s is lined)
 
-  -- the next request is to link to e
+  -- the next node must still link to e
   pub next : point c (requester_at h.order (length h.ends + 1)) ≡ Linking e
   next = elim (s.links (length h.ends) (omega arith) more) [
     | inl f ↦ let i = s.nodes (length h.ends + 1) more in let z : requester_at h.order (length h.ends + 1) ≡ 0 = sym f ∙ ap (λ (m : ℕ). (entry c m).link) at_e.its ∙ unlinked in absurd (omega arith)

@@ -150,7 +150,7 @@ module _ (config : LineConfig) (c : State) (h : Queue) (n p : ℕ) (pl : Place) 
   pub link_clears : Clears after_link.order (length after_link.ends) h.clear after_link.clear
   link_clears = cleared.grows
 
--- the older request isn't done: n waits
+-- the older request is not done, so n waits
 module _ (config : LineConfig) (c : State) (h : Queue) (n p : ℕ) (ents : List Entry) (sts : List NodeCall)
     (s : Matches config c h) (is : IsNode c n) (at : point c n ≡ Linking p) (undone : (entry c p).done ≡ false)
     (ch : Changed c (record c { entries = ents; seats = sts }) n (record (seat c n) { point = Queued }) p (linked (entry c p) n)) where

@@ -39,8 +39,8 @@ goes_by config h g m a e k = record { may = a; cleared = (g.clear, cleared m e, 
     cleared (Some (mark r)) e = subst (λ (z : Queue). Clears z.order (length z.ends) h.clear g.clear) e k
     cleared (Some (finish x)) e = subst (λ (z : Queue). Clears z.order (length z.ends) h.clear g.clear) e k
 
--- The move is one of n's: it asks, marks its own request, or, with the line in its hand, ends the request at its turn: its own, unless that
--- end is Gone.
+-- The move is one of n's. Either n makes a request, or it marks its own request, or, with the line in its hand, it ends
+-- the request at its turn, which is its own unless the end is Gone.
 abbrev pub IsMoveOf : State → Queue → ℕ → Option Move → Type 0
 IsMoveOf c h n None = Unit {0}
 IsMoveOf c h n (Some (ask m)) = m ≡ n

@@ -15,7 +15,7 @@ use Rattle.link_core.specs.Steps as row
 abbrev arrival : ℕ → State → State → Answer × State
 arrival n c d = (told_at_arrival c.closed, arrive n d)
 
--- the call ends, or its passed nodes are to be freed
+-- the call ends, or its passed nodes must be freed
 abbrev closing : ℕ → Point → State → State → Answer × State
 closing n p c d = (told_with (seat c n).passed (seat c n).reason, put_seat n (seat_at_close p (seat c n)) d)
 

@@ -37,7 +37,7 @@ requester_new o r = ap (λ (s : Request). s.node) (request_new o r)
 pub place_cases : (o : List Request) (r : Request) (p : ℕ) → p < length (pushed o r) → (p < length o) ⊎ (p ≡ length o)
 place_cases o r p l = let e = length_pushed o r in grind arith
 
--- one place only
+-- a node's last request has only one place
 pub last_once : (o : List Request) (n p q : ℕ) → IsLast o n p → IsLast o n q → p ≡ q
 last_once o n p q a b =
     let f : p < q → ⊥ = λ l. a.newest q l b.known b.its in
@@ -61,7 +61,7 @@ last_kept o r n p ne a = record {
 was_newer : (o : List Request) (r : Request) (n p : ℕ) → IsLast (pushed o r) n p → (q : ℕ) → p < q → q < length o → requester_at o q ≢ n
 was_newer o r n p a q l m e = a.newest q l (let f = length_pushed o r in omega arith) (requester_old o r q m ∙ e)
 
--- and was it
+-- another node's last request had the same place before
 pub last_back : (o : List Request) (r : Request) (n p : ℕ) → n ≢ r.node → IsLast (pushed o r) n p → IsLast o n p
 last_back o r n p ne a = elim (place_cases o r p a.known) [
   | inl old ↦ record { known = old; its = sym (requester_old o r p old) ∙ a.its; newest = was_newer o r n p a }
@@ -90,7 +90,7 @@ request_got [] p r e = let z : None ≡ Some r = e in cc z
 request_got (x ∷ xs) zero r e = cc
 request_got (x ∷ xs) (suc p) r e = request_got xs p r e
 
--- a request that has ended by a reason has ended
+-- a request that has ended for some cause has ended
 pub ended_at : {o : List Request} {es : List End} {n : ℕ} {r : ReleaseCause} (e : EndedBy o es n r) → e.at < length es
 ended_at {es = es} e = slice_get_within es e.at e.end e.ended
 

@@ -40,7 +40,7 @@ module _ {config : LineConfig} {c : State} {h : Queue} (s : Matches config c h) 
   pub no_box : (m q : ℕ) → c.place ≡ Mailbox q → IsNode c m → has_line (point c m) ≡ true → ⊥
   no_box m q e a f = let k : Mailbox q ≡ Hand m = sym e ∙ in_its_hand s m a f in cc
 
-  -- home names somebody while the line is in a hand
+  -- home names some node while the line is in a hand
   pub home_busy : (m : ℕ) → IsNode c m → has_line (point c m) ≡ true → c.home ≢ 0
   home_busy m a f e =
       let k = (facts s a f).0 in

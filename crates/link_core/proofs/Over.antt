@@ -1,4 +1,4 @@
--- The step at which a turn ends: what all such steps have in common.
+-- What all steps that end a turn have in common.
 use Rattle.qolb_model.specs.declared.config.LineConfig.{LineConfig}
 use Rattle.std.proofs.Common.{◌≡◌, ◌≢◌, ℕ, ◌+◌, ◌<◌, ◌≤◌, true, false, ◌||◌, List, [], ◌∷◌, ◌⊎◌, length, Option, slice_get, refl, sym, ◌∙◌, ap, subst, inl, inr, arith}
 use Rattle.link_core.specs.declared.point.Point.{Point}
@@ -54,7 +54,7 @@ module _ {config : LineConfig} {c : State} {h : Queue} {n : ℕ} (s : Matches co
   long : length es ≡ length h.ends + 1
   long = longer s is lined
 
-  -- the nodes of later requests aren't n
+  -- the nodes of later requests are not n
   later : (p : ℕ) → length es ≤ p → p < length h.order → requester_at h.order p ≢ n
   later p a l = let e = long in later_other s is lined p (omega arith) l
 

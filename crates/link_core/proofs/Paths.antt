@@ -115,7 +115,7 @@ module _ {config : LineConfig} (few : config.nodes ≤ MAX_NODES) (long : length
         | inr z ↦ let o : one_if (is_productive e t) ≡ 0 = ap one_if z in omega arith
       ]
 
--- no other node takes a way on away
+-- no other node disables a productive event
 module _ {config : LineConfig} {c : State} {q : Queue} (w : IsWide c) (s : Shows config c q) {e : Event} {t : Answer} {d : State} (k : Step c e t d) where
   abbrev after : Queue
   after = (step_shows config c q w s k).after

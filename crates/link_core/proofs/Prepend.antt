@@ -47,7 +47,7 @@ module _ (config : LineConfig) (c : State) (h : Queue) (n : ℕ) (sts : List Nod
   predecessor : c.home ≡ requester_at h.order tail.0
   predecessor = let k = some in s.home_last tail.0 (let e = tail.1 in omega arith) tail.1
 
-  -- no node is to link to n
+  -- no node must still link to n
   unlinked : (m q p : ℕ) → point c m ≡ Linking q → IsLast h.order q p → IsLast h.order m (p + 1) → length h.ends ≤ p + 1 → q ≢ n
   unlinked m q p e a b l f =
       let at = (at_ready s is ready).0 p (subst (λ (q : ℕ). IsLast h.order q p) f a) in

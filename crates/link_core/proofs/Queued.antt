@@ -83,7 +83,7 @@ module _ (config : LineConfig) (c : State) (q : Queue) (w : IsWide c) (s : Match
   none_follows : (n m : ℕ) → IsNode c n → has_line (point c n) ≡ true → c.home ≡ current c n → IsLast q.order m (length q.ends + 1) → ⊥
   none_follows n m a f e l = let k = home_is_last s a f e in let b = l.known in omega arith
 
-  -- a node that is to link follows if the line stays
+  -- if the line stays, a node follows that must still link
   linker_follows : (n e m : ℕ) → IsNode c n → point c n ≡ Marking e → (entry c e).link ≡ 0 → point c m ≡ Rolled → IsLast q.order m (length q.ends + 1) → ⊥
   linker_follows n e m a at un rolled l = let z : Linking e ≡ Rolled = sym (Leave.next s a at un) ∙ ap (point c) l.its ∙ rolled in cc
 

@@ -1,4 +1,4 @@
--- A step that ends no turn and adds no request: what all such steps have in common.
+-- What all steps that end no turn and add no request have in common.
 use Rattle.qolb_model.specs.declared.config.LineConfig.{LineConfig}
 use Rattle.std.proofs.Common.{◌≡◌, ◌≢◌, ℕ, ◌+◌, ◌<◌, ◌≤◌, Bool, true, false, ◌||◌, List, [], ◌⊎◌, length, refl, sym, ◌∙◌, ap, subst, inl, inr}
 use Rattle.line_lanes.specs.declared.line.Line64.{Line64}

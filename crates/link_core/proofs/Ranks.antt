@@ -111,7 +111,7 @@ module _ (c d : State) (n : ℕ) (is : IsNode c n) (v : ℕ → Bool) where
       ]
   sum_most next quiet (asks k e p h f l) = let z : false ≡ true = sym quiet ∙ ap is_asking e in cc
 
-  -- and a productive one lowers it
+  -- a productive event lowers the rank
   pub sum_falls : {prod : Bool} {asked : ℕ} {move : Option Move} → ((m : ℕ) (x : End) → move ≡ Some (finish x) → point c n ≡ Granting m → v m ≡ false) → ((x : ℕ) (rest : List ℕ) → point c n ≡ Freeing → (seat c n).passed ≡ x ∷ rest → v x ≡ false) → v n ≡ false → prod ≡ true → Pays c d n prod asked move → sum_over c.nodes (over_all d v) < sum_over c.nodes (over_all c v)
   sum_falls {prod = prod} next first e p (alone u h f l) = let k = own_falls (one_if prod) e f l in let j : one_if prod ≡ 1 = ap one_if p in omega arith
   sum_falls next first e p (ends u h b f l) = let k = own_falls 3 e f l in omega arith

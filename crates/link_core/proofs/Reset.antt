@@ -31,7 +31,7 @@ module _ (config : LineConfig) (c : State) (h : Queue) (n : ℕ) (s : Matches co
   none_passed : (seat c n).passed ≡ []
   none_passed = s.unpassed n is (elim at [ inl e ↦ ap (λ (p : Point). has_line p || is_freeing p) e | inr e ↦ ap (λ (p : Point). has_line p || is_freeing p) e ])
 
-  -- a node at another point isn't n
+  -- a node at another point is not n
   not_n : (m : ℕ) (q : Point) → point c m ≡ q → (Idle ≡ q → ⊥) → (Shut ≡ q → ⊥) → m ≢ n
   not_n m q e a b f = elim at [ inl g ↦ a (sym g ∙ ap (point c) (sym f) ∙ e) | inr g ↦ b (sym g ∙ ap (point c) (sym f) ∙ e) ]
 
@@ -44,7 +44,7 @@ module _ (config : LineConfig) (c : State) (h : Queue) (n : ℕ) (s : Matches co
   open_n : (p : ℕ) → length h.ends ≤ p → p < length h.order → requester_at h.order p ≢ n
   open_n p a l e = let k = over p (subst (λ (m : ℕ). IsLast h.order m p) e (s.distinct p a l)) in absurd (omega arith)
 
-  -- no node is to link to n
+  -- no node must still link to n
   unlinked : (m q : ℕ) → IsNode c m → point c m ≡ Linking q → q ≢ n
   unlinked m q a e f =
       let k = behind_unclear s m q a e in

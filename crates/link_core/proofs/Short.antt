@@ -73,14 +73,14 @@ module _ {config : LineConfig} {c : State} {h : Queue} (s : Matches config c h) 
   passed_short : (n : ℕ) → IsNode c n → length (seat c n).passed < c.nodes
   passed_short n a = few (seat c n).passed n c.nodes a.1 a.0 (λ i l. own n i a l) (λ i j k l e. (s.once n n i j a a k l e).1)
 
-  -- whose request follows was not passed
+  -- a node whose request follows was not passed
   next_unpassed : (n i m : ℕ) → IsNode c n → i < length (seat c n).passed → IsLast h.order m (length h.ends + 1) → passed c n i ≢ m
   next_unpassed n i m a l last e =
       let j = s.passes n i a l in
       let k = last_once h.order m j.at (length h.ends + 1) (subst (λ (x : ℕ). IsLast h.order x j.at) e j.last) last in
       elim j.come [ inl f ↦ let g = slice_get_within h.ends j.at Gone f in omega arith | inr f ↦ let g = f.0 in omega arith ]
 
-  -- therefore with all others passed no request follows
+  -- if all others are passed, no request therefore follows
   pub none_follows : (n : ℕ) → IsNode c n → has_line (point c n) ≡ true → length h.ends + 1 < length h.order → length (seat c n).passed + 1 < c.nodes
   none_follows n a lined more =
       let last = s.distinct (length h.ends + 1) (omega arith) more in

@@ -68,7 +68,8 @@ made_clear q (Some (ask n)) = refl
 made_clear q (Some (mark r)) = refl
 made_clear q (Some (finish x)) = refl
 
--- the queue after the move is determined, but for the clear list; and that too, if nothing is cleared
+-- the queue after the move is determined, except for the clear list; the clear list is determined too, if nothing is
+-- cleared
 pub after_is : {config : LineConfig} {c : State} {e : Event} {t : Answer} {d : State} {k : Step c e t d} {q : Queue} (on : Keeps config c e t d k q) → on.after ≡ record (made q (move_of k q.order)) { clear = on.after.clear }
 after_is {k = k} {q = q} on =
     let e : on.after.clear ≡ on.goes.cleared.0 = ap (λ (g : Queue). g.clear) on.goes.cleared.2 in

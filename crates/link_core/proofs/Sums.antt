@@ -10,7 +10,7 @@ sum_le (suc n) f g h =
     let b = h (suc n) (omega arith) (omega arith) in
     omega arith
 
--- but at one node
+-- the sums if the terms differ at one node
 pub sum_one : (n i : ℕ) (f g : ℕ → ℕ) → 0 < i → i ≤ n → ((k : ℕ) → 0 < k → k ≤ n → k ≢ i → f k ≤ g k) → sum_over n f + g i ≤ sum_over n g + f i
 sum_one zero i f g l b h = absurd (omega arith)
 sum_one (suc n) i f g l b h = elim (cases_eq i (suc n)) [
@@ -23,7 +23,7 @@ sum_one (suc n) i f g l b h = elim (cases_eq i (suc n)) [
       omega arith
 ]
 
--- but at two
+-- the sums if the terms differ at two nodes
 pub sum_two : (n i j : ℕ) (f g : ℕ → ℕ) → 0 < i → i ≤ n → 0 < j → j ≤ n → i ≢ j → ((k : ℕ) → 0 < k → k ≤ n → k ≢ i → k ≢ j → f k ≤ g k) → sum_over n f + g i + g j ≤ sum_over n g + f i + f j
 sum_two zero i j f g l b m d ne h = absurd (omega arith)
 sum_two (suc n) i j f g l b m d ne h = elim (cases_eq i (suc n)) [
@@ -41,7 +41,7 @@ sum_two (suc n) i j f g l b m d ne h = elim (cases_eq i (suc n)) [
   ]
 ]
 
--- one term is no more than the sum, and two are not
+-- one term is at most the sum, and so are two terms together
 pub sum_has : (n i : ℕ) (f : ℕ → ℕ) → 0 < i → i ≤ n → f i ≤ sum_over n f
 sum_has zero i f l b = absurd (omega arith)
 sum_has (suc n) i f l b = elim (cases_eq i (suc n)) [
@@ -53,6 +53,6 @@ pub sum_times : (n a : ℕ) (f : ℕ → ℕ) → sum_over n (λ k. a * f k) ≡
 sum_times zero a f = omega arith
 sum_times (suc n) a f = let e = sum_times n a f in grind arith
 
--- one node more
+-- the sum with one more node
 pub sum_more : (n : ℕ) (f : ℕ → ℕ) → sum_over (n + 1) f ≡ sum_over n f + f (n + 1)
 sum_more n f = subst (λ (m : ℕ). sum_over m f ≡ sum_over n f + f m) (let e : suc n ≡ n + 1 = omega arith in e) refl

@@ -104,7 +104,7 @@ module _ {config : LineConfig} {c : State} {q : Queue} (s : Matches config c q) 
   has_way l (granted t _ b h f g w) = let a = turn_node t l b in way (event.Load t) a (loads t h g f) (turn_before t l b) (load_enabled c t a g f)
   has_way l (left t x _ b h f g y i w) = let a = turn_node t l b in way (event.Link t) a (links t x h i f) (turn_before t l b) (link_enabled c t a x i f)
 
--- a pending node has at most five events to go, and any other none
+-- a pending node has at most five events left, and any other node has none
 steps_left_most : (c : State) (w : Entry) (p : Point) → steps_left_at c w p ≤ 5 * cond (is_pending_at w p) 1 0
 steps_left_most c w Idle = omega arith
 steps_left_most c w Ready = omega arith
@@ -143,7 +143,7 @@ module _ {config : LineConfig} {c : State} {q : Queue} (s : Matches config c q) 
   all_most : all_steps_left c ≤ 5 * pending c
   all_most = let a = sum_le c.nodes (steps_left c) (λ k. 5 * one k) (λ k _ _. steps_left_most c (entry c k) (point c k)) in let b = sum_times c.nodes 5 one in omega arith
 
-  -- but the node that is next to act has at most four
+  -- the node that is next to act has at most four events left
   all_fewer : (n : ℕ) → IsNode c n → steps_left c n + 1 ≤ 5 * one n → all_steps_left c + 1 ≤ 5 * pending c
   all_fewer n a l =
       let x = sum_one c.nodes n (steps_left c) (λ k. 5 * one k) a.0 a.1 (λ k _ _ _. steps_left_most c (entry c k) (point c k)) in
@@ -183,7 +183,7 @@ module _ {config : LineConfig} {c : State} {q : Queue} (s : Matches config c q) 
   rank_at_most : (p : ℕ) → rank_at c q.order p ≤ all_steps_left c
   rank_at_most p = sum_le c.nodes (λ k. cond (asks_behind q.order p k) 0 (steps_left c k)) (steps_left c) (λ k _ _. left_out_most (asks_behind q.order p k) (steps_left c k))
 
-  -- with a request open the node that is next to act has something to go
+  -- while a request is open, the node that is next to act has some event left
   some_at : (n : ℕ) → IsNode c n → ((p : ℕ) → length q.ends ≤ p → asks_behind q.order p n ≡ false) → 0 < steps_left c n → (p : ℕ) → length q.ends ≤ p → 0 < rank_at c q.order p
   some_at n a f l p b =
       let k = sum_has c.nodes n (λ k. cond (asks_behind q.order p k) 0 (steps_left c k)) a.0 a.1 in
@@ -210,7 +210,7 @@ module _ {config : LineConfig} {c : State} {q : Queue} (s : Matches config c q) 
   open_some l (granted t _ b h f g w) = some_at t (turn_node s t l b) (turn_before s t l b) (let k : steps_left c t ≡ 4 = ap (steps_left_at c (entry c t)) g in omega arith)
   open_some l (left t x _ b h f g y i w) = some_at t (turn_node s t l b) (turn_before s t l b) (let k : steps_left c t ≡ 4 = ap (steps_left_at c (entry c t)) i ∙ ap (λ b. cond b 4 5) f in omega arith)
 
-  -- with no request open only freeings are left
+  -- while no request is open, only freeings are left
   module _ (behind : AreBehind c q.order q.ends) (over : length q.ends ≡ length q.order) where
     held_over : (n : ℕ) → IsNode c n → (x : Point) → point c n ≡ x → has_line x ≡ true → ⊥
     held_over n a x e f = let k = (facts s a (ap has_line e ∙ f)).0 in omega arith

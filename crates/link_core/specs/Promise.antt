@@ -32,8 +32,11 @@ pub record Waits (q : Queue) (n : ℕ) : Type 0 where
   pub last : IsLast q.order n at
   pub behind : length q.ends < at
 
--- What n's last request is told: granted only at its turn; queued, waiting and withdrawn only before its turn;
--- released, shut and closed only if it has ended in that way; free and busy as the clear list says.
+-- What n's last request is told:
+-- - granted, only at its turn;
+-- - queued, waiting and withdrawn, only before its turn;
+-- - released, shut and closed, only if it has ended in that way;
+-- - free and busy, as the clear list says.
 abbrev pub Says : Queue → ℕ → Told → Type 0
 Says q n told.Went = Unit {0}
 Says q n told.Granted = AtTurn q n

@@ -1,8 +1,8 @@
 -- The queue that a state shows (a refinement mapping). Each clause goes by place in the order of requests. The requests
 -- at places below `length ends` have ended, and the request at that place is at its turn. The open requests, from there
 -- on, are those of the nodes in the list, with the oldest first. (The list of a line's requesters, with its head named
--- at home, is from IEEE Std 1596-1992. Queueing at the line and handing it over from the tail is of Goodman, Vernon and
--- Woest, 1989. The reversed links, the flags, and what they show are this project's own.)
+-- at home, is from IEEE Std 1596-1992. Queueing at the line and handing it over from the tail is from Goodman, Vernon
+-- and Woest, 1989. The reversed links, the flags, and what they show are this project's own.)
 use Rattle.std.specs.Prelude.{◌≡◌, ◌≢◌, ℕ, ◌+◌, ◌<◌, ◌≤◌, Bool, true, false, ◌||◌, List, [], ◌∷◌, ◌⊎◌, length, Some, slice_get, slice_index_or}
 use Rattle.link_core.specs.declared.point.Point.{Point}
 use Rattle.link_core.specs.declared.point.Point.TheVariants.{Idle, Ready, Linking, Queued, Holding, Leaving, Marking, Granting, Freeing, Left, Rolled, Shut}
@@ -84,9 +84,10 @@ abbrev pub IsCarried : LineConfig → State → List Request → List End → �
 IsCarried config c order ends n r [] = IsHeld config c ends n r
 IsCarried config c order ends n r (m ∷ ms) = IsWhole config c ends × EndedBy order ends n r × (r ≡ Refused → is_closed ends ≡ true)
 
--- The place of the line. If no request is open, the line is at home. Otherwise it is in the hand of n, whose release
--- has reached the request at its turn; or in the mailbox of t, which waits and whose turn it is; or in the mailbox of
--- q, where t will find it when it links.
+-- The place of the line. If no request is open, the line is at home. Otherwise it is in one of three places:
+-- - in the hand of n, whose release has reached the request at its turn;
+-- - in the mailbox of t, which waits and whose turn it is;
+-- - in the mailbox of q, where t will find it when it links.
 pub data Lies (config : LineConfig) (c : State) (order : List Request) (ends : List End) : Type 0 where
   at_home : length ends ≡ length order → c.place ≡ Home → IsWhole config c ends → Lies config c order ends
   in_hand : (n : ℕ) → length ends < length order → IsNode c n → c.place ≡ Hand n → has_line (point c n) ≡ true → requester_at order (length ends) ≡ current c n → IsCarried config c order ends n (seat c n).reason (seat c n).passed → Lies config c order ends
@@ -183,7 +184,8 @@ pub record HasLeft (c : State) (n : ℕ) : Type 0 where
   pub done : (entry c n).done ≡ true
   pub unlinked : (entry c n).link ≡ 0
 
--- While the line is in no hand, the request that ended last is clear, unless its end is Gone or its node has left the line.
+-- While the line is in no hand, the request that ended last is clear, unless its end is Gone or its node has left the
+-- line.
 abbrev pub Rests : State → List Request → List End → List Request → Type 0
 Rests c order ends clear = ((n : ℕ) → c.place ≢ Hand n) → (p : ℕ) (r : Request) (e : End) → p + 1 ≡ length ends → slice_get order p ≡ Some r → slice_get ends p ≡ Some e → is_gone e ≡ false → Has clear r ⊎ HasLeft c r.node
 

@@ -1,5 +1,5 @@
 -- The effect of each event, as a relation by cases. The definitions are this project's own. (Handing over at the tail
--- is of Goodman, Vernon and Woest, 1989.)
+-- is from Goodman, Vernon and Woest, 1989.)
 use Rattle.std.specs.Prelude.{◌≡◌, ◌≢◌, ℕ, ◌<◌, ◌≤◌, Bool, true, false, Option, List, [], ◌∷◌, ◌++◌, ◌⊎◌, length, slice_index_or, bit_or}
 use Rattle.link_core.specs.declared.point.Point.{Point}
 use Rattle.link_core.specs.declared.point.Point.TheVariants.{Idle, Ready, Linking, Queued, Holding, Leaving, Marking, Granting, Freeing, Left, Rolled, Shut}
@@ -65,7 +65,8 @@ abbrev pub told_with : List ℕ → ReleaseCause → Told
 told_with [] r = told_at_end r
 told_with (m ∷ ms) r = told.Went
 
--- the number of turns left when the request at its turn has ended: one fewer, if that was the releasing node's own, served
+-- the number of turns left when the request at its turn has ended: one fewer, if that was the releasing node's own,
+-- served
 abbrev pub left_after : Option ℕ → ReleaseCause → List ℕ → Option ℕ
 left_after left Own [] = decrement left
 left_after left Closing [] = decrement left
@@ -134,7 +135,8 @@ pub data Step (c : State) : Event → Told → State → Type 0 where
       (put_seat n (seat_at_close (point_at_end (seat c n).reason) (seat c n)) (put_entry e (record (entry c e) { done = true }) (record c { place = Mailbox e; left = turns_after n c })))
   done_linked : (n e : ℕ) → IsNode c n → point c n ≡ Marking e → (entry c e).link ≢ 0 →
       Step c (event.Done n) told.Went (at_point n (Granting (entry c e).link) (put_entry e (record (entry c e) { done = true }) c))
-  -- the next node is granted: the line is put into its mailbox; but if it has withdrawn it is passed, and the release goes on at its entry
+  -- the next node is granted: the line is put into its mailbox; but if it has withdrawn it is passed, and the release
+  -- goes on at its entry
   grant : (n m : ℕ) → IsNode c n → point c n ≡ Granting m → (entry c m).rolled ≡ false →
       Step c (event.Grant n) (told_with (seat c n).passed (seat c n).reason)
       (put_seat n (seat_at_close (point_at_end (seat c n).reason) (seat c n)) (put_entry m (record (entry c m) { granted = true }) (record c { place = Mailbox m; left = turns_after n c })))

@@ -1,3 +1,5 @@
+//! The entry of a node, which is the word on which the node waits.
+
 /// An entry word, by its fields. Each is added at most once between two resets of the entry.
 #[derive(Clone, Copy, Debug, PartialEq, Eq)]
 pub struct Entry {

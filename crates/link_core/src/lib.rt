@@ -1,5 +1,7 @@
 //! The core of a lock-free queue lock by reversed links: its states and its events, as values without threads and
 //! memory.
+//!
+//! Each atomic step of `link_line` is the event of the same name.
 #![tactic(auto)]
 
 mod asking;

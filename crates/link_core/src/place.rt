@@ -1,3 +1,5 @@
+//! The places at which the line can be: at home, in a node's mailbox, or in a node's hand.
+
 /// The place of the line.
 #[derive(Clone, Copy, Debug, PartialEq, Eq)]
 pub enum Place {

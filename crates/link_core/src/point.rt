@@ -1,3 +1,5 @@
+//! The points of a node in its call. A point says which event the node makes next.
+
 /// The point of a node in its call.
 #[derive(Clone, Copy, Debug, PartialEq, Eq)]
 pub enum Point {

@@ -1,3 +1,4 @@
+//! The state of a node's own call, with the cause of its release and the nodes that the release has passed.
 ghost use Rattle.std.specs.Prelude.{◌≡◌, ◌↔◌, ◌<◌, ◌≤◌, List, [], ◌∷◌, ◌++◌, length, IsTrue, MatchOption};
 ghost use Rattle.qolb_model.specs.declared.config.TheConstants.{MAX_NODES};
 ghost use Rattle.link_core.specs.declared.seat.TheConstants.{MAX_PASSED};

@@ -1,3 +1,5 @@
+//! What an event tells its node, and why an event is refused.
+
 /// The answer of an accepted event to its node.
 #[derive(Clone, Copy, Debug, PartialEq, Eq)]
 pub enum Told {

@@ -41,7 +41,7 @@ some_passed : (state : PortState) (ps : List ℕ) → ps ≢ [] → Freeing ≡ 
 some_passed state [] n = absurd (n refl)
 some_passed state (q ∷ ps) n = refl
 
--- at first none is
+-- at first none of them is freed
 pub frees_none : (v : LinkGhost) → v.own.seat.point ≡ Freeing → v.own.passed ≢ [] → FreesFirst v 0 v
 frees_none v p some = record {
   point = p ∙ some_passed v.view.state v.own.passed some;
@@ -70,7 +70,7 @@ frees_which v w nodes i node f many are is =
 short_stays : (v w : View) → w.order ≡ v.order → w.ends ≡ v.ends → w.joined ≡ v.joined → SuccessorUnlinked v → SuccessorUnlinked w
 short_stays v w orders ends joined s = (s.0, (λ i. turn_of (orders i) (ends i)) ∙ s.1, subst (λ rs. Lacks rs s.0) (sym joined) s.2)
 
--- and one more is freed
+-- one more node is freed
 pub frees_next : (v w x : LinkGhost) (nodes : List ℕ) (i node : ℕ) → FreesFirst v i w → length nodes ≡ length v.own.passed → AreNodesAt v.view v.own.passed nodes → At nodes i node → Extends w.view x.view
     → ((p : ℕ) (ps : List ℕ) (r : Request) → w.own.passed ≡ p ∷ ps → At w.view.order p r → Frees w p ps r x) → FreesFirst v (i + 1) x
 frees_next v w x nodes i node f many are is more frees =
@@ -115,7 +115,7 @@ frees_next v w x nodes i node f many are is more frees =
     stays : (p : ℕ) (r : Request) → x.view.order ≡ w.view.order → x.view.ends ≡ w.view.ends → x.view.joined ≡ w.view.joined → IsClearOrLast w.view p r → IsClearOrLast x.view p r
     stays p r orders ends joined c = ⊎_elim (λ h. inl (has_prefix w.view.clear x.view.clear r more.clear h)) (λ l. inr (l.0 ∙ ap length (sym ends), short_stays w.view x.view orders ends joined l.1)) c
 
--- until all are
+-- the node goes on until all are freed
 pub frees_all : (v w : LinkGhost) (i : ℕ) → FreesFirst v i w → length v.own.passed ≤ i → FreesAll v w
 frees_all v w i f le = let none : drop i v.own.passed ≡ [] = history i v.own.passed le in record {
   point = f.point ∙ ap (after_release v.view.state) none;

@@ -79,7 +79,7 @@ end_unqueued Own = refl
 end_unqueued Closing = refl
 end_unqueued Refused = refl
 
--- a withdrawn request that is freed and not clear was left with the line, and the next request is about to be linked to it
+-- a withdrawn request that is freed and not clear was left with the line, and the next request is about to link to it
 module _ {config : LineConfig} {c : Core} {q : Queue} (s : Shows config c q) (joined : List Request) (unjoined : (n x : ℕ) → IsNode c n → point c n ≡ Linking x → Lacks joined (last_of n q.order)) (r : Request) (node : IsNode c r.node) (f : IsFreed c q.order r) (un : Lacks q.clear r) where
   parts : (b : Bool) (w : Entry) → w.freed ≡ true → w.done ≡ b → is_clear Rolled w ≡ false → (w.done ≡ true) × (w.link ≡ 0)
   parts false w fr d e = absurd (never (undone w fr d) e)
@@ -176,7 +176,7 @@ module _ (good : List ℕ → Type 0) (allows : List ℕ → List ℕ → Type 0
     not_own : x ≢ n
     not_own e = let z : Rolled ≡ Freeing = sym rolled ∙ ap (point r.history.core) e ∙ at_core in cc
 
-    -- it was not freed before
+    -- the node was not freed before
     fresh : Has r.history.early a ⊎ Has r.history.late a → ⊥
     fresh h = elim (r.history_inv.freed a h) [
       | inl clear ↦ never clear (ap (has r.history.queue.clear) (sym (request_got r.history.queue.order p a known)) ∙ r.history_inv.shown.matches.clears x p passed_node last ∙ ap (λ (z : Point). is_clear z (entry r.history.core x)) rolled ∙ rolled_unfreed (entry r.history.core x) unfreed)
@@ -210,7 +210,7 @@ module _ (good : List ℕ → Type 0) (allows : List ℕ → List ℕ → Type 0
     abbrev q : Queue
     q = advances.after
 
-    -- nothing but the clear list has changed in the queue
+    -- in the queue only the clear list has changed
     is : q ≡ record r.history.queue { clear = q.clear }
     is = after_is advances
 
@@ -278,7 +278,7 @@ module _ (good : List ℕ → Type 0) (allows : List ℕ → List ℕ → Type 0
         (subst (λ (zs : List ℕ). At zs (suc i) z) (sym seat_passed) (subst (λ (zs : List ℕ). At zs i z) (ap (λ (y : NodeCall). y.passed) own_seat ∙ close_passed rest (point_at_end reason) reason) b))
         (at_rest i u c) (sym (fields z).0 ∙ dn) (sym (fields z).1 ∙ un)
 
-    -- with the freed request in these sets
+    -- the freed request is in these sets
     module _ (early late : List Request) (grows : SetsGrow r.history (record { core = d; queue = q; joined = r.history.joined; early = early; late = late }) n) (in_sets : Has early a ⊎ Has late a) (was_late : (z : Request) → Has late z → Has r.history.late z ⊎ Has q.clear z) (cleared : HistoryInv allows key (record { core = d; queue = q; joined = r.history.joined; early = early; late = late }) → Has q.clear a ⊎ ((p + 1 ≡ length v.view.ends) × SuccessorUnlinked w.view)) where
       abbrev y : History
       y = next allows key r.may_open.nodes.few r.history r.history_inv k r.history.joined early late
@@ -378,7 +378,7 @@ module _ (good : List ℕ → Type 0) (allows : List ℕ → List ℕ → Type 0
               let e2 : a ≡ a' = at_same v.view.order p' a a' (subst (λ (u : ℕ). At v.view.order u a) e0 here) here' in
               subst (λ (u : ℕ). Frees v u ps' a' w) e0 (subst (λ (zs : List ℕ). Frees v p zs a' w) e1 (subst (λ (b : Request). Frees v p ps b w) e2 frees))
 
-    -- clear at once
+    -- the request is clear at once
     frees_last : Has q.clear a → (w' : List LinkGhost) × (act : Act Payload) × Valid s.homes carried act × Rule good allows key (stepped s (entry_at x) word me carried w' act) × freed allows (step slots (entry_at x) FREED 0 none) (v ∷ [], carried) (slice_index s.words (entry_at x)) (w', carried_after carried act)
     frees_last clear = freed_goal r.history.early (r.history.late ++ a ∷ [])
         (record {
@@ -393,7 +393,7 @@ module _ (good : List ℕ → Type 0) (allows : List ℕ → List ℕ → Type 0
         (λ z h. elim (has_push r.history.late a z h) [ inl old ↦ inl old | inr new ↦ inr (subst (Has q.clear) (sym new) clear) ])
         (λ _. inl clear)
 
-    -- or once the next request is linked
+    -- the request becomes clear once the next request is linked
     frees_first : Lacks q.clear a → (w' : List LinkGhost) × (act : Act Payload) × Valid s.homes carried act × Rule good allows key (stepped s (entry_at x) word me carried w' act) × freed allows (step slots (entry_at x) FREED 0 none) (v ∷ [], carried) (slice_index s.words (entry_at x)) (w', carried_after carried act)
     frees_first un = freed_goal (r.history.early ++ a ∷ []) r.history.late
         (record {

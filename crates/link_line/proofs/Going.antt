@@ -136,7 +136,7 @@ module _ {config : LineConfig} {c : Core} {q : Queue} (s : Shows config c q) (m 
   pub was_boxed : {d : Core} {e : Event} {t : Answer} (k : Step c e t d) → (entry d m).done ≡ true → (entry d m).link ≡ 0 → ((entry c m).done ≡ true) × ((entry c m).link ≡ 0)
   was_boxed k a b = let o = boxed_back k (record { done = a; unlinked = b }) in (o.done, o.unlinked)
 
--- only a node that is ready asks
+-- only a node that is ready makes a request
 unasked : {c d : Core} {e : Event} {t : Answer} (k : Step c e t d) (q : Queue) → point c (node_of e) ≢ Ready → (made q (move_of k q.order)).order ≡ q.order
 unasked (row.prepend_first n a at z) q ne = absurd (ne at)
 unasked (row.prepend n a at z) q ne = absurd (ne at)
@@ -201,7 +201,7 @@ module _ (allows : List ℕ → List ℕ → Type 0) (key : TableKey) (few : key
         (clears_later on.spared.order (prefix_length x.queue.ends on.after.ends on.spared.ends) f.cleared)
         (subst (λ (y : Queue). Clears y.order (length y.ends) x.queue.clear y.clear) (sym on.goes.cleared.2) (subst (λ (l : List Request). Clears (made x.queue (move_of k x.queue.order)).order (length (made x.queue (move_of k x.queue.order)).ends) l on.goes.cleared.0) (clears_made x.queue (move_of k x.queue.order)) on.goes.cleared.1))
 
-    -- what was freed is so
+    -- a request that was freed stays freed
     module _ (r : Request) where
       freed_other : r.node ≢ node_of e → IsFreed x.core x.queue.order r → IsFreed d on.after.order r
       freed_other ne i = record {

@@ -48,7 +48,7 @@ use Rattle.link_line.proofs.Others.{others_of}
 use Rattle.link_line.proofs.Turning.{goes_step, grows_none, joins_all, Owes, turned}
 use Rattle.link_line.proofs.Releasing.{Holds, holds_so, after, view_after, kept, counts, ended, longer, out_turned, goes_out, end_quiet, with_line, line_is}
 
--- with one passed more there is one
+-- one more passed request is one of these
 not_none : {A : Type 0} (ps : List ℕ) (m : ℕ) → ps ++ m ∷ [] ≡ [] → A
 not_none [] m e = let z : m ∷ [] ≡ [] = e in cc z
 not_none (p ∷ ps) m e = let z : p ∷ (ps ++ m ∷ []) ≡ [] = e in cc z

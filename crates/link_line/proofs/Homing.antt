@@ -55,7 +55,7 @@ module _ (good : List ℕ → Type 0) (allows : List ℕ → List ℕ → Type 0
   abbrev n : ℕ
   n = v.view.node
 
-  -- from a history that differs from the invariant's by what was done in the hand
+  -- the core goes on from a history that differs from the invariant's by what was done in the hand
   module _ (me slots : ℕ) (s : St good allows key) (r : Rule good allows key s) (at : get_elem? s.views me ≡ some (v ∷ [])) (x : History) (h : Holds good allows key r.history v z x) (rel : Releases x.core n e) where
     ok : NodeInv key r.history n v
     ok = mine_ok good allows key s r me v at
@@ -241,7 +241,7 @@ module _ (good : List ℕ → Type 0) (allows : List ℕ → List ℕ → Type 0
       | inr early ↦ ap is_one (r.history_inv.shown.matches.turns ∙ (λ i. turns_left (sym mine.who.config i).lease (sym ends_same i))) ∙ last-is_one v.view.config.lease v.view.ends ∙ early
     ])
 
-    -- and a closed one as it is closed, by a second event
+    -- a line that is closed by this turn is closed in a second event
     abbrev shut_past : History
     shut_past = next allows key r.may_open.nodes.few written written_fine (row.close v.view.node its_node here) r.history.joined r.history.early r.history.late
 

@@ -81,7 +81,7 @@ module _ (good : List ℕ → Type 0) (allows : List ℕ → List ℕ → Type 0
     laid : (d : Core) (homes : Homes) → d.nodes ≡ r.history.core.nodes → d.home ≡ r.history.core.home → d.entries ≡ set r.history.core.entries p with_link → length homes ≡ 1 → InSlot d homes d.place → Represents d (set s.words (entry_at p) word) homes
     laid d homes n h e deep slot = entry_laid r.history.core d s.words s.homes homes p word with_link r.represents behind.node few (let w = inside.entries in let a = behind.node.1 in omega arith) new_word n h e deep slot
 
-    -- the own request is joined now
+    -- the node's own request is joined now
     abbrev joined : List Request
     joined = r.history.joined ++ own v.view ∷ []
 

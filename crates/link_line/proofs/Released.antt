@@ -24,7 +24,7 @@ use Rattle.link_line.specs.BetweenCalls.{holds_open, holds_closed}
 use Rattle.link_line.specs.Steps.{end_of, next_end, point_by, after_release, left_in, TurnIsOver, MayHandOff, Ended, IsHandedOver, IsLeftForLinker, Passes}
 use Rattle.link_line.specs.Releases.{with_line, ReleasesLine, FinishesWalk}
 
--- a node that has passed none ends its own request next
+-- a node that has passed no request ends its own next
 ends_own : (w : LinkGhost) (y : Payload) (closed : Bool) → w.own.passed ≡ [] → is_closed w.view.ends ≡ closed → next_end w y ≡ own_end closed y
 ends_own w y closed none is = (λ i. end_of (none i) (is i) y)
 
@@ -36,7 +36,7 @@ module _ (v : LinkGhost) (y : Payload) (none : v.own.passed ≡ []) where
   pub one_more : (w : LinkGhost) → Ended v w y → length w.view.ends ≡ length v.view.ends + 1
   one_more w e = omega (arith, ap length (ends_now w e), length-append v.view.ends (own_end (is_closed v.view.ends) y ∷ []))
 
-  -- it is over if the line goes home or to the next request
+  -- the release is over if the line goes home or to the next request
   pub lets_out : (w : LinkGhost) → Ended v w y → IsHandedOver v w y → ReleasesLine v y (state_after y.closed) w
   lets_out w e o = record {
     point = o.point ∙ ap (after_release (state_after y.closed)) none;
@@ -57,7 +57,7 @@ module _ (v : LinkGhost) (y : Payload) (none : v.own.passed ≡ []) where
     };
   }
 
-  -- and if the line is left for a late linker
+  -- the release is over if the line is left for a late linker
   pub lets_left : (w : LinkGhost) → Ended v w y → IsLeftForLinker v w y → ReleasesLine v y port_state.Left w
   lets_left w e l = let state : w.view.state ≡ port_state.Left = l.state ∙ ap (λ ps. left_in ps y.closed) none in record {
     point = l.point ∙ (λ i. after_release (left_in (none i) y.closed) (none i));
@@ -78,7 +78,7 @@ module _ (v : LinkGhost) (y : Payload) (none : v.own.passed ≡ []) where
     };
   }
 
-  -- and if it walked on over withdrawn requests
+  -- the release is over if it walked on over withdrawn requests
   pub lets_on : (u t : LinkGhost) (next : ℕ) → Ended v u y → Passes (with_line v y) u next → Extends u.view t.view → FinishesWalk u t → ReleasesLine v y (state_after y.closed) t
   lets_on u t next e p more w = let mine = prefix_get u.view.order t.view.order (length v.view.ends) (own u.view) more.order (e.own_turn none) ∙ ap Some (sym (same_own u.view t.view more w.count)) in record {
     point = w.point ∙ ap point_by p.state;
@@ -95,11 +95,11 @@ module _ (v : LinkGhost) (y : Payload) (none : v.own.passed ≡ []) where
     };
   }
 
--- what the walk asks
+-- what the walk requires
 pub walk_nodes : (v u : LinkGhost) (y : Payload) (next : ℕ) → v.own.passed ≡ [] → Passes (with_line v y) u next → 2 ≤ u.view.config.nodes
 walk_nodes v u y next none p = omega (arith, p.few, ap length p.passed, length-append v.own.passed (length u.view.ends ∷ []))
 
--- what a node has that has the line, and whose turn on it is over
+-- what holds of a node that has the line, and whose turn on it is over
 module _ (allows : List ℕ → List ℕ → Type 0) (v : LinkGhost) (y : Payload) (token : ℕ) (has : HoldsPayload holds_open holds_closed token v y) (c : shared.IsNextPayload allows v.view y) where
   -- an open line
   module _ (unclosed : is_closed v.view.ends ≡ false) where
@@ -117,7 +117,7 @@ module _ (allows : List ℕ → List ℕ → Type 0) (v : LinkGhost) (y : Payloa
       allowed = subst (allows (bytes_of v.view)) bytes (subst (λ (e : End). AreAllowed allows (bytes_of v.view) (e ∷ [])) what c.allowed).0;
     }
 
-  -- and a closed one
+  -- a holder may release a closed line
   pub may_let_go : MayHandOff allows v y v.view.node × (v.own.passed ≡ [])
   may_let_go = elim (cases_Bool (is_closed v.view.ends)) [
     | inl closed ↦ let r = has.refuses closed in (inr (r.0, sym r.1), r.2)

@@ -85,7 +85,7 @@ end_is config c order ends n Own (p ∷ ps) (q ∷ qs) g z e k b m s = refl
 end_is config c order ends n Closing (p ∷ ps) (q ∷ qs) g z e k b m s = refl
 end_is config c order ends n Refused (p ∷ ps) (q ∷ qs) g z e k b m s = refl
 
--- it is allowed
+-- the end is allowed
 end_may : (allows : List ℕ → List ℕ → Type 0) (config : LineConfig) (c : Core) (order : List Request) (ends : List End) (n : ℕ) (r : ReleaseCause) (ps : List ℕ) → IsCarried config c order ends n r ps → (ps ≡ [] → serves r ≡ true → allows (bytes_after config.opening.bytes ends) c.bytes.bytes) → AreAllowed allows (bytes_after config.opening.bytes ends) (end_by c r ps ∷ [])
 end_may allows config c order ends n Own [] k f = (subst (allows (bytes_after config.opening.bytes ends)) (sym k.2) (f refl refl), tt)
 end_may allows config c order ends n Closing [] k f = (subst (allows (bytes_after config.opening.bytes ends)) (sym k.2) (f refl refl), tt)
@@ -172,7 +172,8 @@ leaving_unlinking Left a = cc
 leaving_unlinking Rolled a = cc
 leaving_unlinking Shut a = cc
 
--- the line z is in the hand of v's node: the history x is the invariant's x0 but for what that node did in its hand
+-- The line z is in the hand of v's node. The history x is the invariant's x0, except for what that node did in its
+-- hand.
 pub record Holds (good : List ℕ → Type 0) (allows : List ℕ → List ℕ → Type 0) (key : TableKey) (x0 : History) (v : LinkGhost) (z : Payload) (x : History) : Type 0 where
   pub via : Via good allows key x0 v x
   pub home : x.core.home ≡ x0.core.home
@@ -281,7 +282,7 @@ module _ (good : List ℕ → Type 0) (allows : List ℕ → List ℕ → Type 0
             ap (has after.queue.clear) (sym (last_is key.config.lease after.queue.order after.queue.ends n (length v.view.ends) shows.legal (own_last none) ∙ (λ i. record { node = n; number = counts i })))
             ∙ shows.matches.clears n (length v.view.ends) after_node (own_last none) ∙ ap (λ (q : Point). is_clear q (entry d n)) here ∙ clear (entry d n)
 
-        -- and the line has left the node
+        -- the line has left the node
         module _ (p : Point) (quiet : is_over p ≡ true) (own_seat : seat d n ≡ seat_at_close p st) (behind : (d.place ≡ Home) ⊎ (length after.queue.ends < length after.queue.order)) where
           unlined : has_line (point d n) ≡ false
           unlined = ap (λ (s : NodeCall). has_line s.point) own_seat ∙ close_not has_line st.passed p st.reason (quiet_lineless p quiet) refl
@@ -395,7 +396,7 @@ module _ (good : List ℕ → Type 0) (allows : List ℕ → List ℕ → Type 0
           line_is = refl;
         }
 
-  -- a release has passed fewer nodes than there are
+  -- a release has passed fewer nodes than the line has
   pub few_passed : (length v.own.passed < key.config.nodes) × (length v.own.passed + 1 ≡ key.config.nodes → x.core.home ≡ last_or n st.passed)
   few_passed =
       let k = short sh.matches in
@@ -404,7 +405,7 @@ module _ (good : List ℕ → Type 0) (allows : List ℕ → List ℕ → Type 0
       let a = k.passed n node in
       (omega arith, λ e. k.home n node h.lined (omega arith))
 
-  -- without a link the line is left for a late linker
+  -- if there is no link, the line is left for a late linker
   module _ {e : ℕ} (marking : point x.core n ≡ Marking e) (un : (entry x.core e).link ≡ 0) where
     pub left_short : (y : History) (w : LinkGhost) → HistoryInv allows key y → (seat y.core (requester_at x.queue.order (length x.queue.ends + 1)) ≡ seat x.core (requester_at x.queue.order (length x.queue.ends + 1)) × (y.queue.order ≡ x.queue.order) × (length y.queue.ends ≡ length x.queue.ends + 1)) → w.view.order ≡ y.queue.order → w.view.ends ≡ y.queue.ends → ((q : Request) → Has w.view.joined q → Has y.joined q) → SuccessorUnlinked w.view
     left_short y w history_inv same order ends joined =
@@ -420,7 +421,7 @@ module _ (good : List ℕ → Type 0) (allows : List ℕ → List ℕ → Type 0
           lacks_from w.view.joined (request y.queue.order (length y.queue.ends)) (λ j. never (subst (Has y.joined) made (joined (request y.queue.order (length y.queue.ends)) j)) (history_inv.unjoined t e (subst (λ (m : ℕ). IsNode y.core m) its (history_inv.shown.matches.nodes (length y.queue.ends) here)) late)),
         )
 
--- in mid-release the line is as the view has it
+-- in the middle of a release, the line is as the view has it
 pub holds_so : (good : List ℕ → Type 0) (allows : List ℕ → List ℕ → Type 0) (key : TableKey) (s : St good allows key) (r : Rule good allows key s) (me : ℕ) (v : LinkGhost) → get_elem? s.views me ≡ some (v ∷ []) → is_leaving v.own.seat.point ≡ true → Holds good allows key r.history v v.own.line r.history
 holds_so good allows key s r me v at leaving =
     let ok : NodeInv key r.history v.view.node v = mine_ok good allows key s r me v at in

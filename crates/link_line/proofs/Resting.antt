@@ -84,7 +84,7 @@ module _ (good : List ℕ → Type 0) (allows : List ℕ → List ℕ → Type 0
     free_is p (inl e) = rw (e, found, link_is (entry r.history.core v.view.node)) refl
     free_is p (inr e) = rw (e, found, link_is (entry r.history.core v.view.node), done_is (entry r.history.core v.view.node), freed_is (entry r.history.core v.view.node)) refl
 
-    -- a last request that is not clear is not known to be
+    -- a last request that is not clear is not known to be clear
     unclear : (y : History) (w : LinkGhost) → HistoryInv allows key y → NodeInv key y v.view.node w → Says y.queue v.view.node told.Busy → Lacks y.queue.clear (record { node = v.view.node; number = w.view.count })
     unclear y w history_inv own says = elim (cases_lt 0 w.view.count) [
       | inl more ↦

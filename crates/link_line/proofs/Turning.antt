@@ -65,7 +65,7 @@ grows_joined x y n r its known a b c = record {
   new_late = λ z h. inl (subst (λ rs. Has rs z) c h);
 }
 
--- of its own requests these are joined, and perhaps others, and they are more than before
+-- of the node's own requests these are joined, and perhaps others; they are at least those of before
 pub record Joins (y : History) (v : LinkGhost) (joins : List Request) : Type 0 where
   pub own_joined : (r : Request) → r.node ≡ v.view.node → Has y.joined r → Has joins r
   pub all_joined : IsSubset joins y.joined
@@ -78,7 +78,7 @@ joins_same key x y v ok e = record {
   more_joined = λ r h. h;
 }
 
--- all joined ones are
+-- all joined requests are
 pub joins_all : (key : TableKey) (x y : History) (v : LinkGhost) → NodeInv key x v.view.node v → y.joined ≡ x.joined → Joins y v y.joined
 joins_all key x y v ok e = record {
   own_joined = λ r mine h. h;
@@ -112,7 +112,7 @@ passes_none order w e f = record {
     none : {A : Type 0} (i p : ℕ) → At w.own.passed i p → A
     none i p at = let z : None ≡ Some p = sym (ap (λ (ps : List ℕ). slice_get ps i) f) ∙ at in cc z
 
--- one counted step
+-- one step, which is counted
 pub goes_step : (allows : List ℕ → List ℕ → Type 0) (v w : LinkGhost) (before after : List (ℕ × Payload)) → Continues allows v.view w.view → w.steps ≡ v.steps + 1 → Advances allows (v ∷ [], before) (w ∷ [], after) 1
 goes_step allows v w before after c n = record {
   of_one_node = refl;
@@ -150,8 +150,8 @@ arrival_unfreeing n true e = cc
 arrival_unfreeing n false e = cc
 
 module _ (good : List ℕ → Type 0) (allows : List ℕ → List ℕ → Type 0) (key : TableKey) where
-  -- what an event owes that leads to the past y, with its node's count of requests, those that it knows to be joined, the places that it
-  -- has passed, and the line in its hand
+  -- What an event must show if it leads to the past y, with its node's count of requests, the requests that it knows to
+  -- be joined, the places that it has passed, and the line in its hand.
   pub record Owes (y : History) (v : LinkGhost) (count : ℕ) (joined : List Request) (passed : List ℕ) (line : Payload) : Type 0 where
     pub kept : AreAllowed allows key.config.opening.bytes y.queue.ends
     pub lawful : MayServe (seat y.core v.view.node) → allows (bytes_after key.config.opening.bytes y.queue.ends) y.core.bytes.bytes
@@ -276,7 +276,7 @@ module _ (good : List ℕ → Type 0) (allows : List ℕ → List ℕ → Type 0
   pub own_at : (y : History) (v : LinkGhost) (count p : ℕ) → Shows key.config y.core y.queue → count_of v.view.node y.queue.order ≡ count → IsLast y.queue.order v.view.node p → At y.queue.order p (record { node = v.view.node; number = count })
   own_at y v count p s c l = get_request y.queue.order p l.known ∙ ap Some (last_is key.config.lease y.queue.order y.queue.ends v.view.node p s.legal l ∙ (λ i. record { node = v.view.node; number = c i }))
 
-  -- it is marked if its node's point says so
+  -- the request is marked if the point of its node says so
   pub own_marked : (y : History) (v : LinkGhost) (count p : ℕ) → Shows key.config y.core y.queue → count_of v.view.node y.queue.order ≡ count → IsLast y.queue.order v.view.node p → length y.queue.ends ≤ p → has y.queue.marked (record { node = v.view.node; number = count }) ≡ is_rolled (point y.core v.view.node)
   own_marked y v count p s c l open' =
       ap (has y.queue.marked) (sym (last_is key.config.lease y.queue.order y.queue.ends v.view.node p s.legal l ∙ (λ i. record { node = v.view.node; number = c i }))) ∙ s.matches.marks p open' l.known ∙ ap (λ (q : ℕ). is_rolled (point y.core q)) l.its

@@ -57,7 +57,7 @@ pub record IsAway (nodes : List ℕ) (w : LinkGhost) : Type 0 where
   pub known : length w.view.ends ≤ length w.view.order
   pub unmarked : (r : Request) → turn_of w.view.order w.view.ends ≡ Some r → Lacks w.view.marked r
 
--- a node that has passed one ends a withdrawn request next
+-- a node that has passed a request ends a withdrawn request next
 ends_gone : (ps : List ℕ) (closed : Bool) (y : Payload) (k : ℕ) → length ps ≡ k + 1 → end_of ps closed y ≡ Gone
 ends_gone [] closed y k e = absurd (omega (arith, e))
 ends_gone (p ∷ ps) closed y k e = refl
@@ -105,7 +105,7 @@ replicate-push : (n : ℕ) (e : End) → replicate n e ++ e ∷ [] ≡ replicate
 replicate-push zero e = refl
 replicate-push (suc n) e = ap (λ es. e ∷ es) (replicate-push n e)
 
--- one more withdrawn request ends, at which the walk stood
+-- one more withdrawn request ends, which the walk had reached
 module _ (v w x : LinkGhost) (nodes : List ℕ) (node : ℕ) (y : Payload) (k : Walked v nodes w) (s : StandsAt nodes node w) (e : Ended w x y) (more : Extends w.view x.view) where
   gone : next_end w y ≡ Gone
   gone = ends_gone w.own.passed (is_closed w.view.ends) y (length nodes) s.many
@@ -180,13 +180,13 @@ walk_over v w x nodes k h f =
         let one = element_at w.own.passed i (omega (arith, low, high)) in
         (i, subst (At w.own.passed i) (k.run i one.0 one.1 ∙ omega (arith, low)) one.1)
 
--- it put an end for each node that it passed
+-- the walk made an end for each node that it passed
 pub walked_long : (v w x : LinkGhost) (nodes : List ℕ) → Walked v nodes w → FreesAll w x → length x.view.ends ≡ length v.view.ends + length nodes
 walked_long v w x nodes k f = ap length (f.ends ∙ k.ends) ∙ omega (arith, length-append v.view.ends (replicate (length nodes) Gone), length-replicate (length nodes) Gone)
 
--- the result of a walk from the seat s, by that of its last handoff, in `taken` atomic steps: each passed request took
--- three; and if the line is handed over, the last one took one to three, and a step more for each is within what a
--- release may take
+-- The result of a walk from the seat s, by that of its last handoff, in `taken` atomic steps. Each passed request took
+-- three steps. If the line is handed over, the last handoff took one to three, and one more step for each passed
+-- request is within what a release may take.
 abbrev pub StandsBy : LinkSeat → List ℕ → LinkSeat → ℕ → Handoff → Type 0
 StandsBy s nodes t taken (handoff.HandedOver word behind) = HasNoSlot t × IsAway nodes (ghost_of t) × (taken + length nodes + 6 ≤ 4 * (ghost_of s).view.config.nodes) × (3 * length nodes ≤ taken + 2) × (taken ≤ 3 * length nodes)
 StandsBy s nodes t taken handoff.Left = HasNoSlot t × IsAway nodes (ghost_of t) × (taken + length nodes + 6 ≤ 4 * (ghost_of s).view.config.nodes) × (3 * length nodes ≤ taken + 2) × (taken ≤ 3 * length nodes)
@@ -201,7 +201,7 @@ pub record IsWalking (allows : List ℕ → List ℕ → Type 0) (s : LinkSeat) 
   pub walked : Walked (ghost_of s) nodes (ghost_of t)
   pub stands : StandsBy s nodes t taken result
 
--- and what the walk has done when the line is handed over
+-- what the walk has done when the line is handed over
 module _ (allows : List ℕ → List ℕ → Type 0) (s t u : LinkSeat) (nodes : List ℕ) (taken node : ℕ) (n : ℕ) (k : Walked (ghost_of s) nodes (ghost_of t)) (b : StandsBy s nodes t taken (handoff.Passed node)) (slot : HasSlot s (ghost_of s).own.line) (state : (ghost_of s).view.state ≡ state_after (ghost_of s).own.line.closed)
     (advances : Advances allows t.me u.me n) where
   out_state : (ps : List ℕ) (closed : Bool) → ps ≢ [] → left_in ps closed ≡ state_after closed
@@ -274,7 +274,7 @@ module _ (allows : List ℕ → List ℕ → Type 0) (s t u : LinkSeat) (nodes :
   walks handoff.Left h = walks_left h
   walks (handoff.Passed to) h = walks_passed to h
 
--- therefore one more turn of the loop keeps it
+-- one more turn of the loop therefore keeps it
 pub walking_on : (allows : List ℕ → List ℕ → Type 0) (s t u : LinkSeat) (before : ℕ) (nodes : List ℕ) (node steps later n : ℕ) (result : Handoff) → IsWalking allows s before nodes (handoff.Passed node) t steps → HasSlot s (ghost_of s).own.line → (ghost_of s).view.state ≡ state_after (ghost_of s).own.line.closed
     → IsSameSeat t u → later ≡ steps + n → Advances allows t.me u.me n → ((y : Payload) → HasSlot t y → HandsOff t y u n result) → IsWalking allows s before (nodes ++ node ∷ []) result u later
 walking_on allows s t u before nodes node steps later n result k slot state same is advances hands =
@@ -294,7 +294,7 @@ names_away w (handoff.HandedOver word behind) none names = names
 names_away w handoff.Left none names = names
 names_away w (handoff.Passed node) none names = absurd (none node refl)
 
--- it stays that while the passed nodes are freed
+-- this stays true while the passed nodes are freed
 pub turn_stays : (w x : LinkGhost) → FreesAll w x → wake_word x.view ≡ wake_word w.view
 turn_stays w x f = λ i. word_of (f.joined i) (turn_of (f.order i) (f.ends i))
 

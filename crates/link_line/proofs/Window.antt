@@ -34,6 +34,6 @@ module _ (config : LineConfig) (c : State) (q : Queue) (s : Shows config c q) wh
   window = let few = few_if_once config.nodes (drop (length q.ends) q.order) nodes once in
       let d = length-drop (length q.ends) q.order in let i = s.matches.known in omega arith
 
-  -- nor than terms have that are the line's
+  -- no more requests are open than a line with these terms has nodes
   pub few_open : (t : LineConfig) → t ≡ config → length q.order ≤ length q.ends + t.nodes
   few_open t is = subst (λ (z : LineConfig). length q.order ≤ length q.ends + z.nodes) (sym is) window

@@ -1,4 +1,4 @@
--- The theorems that a discipline must prove, for the list.
+-- The theorems that every discipline must prove, here for the link line.
 pub mod PortModel
 pub mod Histories
 pub mod Nodes

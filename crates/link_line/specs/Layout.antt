@@ -30,7 +30,8 @@ pack e = GRANTED * one_if e.granted + ROLLED * one_if e.rolled + DONE * one_if e
 abbrev pub is_granted : ℕ → Bool
 is_granted w = (w % 2) == 1
 
--- a node that waits on its entry with this lower half finds its turn, with any token: a link to the entry is no grant
+-- a node that waits on its entry with this lower half finds its turn, whatever its token is, because a link to the
+-- entry is not a grant
 abbrev pub signals_turn : ℕ → ℕ → Bool
 signals_turn token low = is_granted low
 

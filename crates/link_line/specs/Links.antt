@@ -85,14 +85,14 @@ serves Own = true
 serves Closing = true
 serves Refused = false
 
--- in a release, the node's own request is still to end, as served
+-- in a release, the node's own request must still end, as served
 pub record MayServe (s : NodeCall) : Type 0 where
   pub leaves : is_leaving s.point ≡ true
   pub passed : s.passed ≡ []
   pub serves : serves s.reason ≡ true
 
 -- The core after the last atomic step, and the queue that it shows; the requests that are joined; and the withdrawn
--- ones whose nodes were freed: those that were not clear then, and those that were.
+-- requests whose nodes were freed: first those that were not clear at that time, and then those that were.
 pub record History : Type 0 where
   pub core : Core
   pub queue : Queue
@@ -100,7 +100,7 @@ pub record History : Type 0 where
   pub early : List Request
   pub late : List Request
 
--- What holds of the node n, in parts, each over what it reads of the history.
+-- What holds of the node n. It has several parts, each about what that part reads of the history.
 
 -- the node's identity: its number, and its line's label and config
 pub record IdentityInv (key : TableKey) (n : ℕ) (v : View) : Type 0 where
@@ -108,8 +108,8 @@ pub record IdentityInv (key : TableKey) (n : ℕ) (v : View) : Type 0 where
   pub label : v.label ≡ key.label
   pub config : v.config ≡ key.config
 
--- The view's lists are prefixes of the queue's. They include the end of every own request that was served or told, and which own requests
--- are withdrawn.
+-- The view's lists are prefixes of the queue's. They include the end of every own request that was served or told that
+-- the line is closed, and which of the own requests are withdrawn.
 pub record ViewInv (q : Queue) (n : ℕ) (v : View) : Type 0 where
   pub orders : IsPrefix v.order q.order
   pub endings : IsPrefix v.ends q.ends
@@ -120,8 +120,8 @@ pub record ViewInv (q : Queue) (n : ℕ) (v : View) : Type 0 where
   pub own_marks : (r : Request) → r.node ≡ n → has v.marked r ≡ has q.marked r
   pub all_marked : IsSubset v.marked q.marked
 
--- The view has the own requests that are joined. A view with a freed request and the joined one behind it, whichever of both was learned
--- last, has the freed one as clear.
+-- The view has those of the node's own requests that are joined. If it has a freed request and the joined request
+-- behind it, it has the freed one as clear, whichever of the two it learned last.
 pub record JoinedInv (x : History) (n : ℕ) (v : View) : Type 0 where
   pub own_joined : (r : Request) → r.node ≡ n → Has x.joined r → Has v.joined r
   pub all_joined : IsSubset v.joined x.joined
@@ -129,7 +129,7 @@ pub record JoinedInv (x : History) (n : ℕ) (v : View) : Type 0 where
   pub joined_last : (p : ℕ) (r next : Request) → At x.queue.order p r → At x.queue.order (p + 1) next → Has x.early r → Has v.joined next → Has v.clear r
   pub freed_last : (r : Request) → Has v.freed r → Has x.late r → Has v.clear r
 
--- in a release, the node's line is the core's, with the turns that will be left when its own request has ended
+-- in a release, the node's line is that of the core, with the turns that will be left once its own request has ended
 pub record IsInHand (c : Core) (n : ℕ) (s : NodeCall) (line : Payload) : Type 0 where
   pub bytes : line.bytes ≡ c.bytes
   pub closed : line.closed ≡ c.closed
@@ -137,8 +137,8 @@ pub record IsInHand (c : Core) (n : ℕ) (s : NodeCall) (line : Payload) : Type 
   pub mask : MayServe s → mask_of line ≡ c.mask
   pub shut : line.closed ≡ is_shut_by s.reason
 
--- The node's point in its call, and its line. The writes of a holder are not in the core yet. If its release has left the line with a node
--- that it passed, it knows the request behind.
+-- The node's point in its call, and its line. The core does not have the writes of a holder yet. If the node's release
+-- has left the line with a node that it passed, it knows the request behind.
 pub record PointInv (c : Core) (ends : List End) (n : ℕ) (e : LinkGhost) : Type 0 where
   pub seat : e.own.seat ≡ seat c n
   pub state : e.view.state ≡ state_of e.own.seat
@@ -147,7 +147,7 @@ pub record PointInv (c : Core) (ends : List End) (n : ℕ) (e : LinkGhost) : Typ
   pub carries : is_leaving e.own.seat.point ≡ true → IsInHand c n e.own.seat e.own.line
   pub left : e.own.seat.point ≡ Freeing → (i x p : ℕ) → At e.own.seat.passed i x → At e.own.passed i p → (entry c x).done ≡ true → (entry c x).link ≡ 0 → p + 1 < length e.view.order
 
--- the places of the requests that it has passed are those of their nodes' last ones
+-- the places of the requests that the node has passed are those of their nodes' last ones
 pub record PassedInv (order : List Request) (e : LinkGhost) : Type 0 where
   pub places : e.own.seat.passed ≡ map (requester_at order) e.own.passed
   pub last : (i p : ℕ) → At e.own.passed i p → IsLast order (requester_at order p) p

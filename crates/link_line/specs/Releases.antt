@@ -22,19 +22,19 @@ use Rattle.link_line.specs.Links.{At}
 use Rattle.link_line.specs.Layout.{IsWithin, home_at}
 use Rattle.link_line.specs.Steps.{LinkSeat, ghost_of, point_by, IsReady, HasUnpassedNode, Ended, IsHandedOver, IsLeftForLinker, Passes}
 
--- the number of atomic steps by which a node finds out whether it may ask, and resets its entry
+-- the number of atomic steps by which a node learns whether it may make a request, and resets its entry
 abbrev pub steps_to_reset : Option ℕ → ℕ
 steps_to_reset (Some steps) = steps
 steps_to_reset None = 1
 
--- the point of a node that may ask, by its port's state
+-- the point of a node that may make a request, by its port's state
 abbrev pub rest_of : PortState → Point
 rest_of port_state.Left = Left
 rest_of port_state.Rolled = Rolled
 rest_of port_state.Shut = Shut
 rest_of _ = Idle
 
--- the node may ask, after all but the last of those steps; or its last request is not clear, so it may not
+-- the node may make a request, after all but the last of those steps; or its last request is not clear, so it may not
 abbrev pub TriesReset : PortState → LinkGhost → LinkGhost → Option ℕ → Type 0
 TriesReset state v w (Some steps) = IsReady v w × (steps ≤ 2) × (steps + 1 ≡ steps_to_ask state)
 TriesReset state v w None = ((state ≡ port_state.Left) ⊎ (state ≡ port_state.Rolled)) × (w.own.seat.point ≡ v.own.seat.point) × (w.view.state ≡ v.view.state) × (w.view.count ≡ v.view.count) × Lacks w.view.clear (own w.view)
@@ -45,7 +45,7 @@ granted_word (handoff.HandedOver word behind) = word
 granted_word handoff.Left = home_at
 granted_word (handoff.Passed next) = home_at
 
--- unless the next request was passed, the handoff names the word of the turn
+-- unless the release passed the next request, the handoff names the word of the turn
 abbrev pub NamesWakeWord : LinkGhost → Handoff → Type 0
 NamesWakeWord w (handoff.HandedOver word behind) = word ≡ wake_word w.view
 NamesWakeWord w handoff.Left = home_at ≡ wake_word w.view
@@ -55,9 +55,9 @@ NamesWakeWord w (handoff.Passed next) = Unit {0}
 abbrev pub with_line : LinkGhost → Payload → LinkGhost
 with_line v y = record v { own = record v.own { line = y } }
 
--- The result of a handoff of the line y at an entry, in n atomic steps: the line is at home or granted to the next
--- request; or it is left there, for a late linker; or the next request is withdrawn, and the node still has the line.
--- More than one step is taken only if another node is left.
+-- The result of a handoff of the line y at an entry, in n atomic steps. Either the line is at home or granted to the
+-- next request, or it is left there for a late linker, or the next request is withdrawn and the node still has the
+-- line. More than one step is taken only if another node is left.
 abbrev pub HandsOff : LinkSeat → Payload → LinkSeat → ℕ → Handoff → Type 0
 HandsOff s y t steps (handoff.HandedOver word behind) = HasNoSlot t × Ended (ghost_of s) (ghost_of t) y × IsHandedOver (ghost_of s) (ghost_of t) y × ((steps ≡ 1) ⊎ ((steps ≡ 3) × HasUnpassedNode (ghost_of s)))
 HandsOff s y t steps handoff.Left = HasNoSlot t × Ended (ghost_of s) (ghost_of t) y × IsLeftForLinker (ghost_of s) (ghost_of t) y × (steps ≡ 2) × HasUnpassedNode (ghost_of s)
@@ -69,7 +69,8 @@ pub record ReleasesLine (v : LinkGhost) (y : Payload) (state : PortState) (w : L
   pub state_is : w.view.state ≡ state
   pub ends_turn : EndsTurn v.view (own_end (is_closed v.view.ends) y) (state_after y.closed) w.view
 
--- a release is over that had passed the request at its turn and none before; it passed requests of different nodes, none of them its own
+-- A release is over. It had passed the request at its turn and none before. It passed requests of different nodes, none
+-- of them its own.
 pub record FinishesWalk (v w : LinkGhost) : Type 0 where
   pub point : w.own.seat.point ≡ point_by v.view.state
   pub state : w.view.state ≡ v.view.state
@@ -84,8 +85,8 @@ pub record FinishesWalk (v w : LinkGhost) : Type 0 where
 pub record AreNodesAt (v : View) (places nodes : List ℕ) : Type 0 where
   pub each : (k p n : ℕ) → At places k p → At nodes k n → (r : Request) × At v.order p r × (r.node ≡ n) × IsWithin v.config.nodes n
 
--- all requests that the node had passed are freed, and clear unless the line was left behind the last; its own is clear; nothing else has
--- changed
+-- All requests that the node had passed are freed, and they are clear unless the line was left behind the last of them.
+-- The node's own request is clear. Nothing else has changed.
 pub record FreesAll (v w : LinkGhost) : Type 0 where
   pub point : w.own.seat.point ≡ point_by v.view.state
   pub state : w.view.state ≡ v.view.state

@@ -30,7 +30,8 @@ use Rattle.link_line.specs.Layout.{home_at, entry_at, word_count, IsWithin, is_g
 use Rattle.link_line.specs.Links.{At}
 use Rattle.link_line.specs.BetweenCalls.{initial, in_state, holds_open, holds_closed, phases, wake_word}
 
--- The definitions of `line_generic`, for the nodes of a list. If a port's token means nothing, they hold of any.
+-- The definitions of `line_generic`, for the nodes of a list. Where a port's token does not matter, they hold for any
+-- token.
 
 abbrev pub LinkSeat : Type 0
 LinkSeat = node_ghosts.LineSeat LinkLocal
@@ -57,7 +58,7 @@ IsOwnNode nodes node seat = shared.IsOwnNode initial nodes node seat
 abbrev pub KnowsNodes : ℕ → LinkSeat → Type 0
 KnowsNodes nodes seat = (ghost_of seat).view.config.nodes ≡ nodes
 
--- the seat is of the table of a line of n nodes, and has this node's ghost state
+-- the seat belongs to the table of a line of n nodes, and has this node's ghost state
 abbrev pub IsSeatOfNode : ℕ → TableId → ℕ → LinkSeat → Type 0
 IsSeatOfNode nodes table_id node seat = answers.IsSeatOfNode word_count nodes table_id initial node seat
 
@@ -74,7 +75,7 @@ IsInState state token s = shared.IsInState phases state token s
 abbrev pub IsStillQueued : LinkGhost → Type 0
 IsStillQueued w = (token : ℕ) → shared.IsStillQueued in_state token w
 
--- the node made a request, and is to link it to that of this node
+-- the node made a request, and must link it to that of this node
 abbrev pub MustLinkTo : ℕ → LinkGhost → Type 0
 MustLinkTo predecessor w = shared.IsUnlinked in_state predecessor w
 
@@ -90,25 +91,26 @@ IsAtTurn w y = (token : ℕ) → shared.IsAtTurn holds_open holds_closed token w
 abbrev pub IsAt : Point → LinkSeat → Type 0
 IsAt point seat = IsOfOneNode seat.me × ((ghost_of seat).own.seat.point ≡ point)
 
--- the own entry is clear
+-- the node's own entry is clear
 pub record IsReady (v w : LinkGhost) : Type 0 where
   pub point : w.own.seat.point ≡ Ready
   pub state : w.view.state ≡ port_state.Idle
   pub count : w.view.count ≡ v.view.count
 
--- the last request may be followed by another, by its entry word
+-- by its entry word, the node may make another request after its last one
 abbrev pub is_free : Point → ℕ → Bool
 is_free Left w = not (link_of w == 0)
 is_free Rolled w = is_freed w && not (is_done w && (link_of w == 0))
 is_free _ w = false
 
--- the last request is clear, so the node may ask, if `clear`; otherwise it is not
+-- if `clear` is true, the last request is clear, so the node may make another; otherwise it is not clear
 pub record TellsIfClear (v : LinkGhost) (clear : Bool) (w : LinkGhost) : Type 0 where
   pub count : w.view.count ≡ v.view.count
   pub is_clear : clear ≡ true → (w.own.seat.point ≡ Idle) × (w.view.state ≡ port_state.Idle)
   pub unclear : clear ≡ false → (w.own.seat.point ≡ v.own.seat.point) × (w.view.state ≡ v.view.state) × Lacks w.view.clear (own w.view)
 
--- the end that a release makes next: of the node's own request if it has passed none, otherwise of a withdrawn one
+-- the end that a release makes next: that of the node's own request if it has passed none, and otherwise that of a
+-- withdrawn request
 abbrev pub end_of : List ℕ → Bool → Payload → End
 end_of [] closed y = own_end closed y
 end_of (p ∷ ps) closed y = Gone
@@ -116,14 +118,15 @@ end_of (p ∷ ps) closed y = Gone
 abbrev pub next_end : LinkGhost → Payload → End
 next_end v y = end_of v.own.passed (is_closed v.view.ends) y
 
--- the turn of a holder is over, with this payload: its write is allowed, one turn fewer is left, and the last turn has closed the line
+-- The turn of a holder is over, with this payload. Its write is allowed, one turn fewer is left, and the last turn has
+-- closed the line.
 pub record TurnIsOver (allows : List ℕ → List ℕ → Type 0) (v : LinkGhost) (y : Payload) : Type 0 where
   pub bytes : written (bytes_of v.view) (write_of y) ≡ y.bytes.bytes
   pub turns : y.turns_left ≡ decrement (turns_left v.view.config.lease v.view.ends)
   pub last : is_last_turn v.view.config.lease v.view.ends ≡ true → y.closed ≡ true
   pub allowed : allows (bytes_of v.view) y.bytes.bytes
 
--- the line may be handed over at the entry of this node: first at a holder's own, when its turn is over
+-- the line may be handed over at the entry of this node: first at a holder's own entry, when its turn is over
 abbrev pub MayHandOff : (allows : List ℕ → List ℕ → Type 0) → LinkGhost → Payload → ℕ → Type 0
 MayHandOff allows v y at = ((v.own.seat.point ≡ Holding) × (at ≡ v.view.node) × TurnIsOver allows v y) ⊎ ((v.own.seat.point ≡ Leaving at) × (y ≡ v.own.line))
 
@@ -153,7 +156,7 @@ point_by port_state.Left = Left
 point_by port_state.Shut = Shut
 point_by _ = Idle
 
--- the point of a node while there are passed nodes to be freed
+-- the point of a node while it still has passed nodes to free
 abbrev pub after_release : PortState → List ℕ → Point
 after_release state [] = point_by state
 after_release state (p ∷ ps) = Freeing
@@ -166,7 +169,8 @@ pub record IsHandedOver (v w : LinkGhost) (y : Payload) : Type 0 where
   pub unmarked : (r : Request) → turn_of w.view.order w.view.ends ≡ Some r → Lacks w.view.marked r
   pub clear : v.own.passed ≡ [] → Has w.view.clear (own w.view)
 
--- the state of a node that has left the line for a late linker: in its own entry, or in that of a node that it has passed
+-- the state of a node that has left the line for a late linker, in its own entry or in that of a node that it has
+-- passed
 abbrev pub left_in : List ℕ → Bool → PortState
 left_in [] closed = port_state.Left
 left_in (p ∷ ps) closed = state_after closed
@@ -191,8 +195,8 @@ pub record Passes (v w : LinkGhost) (next : ℕ) : Type 0 where
   pub others : AreOfOthers w.view.node w.view.order w.own.passed
   pub few : length w.own.passed + 1 ≤ w.view.config.nodes
 
--- the node of the first passed request, at the place p, is freed, and that request is clear unless the line was left there; ps are the
--- passed ones that are left
+-- The node of the first passed request, at the place p, is freed, and that request is clear unless the line was left
+-- there. ps are the passed requests that are left.
 pub record Frees (v : LinkGhost) (p : ℕ) (ps : List ℕ) (r : Request) (w : LinkGhost) : Type 0 where
   pub point : w.own.seat.point ≡ after_release w.view.state ps
   pub passed : w.own.passed ≡ ps

@@ -17,10 +17,21 @@
 //! - A node's last request is *clear* once no other node will use the node's entry because of it. The node's next
 //!   request is then not answered `Busy`.
 //! - A view's `count` is the number of its node's requests.
-//! - A node's *point* says which step it takes next: `Idle` or `Shut` reset; `Left` load_left; `Rolled` load_rolled;
-//!   `Ready` prepend; `Linking` link; `Queued` load or roll; `Holding` home, from its own entry, also if it found its
-//!   turn on a closed line; `Leaving` home, from the node that it passed last; `Marking` done; `Granting` grant;
-//!   `Freeing` free.
+//! - A node's *point* says which step it takes next:
+//!
+//! ```text
+//!     Idle, Shut     reset
+//!     Left           load_left
+//!     Rolled         load_rolled
+//!     Ready          prepend
+//!     Linking        link
+//!     Queued         load or roll
+//!     Holding        home, from its own entry, also if it found its turn on a closed line
+//!     Leaving        home, from the node that it passed last
+//!     Marking        done
+//!     Granting       grant
+//!     Freeing        free
+//! ```
 //!
 //! Each flag, and the link, is added to an entry at most once between two resets, so no addition carries into another
 //! field.

@@ -120,7 +120,7 @@ busy_of v served idle = ⊎_elim (λ e. cc) (λ e. cc) served
 pub door_on : {fl : ℕ} (g : Ghost) (v : View) (p q : Phase) → p ≢ AtTurn → Door fl g v p → Door fl g v q
 door_on g v p q ne d some_ = let k = d some_ in (k.0, k.1, ⊎_elim (λ h. absurd (ne h.1)) (λ h. inr h) k.2)
 
--- the same after its turn by a ticket: what it was told stays true while it holds the lock word
+-- the same after its turn by a ticket: what the seat was told stays true while it holds the lock word
 abbrev pub told_in : View → ℕ
 told_in v = either (eqb v.inside 1) v.door 0
 

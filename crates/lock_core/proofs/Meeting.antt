@@ -226,7 +226,7 @@ learn_ended_joins {fl} id other v w a b s r at apart at_other =
     let one = viewed s r id v at (learns_ended v w) sv (r.heard id v at) (λ le. (a (omega arith)).1) refl (λ le. let f = fits s r id v at le in let h = fits s r other w there le in record { knows = let x = f.knows in let y = h.knows in omega arith; lowest = f.lowest; mine = f.mine; place = place_learned fl r.g v (max v.ended w.ended) v.most_open v.phase (awake v (a (omega arith)).0) f.place; told_nobody = f.told_nobody; lock_word = f.lock_word; door = f.door; tail_seen = f.tail_seen; at_draw = f.at_draw }) in
     viewed record { words = s.words; homes = s.homes; views = set s.views id (learns_ended v w) } one other w at_other (initial_view 0) (omega arith) (omega arith) (λ le. (b (let k = one.seen other w at_other in omega arith)).1) refl (λ le. record { knows = omega arith; lowest = omega arith; mine = λ ne. absurd (ne refl); place = tt; told_nobody = λ e. absurd (omega arith); lock_word = record { turn_of = λ e. absurd (omega arith); occupant = λ e. absurd (omega arith); rests = record { takes_seen = omega arith; held = λ e. absurd (omega arith); lulls = λ e. absurd (omega arith); sleeps_at_lock_word = λ e. absurd (omega arith) }; dated = omega arith; barrier = λ e. absurd (omega arith) }; door = λ ne. absurd (ne refl); tail_seen = record { probed = omega arith; next_is_at_turn = λ e. absurd (omega arith) }; at_draw = idle_at_draw one.drawn one.g (initial_view 0) (omega arith) refl })
 
--- these requests are before its own
+-- the requests that the caller knows to have ended are before its own
 pub order_tells : {fl : ℕ} (id slots : ℕ) (me : Me ℕ View) → (Timely me.0 → HasTurnAwake me.0) → Allows (Tickets fl) slots id me 0 (λ n. n) (tells_order (step slots 0 0 0 none) me)
 order_tells {fl} id slots me has s r sized at low =
     let v : View = me.0 in

@@ -60,9 +60,12 @@ rounds turn ticket = (turn + 4 - ticket % 4) / 4
 abbrev pub to_go : ℕ → ℕ → ℕ
 to_go cell ticket = (ticket / 4 + 1 + 1073741824 - rounds_of cell) % 1073741824
 
--- The limits of a lock, as `src/layout.rt` has them: the most sleepers that a cell counts; the most rounds before the
--- turn of a request that can still be withdrawn; the most requests that one release passes; the greatest barging limit;
--- the widest window of `draw_within`; and the most tickets that `draw_within` draws.
+-- The limits of a lock, as `src/layout.rt` has them, in the order of the definitions:
+-- - the most sleepers that a cell counts;
+-- - the most rounds before the turn of a request that can still be withdrawn;
+-- - the most requests that one release passes;
+-- - the greatest barging limit;
+-- - the widest window of `draw_within`, and the most tickets that it draws.
 abbrev pub max_sleepers : ℕ
 max_sleepers = 65535
 

@@ -24,7 +24,7 @@ subtracted_word st n = (n + (18446744073709551616 - st.first)) % 184467440737095
 abbrev pub exchanged_word : Step ℕ → ℕ → ℕ
 exchanged_word st n = either (n == st.first) st.second n
 
--- beside what a step tells, it is counted, and what it found is noted
+-- besides what a step tells, the step is counted, and what it found is noted
 abbrev pub noting : (Step ℕ → ℕ → ℕ) → (Step ℕ → Me ℕ View → ℕ → Me ℕ View → Type 0) → Step ℕ → Me ℕ View → ℕ → Me ℕ View → Type 0
 noting left tells st m n m' = (m'.0.looks ≡ looked st n (left st n) m.0.looks) × tells st m n m'
 

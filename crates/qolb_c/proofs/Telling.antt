@@ -1,4 +1,4 @@
--- What a node's call did is what its export tells C.
+-- An export tells C what its node's call did.
 use Rattle.std.proofs.Common.{◌≡◌, ℕ, refl, sym, ap, ◌∙◌, subst}
 use Rattle.std.specs.Prelude.{Option, Some, None}
 use Rattle.qolb_nodes.specs.declared.answer.Answer.{Answer}

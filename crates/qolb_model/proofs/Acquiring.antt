@@ -15,7 +15,7 @@ use Rattle.qolb_model.specs.declared.acquire.Acquired.TheVariants as outcome
 use Rattle.qolb_model.specs.Acquiring.{AcquiresBounded}
 use Rattle.qolb_model.proofs.Going.{continues_on, asks_goes, joined_goes}
 
--- the outcome of a request that was granted at once, or told, or answered busy
+-- the outcome of a request that was granted at once, told that the line is closed, or answered busy
 asked_once :
     (allows : List ℕ → List ℕ → Type 0) (old new : View) (turn : Write) (answer : Acquired) (now : Enq)
     → Enqueues allows old new turn now
@@ -32,7 +32,7 @@ asked_once allows old new turn answer now e busy some granted late told = record
   unserved = unserved old new e.continues.history answer (λ is. e.busy (busy is)) (λ is. e.asks (some is)) (λ is. absurd (late is)) (λ is. e.told (told is));
 }
 
--- the outcome of a request that waited and then was withdrawn, or granted, or told
+-- the outcome of a request that waited and then was withdrawn, granted, or told that the line is closed
 acquired :
     (allows : List ℕ → List ℕ → Type 0) (old mid new : View) (first turn : Write) (answer : Acquired) (ended : Out)
     → Enqueues allows old mid first enq.Queued → Withdraws allows mid new turn ended
@@ -108,7 +108,7 @@ granted_in_time is = cc is
 pub told_in_time : out.Closed ≢ out.Withdrawn
 told_in_time is = cc is
 
--- how often a port has looked: one time more, as is still allowed; or as often as is allowed
+-- how often a port has looked: once more, while that is allowed, or as often as is allowed
 module _ (first now looked : ℕ) (before : now ≡ first + looked) where
   pub one_look_more : (last : ℕ) → last ≡ now + 1 → last ≡ first + (looked + 1)
   one_look_more last more = omega arith

@@ -33,12 +33,12 @@ abbrev pub AreLast : List Request → List Request → Type 0
 AreLast order [] = Unit {0}
 AreLast order (x ∷ xs) = (x ≡ last_of x.node order) × AreLast order xs
 
--- they are where each one at a place is
+-- requests are their nodes' last ones if each request at a place is
 are_last : (order xs : List Request) → ((p : ℕ) (r : Request) → slice_get xs p ≡ Some r → r ≡ last_of r.node order) → AreLast order xs
 are_last order [] h = tt
 are_last order (x ∷ xs) h = (h 0 x refl, are_last order xs (λ p r e. h (suc p) r e))
 
--- then its node tells it
+-- a node's last request is found by its node alone
 is_at-last : (order : List Request) (node : ℕ) (r : Request) → r ≡ last_of r.node order → (r.node == node) ≡ is_same (last_of node order) r
 is_at-last order node r last = elim (cases_eq r.node node) [
   | inl e ↦ eq-eqb r.node node e ∙ sym (subst (λ x. is_same (last_of node order) x ≡ true) (sym (last ∙ ap (λ n. last_of n order) e)) (is_same-self (last_of node order)))
@@ -71,7 +71,7 @@ find-open marked order (x ∷ xs) node last =
 abbrev pub state_from : Bool → Bool → Bool → Bool → PortState
 state_from stands marked holds closed = if stands then (if marked then port.Rolled else (if holds then port.Holding else port.Queued)) else (if closed then port.Shut else port.Idle)
 
--- a queued one is open, not withdrawn and not granted
+-- a queued request is open, not withdrawn and not granted
 queued_parts : (b m h c : Bool) → state_from b m h c ≡ port.Queued → (b ≡ true) × (m ≡ false) × (h ≡ false)
 queued_parts true true h c e = absurd (let no : port.Rolled ≡ port.Queued = e in cc no)
 queued_parts true false true c e = absurd (let no : port.Holding ≡ port.Queued = e in cc no)
@@ -79,7 +79,7 @@ queued_parts true false false c e = (refl, refl, refl)
 queued_parts false m h true e = absurd (let no : port.Shut ≡ port.Queued = e in cc no)
 queued_parts false m h false e = absurd (let no : port.Idle ≡ port.Queued = e in cc no)
 
--- a holding one is granted besides
+-- a holder's request is granted besides
 holding_parts : (b m h c : Bool) → state_from b m h c ≡ port.Holding → (b ≡ true) × (m ≡ false) × (h ≡ true)
 holding_parts true true h c e = absurd (let no : port.Rolled ≡ port.Holding = e in cc no)
 holding_parts true false true c e = (refl, refl, refl)
@@ -87,14 +87,14 @@ holding_parts true false false c e = absurd (let no : port.Queued ≡ port.Holdi
 holding_parts false m h true e = absurd (let no : port.Shut ≡ port.Holding = e in cc no)
 holding_parts false m h false e = absurd (let no : port.Idle ≡ port.Holding = e in cc no)
 
--- a node may ask though its request is open: then that was withdrawn
+-- if a node may make a request although its last one is open, that one was withdrawn
 pub asking_parts : (b m h c : Bool) → may_ask (state_from b m h c) ≡ true → b ≡ true → m ≡ true
 asking_parts true true h c e stands = refl
 asking_parts true false true c e stands = absurd (let no : false ≡ true = e in cc no)
 asking_parts true false false c e stands = absurd (let no : false ≡ true = e in cc no)
 asking_parts false m h c e stands = absurd (let no : false ≡ true = stands in cc no)
 
--- two tests that both pass, and two of which one fails
+-- two tests that both pass, and two tests of which one fails
 both_true : (a b : Bool) → (a && b) ≡ true → (a ≡ true) × (b ≡ true)
 both_true true b h = (refl, h)
 both_true false b h = absurd (let no : false ≡ true = h in cc no)
@@ -137,7 +137,7 @@ module _ (line : PlainView) (s : OwnerState) (a : Agrees line s) where
       by None e = refl
       by (Some r) e = is_at-last s.queue.order node r (a.reached.last_open (length s.queue.ends) r (omega arith) e)
 
-  -- the state of a node by its entry is that by its last request
+  -- the state of a node by its entry is the state by its last request
   pub node_state-state_of : (node : ℕ) → node_state line node ≡ state_of s node
   node_state-state_of node =
       ap (waiter_state line node) (ap (find (is_at node)) a.waiting ∙ find-open s.queue.marked s.queue.order (open_of s.queue.order s.queue.ends) node last_each)
@@ -150,7 +150,8 @@ module _ (line : PlainView) (s : OwnerState) (a : Agrees line s) where
           ∙ ap (λ f. if has s.queue.marked (last_of node s.queue.order) then port.Rolled else (if s.granted && f then port.Holding else port.Queued)) (oldest-is_first node)
       by false = ap (λ c. if c then port.Shut else port.Idle) a.closed
 
-  -- what is known of a node that is queued, of one that holds, and of one that may ask though its request is open
+  -- what is known of a node that is queued, of a node that holds, and of a node that may make a request although its
+  -- last one is open
   pub when_queued : (node : ℕ) → node_state line node ≡ port.Queued → (is_open s.queue node ≡ true) × (has s.queue.marked (last_of node s.queue.order) ≡ false) × ((s.granted && is_first s.queue node) ≡ false)
   when_queued node e = queued_parts (is_open s.queue node) (has s.queue.marked (last_of node s.queue.order)) (s.granted && is_first s.queue node) (is_closed s.queue.ends) (sym (node_state-state_of node) ∙ e)
 
@@ -163,6 +164,6 @@ module _ (line : PlainView) (s : OwnerState) (a : Agrees line s) where
   pub when_rolled : (node : ℕ) → may_ask (node_state line node) ≡ true → is_open s.queue node ≡ true → has s.queue.marked (last_of node s.queue.order) ≡ true
   when_rolled node e stands = asking_parts (is_open s.queue node) (has s.queue.marked (last_of node s.queue.order)) (s.granted && is_first s.queue node) (is_closed s.queue.ends) (sym (ap may_ask (node_state-state_of node)) ∙ e) stands
 
-  -- all that has ended is clear
+  -- all requests that have ended are clear
   pub is_tidy : IsTidy s.config.lease s.queue
   is_tidy = record { legal = a.reached.legal; ended = length s.queue.ends; within = omega arith; cleared = a.reached.cleared }

@@ -25,7 +25,8 @@ use Rattle.qolb_model.proofs.Agreeing.{among_first, among_second}
 pub prefix_get_back : {X : Type 0} (xs ys : List X) (p : ℕ) (y : X) → IsPrefix xs ys → p < length xs → slice_get ys p ≡ Some y → slice_get xs p ≡ Some y
 prefix_get_back xs ys p y begins lt at = sym (slice_get-append_left xs begins.0 p lt) ∙ (ap (λ zs. slice_get zs p) begins.1 ∙ at)
 
--- a prefix of a list has at most as many requests of each node, and fewer if one is behind the prefix
+-- a prefix of a list has at most as many requests of each node as the list, and fewer if one of them is behind the
+-- prefix
 pub count_of-prefix : (n : ℕ) (xs ys : List Request) → IsPrefix xs ys → count_of n xs ≤ count_of n ys
 count_of-prefix n xs ys begins = let e : count_of n (xs ++ begins.0) ≡ count_of n xs + count_of n begins.0 = count_of-append n xs begins.0 in
     subst (λ zs. count_of n xs ≤ count_of n zs) begins.1 (omega arith)
@@ -70,9 +71,9 @@ take_get (suc n) (y ∷ xs) (suc p) x at = let h = take_get n xs p x at in (omeg
 pub place_ended : (order : List Request) (ends : List End) (r : Request) → Has (ended_of order ends) r → (p : ℕ) × (p < length ends) × (slice_get order p ≡ Some r)
 place_ended order ends r h = let (p, at) = place_of_request (ended_of order ends) r h in let both = take_get (length ends) order p r at in (p, both.0, both.1)
 
--- what is known of a view by which a port of the node m, that knew the state's whole history, has been met: the view has no more requests
--- of that node; an end of an open one is that of a marked one that was passed; if one is at its turn, nothing has ended, and only what had
--- ended is clear; and it has no more marks
+-- What is known of a view after its port has met a port of the node m that knew the state's whole history. The view has
+-- no more requests of that node. If an open request of the node has ended, it was marked and was passed. If such a
+-- request is at its turn, nothing has ended, and only requests that had ended are clear. The view has no more marks.
 pub record Bounds (s : OwnerState) (a : View) (m : ℕ) : Type 0 where
   pub counts : count_of m a.order ≤ count_of m s.queue.order
   pub passed : (p : ℕ) (r : Request) (e : End) → length s.queue.ends ≤ p → slice_get a.order p ≡ Some r → slice_get a.ends p ≡ Some e → r.node ≡ m → (is_gone e ≡ true) × Has s.queue.marked r
@@ -80,7 +81,7 @@ pub record Bounds (s : OwnerState) (a : View) (m : ℕ) : Type 0 where
       → (length a.ends ≤ length s.queue.ends) × ((x : Request) → Has a.clear x → Has (ended_of s.queue.order s.queue.ends) x)
   pub marks : (r : Request) → Has (open_of s.queue.order s.queue.ends) r → r.node ≡ m → Has a.marked r → Has s.queue.marked r
 
--- the view b is a, but for what others told it of clear and withdrawn requests
+-- the view b is the view a, except for what others told it of clear and withdrawn requests
 pub record IsAfter (a b : View) : Type 0 where
   pub order : b.order ≡ a.order
   pub ends : b.ends ≡ a.ends
@@ -110,7 +111,7 @@ module _ (s : OwnerState) (reached : IsReached s) (a b : View) (w : ViewAndTurn)
     | inr le ↦ absurd (let more = subst (λ n. count_of n s.queue.order + 1 ≤ count_of n a.order) mine (count_of-behind s.queue.order a.order p r begins le at) in let k = few in omega arith)
   ]
 
-  -- if one of its open requests has ended, it was marked
+  -- if one of the node's open requests has ended, it was marked
   gone : (p : ℕ) (r : Request) (e : End) → length s.queue.ends ≤ p → slice_get s.queue.order p ≡ Some r → slice_get h.order p ≡ Some r → slice_get h.ends p ≡ Some e → r.node ≡ w.view.node
       → (is_gone e ≡ true) × Has s.queue.marked r
   gone p r e le at_s at_h end mine =

@@ -18,14 +18,14 @@ use Rattle.qolb_model.proofs.Runs.{has_cleared_none}
 
 -- a node makes a request while its entry is still in the queue
 module _ (line : PlainView) (s : OwnerState) (node : ℕ) (a : Agrees line s) (may : may_ask (node_state line node) ≡ true) (waits : list_any (is_at node) line.waiting ≡ true) where
-  -- its last request is open and was withdrawn
+  -- the node's last request is open and was withdrawn
   stands : is_open s.queue node ≡ true
   stands = sym (waits-is_open line s a node) ∙ waits
 
   rolled : is_rolled s.queue node ≡ true
   rolled = ap (λ b. b && has s.queue.marked (last_of node s.queue.order)) stands ∙ when_rolled line s a node may stands
 
-  -- therefore it is busy, and nothing changes
+  -- the node is therefore busy, and nothing changes
   pub busy-answer : enq.Busy ≡ enq_answer s node
   busy-answer = ap (λ b. if b then enq.Busy else as_enq (poll_answer (after_ask s node) node)) (sym rolled)
 
@@ -38,9 +38,9 @@ module _ (line : PlainView) (s : OwnerState) (node : ℕ) (a : Agrees line s) (m
   pub busy-agrees : Agrees line (after_enq s node)
   busy-agrees = subst (λ b. Agrees line (if b then s else after_poll (poll_answer (after_ask s node) node) (after_ask s node))) (sym rolled) a
 
--- a node asks that has no entry
+-- a node that has no entry makes a request
 module _ (line : PlainView) (s : OwnerState) (node : ℕ) (a : Agrees line s) (low : 1 ≤ node) (high : node ≤ line.nodes) (quiet : list_any (is_at node) line.waiting ≡ false) where
-  -- its last request has ended
+  -- the node's last request has ended
   no_open : is_open s.queue node ≡ false
   no_open = sym (waits-is_open line s a node) ∙ quiet
 
@@ -53,7 +53,7 @@ module _ (line : PlainView) (s : OwnerState) (node : ℕ) (a : Agrees line s) (l
   abbrev pub asked_state : OwnerState
   asked_state = after_ask s node
 
-  -- the line agrees when it has asked, and when it has looked
+  -- the line still agrees after the node made its request, and after it looked
   agrees_asked : Agrees (with_waiter line node) (after_ask s node)
   agrees_asked = agrees_ask line s node a low of_line no_open
 
@@ -61,14 +61,14 @@ module _ (line : PlainView) (s : OwnerState) (node : ℕ) (a : Agrees line s) (l
       × Agrees (looked (poll_answer asked_state node) (with_waiter line node)) (after_poll (poll_answer asked_state node) asked_state)
   looks_asked = looks (with_waiter line node) asked_state node (poll_answer asked_state node) agrees_asked refl (resting_ask line s node a low of_line no_open)
 
-  -- the moves that it makes
+  -- the moves that the node makes
   pub asks-moves : Runs s.config s.queue (enq_moves s node) (after_enq s node).queue
   asks-moves =
       subst
       (λ b. Runs s.config s.queue (if b then [] else ask node ∷ poll_moves (poll_answer asked_state node) asked_state) (if b then s else after_poll (poll_answer asked_state node) asked_state).queue)
       (sym not_rolled) (runs_ask line s node a low of_line no_open _ _ looks_asked.0)
 
-  -- it is put behind all others, and polls
+  -- the node is put behind all others, and polls
   module _ (joined : PlainView) (as_joined : joined ≡ with_waiter line node) (p : Poll) (is : p ≡ look_answer joined node) where
     answered_so : p ≡ poll_answer asked_state node
     answered_so = is ∙ (ap (λ l. look_answer l node) as_joined ∙ look_answer-poll_answer (with_waiter line node) asked_state node agrees_asked)
@@ -89,7 +89,7 @@ is_joined line view ws node e items = ap (λ xs. let v : PlainView = record view
 
 -- a node that waits looks
 module _ (line : PlainView) (s : OwnerState) (node : ℕ) (a : Agrees line s) (waits : node_state line node ≡ port.Queued) (p : Poll) (is : p ≡ look_answer line node) where
-  -- its answer, its moves and the state that it leaves
+  -- the node's answer, its moves and the state that it leaves
   pub polls-answer : p ≡ poll_answer s node
   polls-answer = is ∙ look_answer-poll_answer line s node a
 
@@ -102,16 +102,16 @@ module _ (line : PlainView) (s : OwnerState) (node : ℕ) (a : Agrees line s) (w
   pub polls-agrees : Agrees (looked p line) (after_poll p s)
   polls-agrees = looks_so.1
 
-  -- the answer if it withdraws
+  -- the answer if the node withdraws
   pub gives_up-answer : as_out p ≡ out_answer s node
   gives_up-answer = ap as_out polls-answer
 
--- it is at its turn
+-- the node's request is at its turn
 module _ (line : PlainView) (s : OwnerState) (node : ℕ) (a : Agrees line s) (waits : node_state line node ≡ port.Queued) (p : Poll) (is : p ≡ look_answer line node) (first : is_oldest line node ≡ true) where
   at_turn : is_first s.queue node ≡ true
   at_turn = sym (oldest-is_first line s a node) ∙ first
 
-  -- therefore giving up is a look
+  -- giving up is therefore a look
   pub gives_up-moves : Runs s.config s.queue (out_moves s node) (after_out s node).queue
   gives_up-moves =
       subst (λ b. Runs s.config s.queue (if b then poll_moves (poll_answer s node) s else mark_last s node) (if b then after_poll (poll_answer s node) s else after_moves (mark_last s node) s).queue) (sym at_turn)
@@ -122,12 +122,12 @@ module _ (line : PlainView) (s : OwnerState) (node : ℕ) (a : Agrees line s) (w
       subst (λ b. Agrees (looked p line) (if b then after_poll (poll_answer s node) s else after_moves (mark_last s node) s)) (sym at_turn)
       (subst (λ x. Agrees (looked p line) (after_poll x s)) (polls-answer line s node a waits p is) (polls-agrees line s node a waits p is))
 
--- it has not
+-- the node's request is not at its turn
 module _ (line : PlainView) (s : OwnerState) (node : ℕ) (a : Agrees line s) (waits : node_state line node ≡ port.Queued) (later : is_oldest line node ≡ false) where
   behind_one : is_first s.queue node ≡ false
   behind_one = sym (oldest-is_first line s a node) ∙ later
 
-  -- therefore giving up is a mark
+  -- giving up is therefore a mark
   pub marks-moves : Runs s.config s.queue (out_moves s node) (after_out s node).queue
   marks-moves =
       let h = when_queued line s a node waits in
@@ -140,7 +140,7 @@ module _ (line : PlainView) (s : OwnerState) (node : ℕ) (a : Agrees line s) (w
       subst (λ b. Agrees (record line { waiting = map (withdrawn_at node) line.waiting }) (if b then after_poll (poll_answer s node) s else after_moves (mark_last s node) s)) (sym behind_one)
       (agrees_mark line s node a h.0 h.1 behind_one)
 
--- what a look's answer says of the line
+-- what the answer of a look says of the line
 pub look-granted : (line : PlainView) (node : ℕ) → poll.Granted ≡ look_answer line node → is_oldest line node ≡ true
 look-granted line node e = by (is_oldest line node) line.closed e
   where
@@ -178,7 +178,7 @@ pub not-not : (b : Bool) → not (not b) ≡ b
 not-not true = refl
 not-not false = refl
 
--- a node that may ask is clear if it has no entry
+-- a node that may make a request is clear if it has no entry
 pub clear-answer : (line : PlainView) (s : OwnerState) (node : ℕ) → Agrees line s → may_ask (node_state line node) ≡ true → 1 ≤ node → node ≤ line.nodes → (b : Bool) → list_any (is_at node) line.waiting ≡ b → not b ≡ clear_answer s node
 clear-answer line s node a may low high true waits = ap not (sym (rolled line s node a may waits))
 clear-answer line s node a may low high false quiet = ap not (sym (not_rolled line s node a low high quiet))

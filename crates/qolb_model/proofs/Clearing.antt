@@ -7,12 +7,12 @@ use Rattle.qolb_model.specs.Histories.{Clears, none, more}
 use Rattle.qolb_model.proofs.Requests.{has_push}
 use Rattle.qolb_model.proofs.Prefixes.{prefix_self, prefix_append, prefix_trans, prefix_get}
 
--- a clear list begins with what it was
+-- a clear list has its earlier version as a prefix
 pub clears_begin : {order : List Request} {ended : ℕ} {old clear : List Request} → Clears order ended old clear → IsPrefix old clear
 clears_begin {order} {ended} {old} {clear} none = prefix_self old
 clears_begin (more {old} {clear} p r before lt at lacks) = prefix_trans old clear (clear ++ r ∷ []) (clears_begin before) (prefix_append clear (r ∷ []))
 
--- it stays one when the order grows and more requests end
+-- the list stays a clear list when the order grows and more requests end
 pub clears_later : {order later : List Request} {ended now : ℕ} {old clear : List Request} → IsPrefix order later → ended ≤ now → Clears order ended old clear → Clears later now old clear
 clears_later p le none = none
 clears_later {order} {later} p le (more k r before lt at lacks) =

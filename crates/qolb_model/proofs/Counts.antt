@@ -6,7 +6,7 @@ use Rattle.qolb_model.specs.declared.request.Request.{Request}
 use Rattle.qolb_model.specs.Requests.{count_of}
 use Rattle.qolb_model.proofs.Requests.{count_of-append, count_of-push_same, count_of-push_other}
 
--- an order with one request more before it
+-- an order with one more request in front
 pub count_of-cons_other : (n : ℕ) (r : Request) (xs : List Request) → r.node ≢ n → count_of n (r ∷ xs) ≡ count_of n xs
 count_of-cons_other n r xs other = let a = count_of-append n (r ∷ []) xs in let b : count_of n (r ∷ []) ≡ count_of n [] = count_of-push_other n [] r other in
     let c : count_of n [] ≡ 0 = refl in omega arith
@@ -15,7 +15,7 @@ pub count_of-cons_same : (n : ℕ) (r : Request) (xs : List Request) → r.node 
 count_of-cons_same n r xs same = let a = count_of-append n (r ∷ []) xs in let b : count_of n (r ∷ []) ≡ count_of n [] + 1 = count_of-push_same n [] r same in
     let c : count_of n [] ≡ 0 = refl in omega arith
 
--- the sum of what each number up to the n-th has
+-- the sum of the values for each number up to the n-th
 pub sum_to : (ℕ → ℕ) → ℕ → ℕ
 sum_to f zero = 0
 sum_to f (suc n) = sum_to f n + f (suc n)
@@ -57,7 +57,7 @@ unfolding sum_to
 sum_to-le f zero h = omega arith
 sum_to-le f (suc n) h = let a = sum_to-le f n (λ k l u. h k l (omega arith)) in let b = h (suc n) (omega arith) (omega arith) in omega arith
 
--- nodes that stand at most once each are not more than there are nodes
+-- if each node occurs at most once in a list, the list is no longer than the number of nodes
 pub few_if_once : (n : ℕ) (xs : List Request) → ((p : ℕ) (r : Request) → slice_get xs p ≡ Some r → (0 < r.node) × (r.node ≤ n)) → ((k : ℕ) → 0 < k → k ≤ n → count_of k xs ≤ 1) → length xs ≤ n
 few_if_once n xs h once = let a = sum_counts n xs h in let b = sum_to-le (λ k. count_of k xs) n once in omega arith
 

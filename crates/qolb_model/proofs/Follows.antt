@@ -30,12 +30,13 @@ use Rattle.qolb_model.proofs.Prefixes.{prefix_length, prefix_whole}
 use Rattle.qolb_model.proofs.Agreed.{state_from, asking_parts}
 use Rattle.qolb_model.proofs.Bounds.{Bounds, count_at, open_at, place_open}
 
--- one more mark is none on a request of another node
+-- one more mark does not mark a request of another node
 pub has_push_other : (xs : List Request) (x r : Request) → r.node ≢ x.node → has (xs ++ x ∷ []) r ≡ has xs r
 has_push_other xs x r ne =
     list_any-append (is_same r) xs (x ∷ []) ∙ (ap (λ b. has xs r || ((b && (r.number == x.number)) || false)) (ne_eqb r.node x.node ne) ∙ or-false (has xs r))
 
--- the port of the node n made a call that put no request which the state does not have; it forgot nothing, and then met all others
+-- The port of the node n made a call that added no request which the state does not have. It forgot nothing, and then
+-- met all other ports.
 pub record Follows (s : OwnerState) (n : ℕ) (a : View) : Type 0 where
   pub node : a.node ≡ n
   pub config : a.config ≡ s.config
@@ -47,7 +48,7 @@ pub record Follows (s : OwnerState) (n : ℕ) (a : View) : Type 0 where
   pub count : a.count ≡ count_of n s.queue.order
   pub others : (m : ℕ) → 1 ≤ m → m ≤ s.config.nodes → m ≢ n → Bounds s a m
 
--- a node without an open request is as an idle one
+-- a node without an open request counts as an idle one
 pub quiet_seen : (closed : Bool) → port.Idle ≡ seen (if closed then port.Shut else port.Idle)
 quiet_seen true = refl
 quiet_seen false = refl
@@ -64,7 +65,7 @@ seen_holding port.Shut e = cc e
 same_write : (a b : Write) → a.mask.0 ≡ b.mask.0 → a.bytes.bytes ≡ b.bytes.bytes → a ≡ b
 same_write a b m e = λ i. record { mask = record { 0 = m i }; bytes = record { bytes = e i } }
 
--- an open request of a node that may ask was withdrawn, and waits behind another node's
+-- an open request of a node that may make another one was withdrawn, and waits behind another node's request
 pub rolled_behind : (s : OwnerState) (n : ℕ) → IsReached s → is_open s.queue n ≡ true → may_ask (state_of s n) ≡ true → (has s.queue.marked (last_of n s.queue.order) ≡ true)
     × (r : Request) × (turn_of s.queue.order s.queue.ends ≡ Some r) × (r.node ≢ n)
 rolled_behind s n reached stands may =
@@ -91,7 +92,7 @@ module _ (s : OwnerState) (n : ℕ) (a : View) (reached : IsReached s) (f : Foll
   pub last_mine : (p : ℕ) (r : Request) → length s.queue.ends ≤ p → slice_get s.queue.order p ≡ Some r → r.node ≡ n → r ≡ last_of n s.queue.order
   last_mine p r le at e = reached.last_open p r le at ∙ ap (λ m. last_of m s.queue.order) e
 
-  -- of another node's request at its turn nothing has become
+  -- nothing has become of another node's request at its turn
   pub still : (r : Request) → turn_of s.queue.order s.queue.ends ≡ Some r → r.node ≢ n → a.ends ≡ s.queue.ends
   still r turn ne =
       let k = reached.nodes_known (length s.queue.ends) r turn in
@@ -107,7 +108,7 @@ module _ (s : OwnerState) (n : ℕ) (a : View) (reached : IsReached s) (f : Foll
       let k = reached.nodes_known p r at in
       same_test (has a.marked r) (has s.queue.marked r) ((f.others r.node k.0 k.1 ne).marks r stands refl) (f.marked r stands)
 
-  -- therefore of all, if that of the port's own is right
+  -- all marks are right if the mark of the port's own request is
   all_marks : (has a.marked (last_of n s.queue.order) ≡ has s.queue.marked (last_of n s.queue.order)) → (r : Request) → Has (open_of s.queue.order s.queue.ends) r → has a.marked r ≡ has s.queue.marked r
   all_marks own_mark r stands = elim (cases_eq r.node n) [
     | inl e ↦ (let (p, le, at) = place_open s.queue.order s.queue.ends r stands in subst (λ x. has a.marked x ≡ has s.queue.marked x) (sym (last_mine p r le at e)) own_mark)
@@ -121,7 +122,7 @@ module _ (s : OwnerState) (n : ℕ) (a : View) (reached : IsReached s) (f : Foll
   pub first_is : (r : Request) → turn_of s.queue.order s.queue.ends ≡ Some r → is_first s.queue n ≡ is_same (last_of n s.queue.order) r
   first_is r turn = ap (λ o. option_map_or (is_same (last_of n s.queue.order)) o false) turn
 
-  -- behind another: nothing has ended
+  -- the request is behind another one, so nothing has ended
   behind : Waits a → (a.ends ≡ s.queue.ends) × (is_first s.queue n ≡ false) × Has (open_of s.queue.order s.queue.ends) (last_of n s.queue.order)
   behind waits =
       let p = waits.0 in

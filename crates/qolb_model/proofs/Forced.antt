@@ -48,7 +48,7 @@ use Rattle.qolb_model.proofs.Leaving.{Leaves, leaves_so, leaves_through, leaves_
 use Rattle.qolb_model.proofs.Reached.{queued_is, holding_is, reached_write, reached_poll, reached_release, reached_mark, reached_asked}
 use Rattle.qolb_model.proofs.Whole.{Called, called, tells, spreads}
 
--- what is known of the others bounds the view after an ask too
+-- what is known of the other ports also bounds the view after a request
 bounds_ask : (s : OwnerState) (n m : ℕ) (a : View) → m ≢ n → Bounds s a m → Bounds (after_ask s n) a m
 bounds_ask s n m a ne b = record {
   counts = let k = b.counts in let more = count_of-push_le m s.queue.order (next_of n s.queue.order) in omega arith;
@@ -130,7 +130,7 @@ module _ (allows : List ℕ → List ℕ → Type 0) (s : OwnerState) (ports : L
       let k = count_of-prefix (place + 1) a.view.order alone.order known.order_begins in
       let e : count_of (place + 1) alone.order ≡ a.view.count = ap (λ m. count_of m alone.order) (sym a_node) ∙ known.own_count in omega arith
 
-  -- without a request of its own it knows the same order
+  -- if the port made no request, it knows the same order
   same_order : a.view.count ≡ u.view.count → a.view.order ≡ s.queue.order
   same_order same = sym (prefix_whole s.queue.order a.view.order order_begins (elim (cases_lt (length s.queue.order) (length a.view.order)) [
     | inr le ↦ le
@@ -157,7 +157,7 @@ module _ (allows : List ℕ → List ℕ → Type 0) (s : OwnerState) (ports : L
     others = told;
   }
 
-  -- with one, it knows that behind all others
+  -- if the port made a request, it knows that request behind all others
   module _ (asks : Asks u.view a.view) where
     count_then : a.view.count ≡ count_of (place + 1) s.queue.order + 1
     count_then = let c = count_was in let k = asks.count in omega arith
@@ -218,7 +218,7 @@ module _ (allows : List ℕ → List ℕ → Type 0) (s : OwnerState) (ports : L
       others = λ m one most ne. bounds_ask s (place + 1) m a.view ne (told m one most ne);
     }
 
-    -- its last request had ended
+    -- the port's last request had ended
     pub quiet : may_ask (state_of s (place + 1)) ≡ true → is_open s.queue (place + 1) ≡ false
     quiet may = by (is_open s.queue (place + 1)) refl
       where
@@ -264,7 +264,7 @@ module _ (allows : List ℕ → List ℕ → Type 0) (s : OwnerState) (ports : L
       let h = queued_is s reached (place + 1) waits in
       look s reached (follows same) h.0 h.2 (leaves_so (place + 1) s) p granted queued closed
 
-  -- one that gives up at its turn looks
+  -- a port that gives up at its turn only looks
   at_turn : (p : Poll) → (p ≡ poll.Waiting → ⊥) → (p ≡ poll_answer s (place + 1)) × AreSynced (after_poll p s) new → AreSynced (after_out s (place + 1)) new
   at_turn p ne h = by (is_first s.queue (place + 1)) refl
     where

@@ -15,7 +15,7 @@ no_bytes = vstruct vnil
 abbrev pub fieldless : RattleType
 fieldless = Struct (record { name = []; args = []; types = []; fields = [] })
 
--- one can be made at any time
+-- a value without bytes can be made at any time
 pub made : {M : Type 1} {𝓤 : Ura M} {𝓛 : Logic 𝓤} {K : Type 0} {Γ : List (Item 𝓤)} {G : Goal 𝓤 𝓛.H} → K → Step K 𝓛 (‵ (fieldless.own_val tt (no_bytes ∷ [])) ∷ Γ) G Γ G
 made t = step (λ s.
     nothing t $ feq_i t (List Val) (no_bytes ∷ []) (no_bytes ∷ []) refl $ fjoin t $

@@ -14,7 +14,7 @@ use Rattle.qolb_model.proofs.Agreeing.{extends_trans}
 pub continues_on : (allows : List ℕ → List ℕ → Type 0) (u v w : View) → Extends u v → Continues allows v w → Continues allows u w
 continues_on allows u v w e c = record { extends = extends_trans u v w e c.extends; history = c.history; kept = c.kept; freed_clear = c.freed_clear; own_history = c.own_history }
 
--- what a port knows it goes on knowing
+-- a port that knows something goes on knowing it
 pub extends_self : (v : View) → Extends v v
 extends_self v = record {
   label = refl;
@@ -53,7 +53,7 @@ continues_sound good allows label config v s = record {
   own_history = s.own_history;
 }
 
--- the same request, seen later
+-- the same request, as a later view sees it
 pub same_own : (v w : View) → Extends v w → w.count ≡ v.count → own w ≡ own v
 same_own v w e c = same_request w.node v.node w.count v.count e.node c
 
@@ -64,7 +64,7 @@ clear_not_busy v w e clear busy =
     (λ known. let later : Has w.clear (own w) = subst (Has w.clear) (sym (same_own v w e busy.count)) (has_prefix v.clear w.clear (own v) e.clear known) in let no : true ≡ false = sym later ∙ busy.unclear in cc no)
     clear
 
--- what was asked stays asked
+-- a request that was made stays made
 pub asks_goes : (u v w : View) → Asks u v → Extends v w → w.count ≡ v.count → Asks u w
 asks_goes u v w a e c = record {
   was_clear = λ h. has_prefix v.clear w.clear (own u) e.clear (a.was_clear h);
@@ -75,7 +75,7 @@ asks_goes u v w a e c = record {
 pub joined_goes : (v w : View) → Has v.joined (own v) → Extends v w → w.count ≡ v.count → IsJoined w
 joined_goes v w h e c = subst (Has w.joined) (sym (same_own v w e c)) (e.joined (own v) h)
 
--- what is asked of what a port knew later was asked of what it knew before
+-- a request that was made since a later view was made since an earlier one
 pub asks_from : (u v w : View) → Extends u v → v.count ≡ u.count → Asks v w → Asks u w
 asks_from u v w e same a = record {
   was_clear = λ some. subst (Has w.clear) (same_own u v e same) (a.was_clear (omega (arith, some, same)));

@@ -25,7 +25,7 @@ bytes_after-append bytes (Told ∷ xs) ys = bytes_after-append bytes xs ys
 abbrev pub gone_each : List Request → List End
 gone_each xs = map (λ _. Gone) xs
 
--- and they change no byte
+-- passed requests change no byte
 pub bytes_after-gone : (bytes : List ℕ) (xs : List Request) → bytes_after bytes (gone_each xs) ≡ bytes
 bytes_after-gone bytes [] = refl
 bytes_after-gone bytes (x ∷ xs) = bytes_after-gone bytes xs
@@ -41,7 +41,7 @@ is_closed-append (Served write shut ∷ xs) ys = ap (λ b. shut || b) (is_closed
 is_closed-append (Gone ∷ xs) ys = is_closed-append xs ys
 is_closed-append (Told ∷ xs) ys = is_closed-append xs ys
 
--- and they do not close the line
+-- passed requests do not close the line
 pub is_closed-gone : (xs : List Request) → is_closed (gone_each xs) ≡ false
 is_closed-gone [] = refl
 is_closed-gone (x ∷ xs) = is_closed-gone xs
@@ -84,7 +84,7 @@ legal_gone lease order ends (x ∷ xs) legal room =
     subst (λ es. IsLegal lease order es) (append_assoc ends (Gone ∷ []) (gone_each xs))
     (legal_gone lease order (ends ++ Gone ∷ []) xs (legal_end lease order ends Gone legal (omega (arith, room)) tt) (omega (arith, room, length-append ends (Gone ∷ []))))
 
--- how a request ends by a move, it may end in a history
+-- an end that a move gives to a request may be its end in a history
 pub may_end : (lease : Option ℕ) (q : Queue) (r : Request) (e : End) → EndsAs lease q r e → MayEnd (is_closed q.ends) (is_last_turn lease q.ends) e
 may_end lease q r (Served write shut) h = (h.1, h.2)
 may_end lease q r Gone h = tt
@@ -96,6 +96,6 @@ legal_moved config q (ask node) can legal = legal_ask config.lease q.order q.end
 legal_moved config q (mark r) can legal = legal
 legal_moved config q (finish e) can legal = legal_end config.lease q.order q.ends e legal (slice_get_within q.order (length q.ends) can.0 can.1) (may_end config.lease q can.0 e can.2)
 
--- in a legal history no request occurs twice: two places that have it are one
+-- in a legal history no request occurs twice: two places that have the same request are the same place
 pub same_place_legal : (lease : Option ℕ) (order : List Request) (ends : List End) → IsLegal lease order ends → (p q : ℕ) (r : Request) → slice_get order p ≡ Some r → slice_get order q ≡ Some r → p ≡ q
 same_place_legal lease order ends legal = same_place order legal.numbered

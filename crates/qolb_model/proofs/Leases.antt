@@ -16,7 +16,7 @@ use Rattle.qolb_model.specs.Steps.{is_one, decrement}
 use Rattle.qolb_model.proofs.Lists.{element_at, take_with}
 use Rattle.qolb_model.proofs.Histories.{gone_each, is_closed-append}
 
--- the services of two lists of ends, one after the other; and passed requests are none
+-- the services of two lists of ends, one after the other; passed requests add none
 pub served-append : (xs ys : List End) → served (xs ++ ys) ≡ served xs + served ys
 served-append xs ys = sum_by-append (λ e. cond (is_served e) 1 0) xs ys
 
@@ -24,17 +24,17 @@ pub served-gone : (xs : List Request) → served (gone_each xs) ≡ 0
 served-gone [] = refl
 served-gone (x ∷ xs) = served-gone xs
 
--- before all ends the whole lease is left
+-- before all ends, the whole lease is left
 pub turns_left-none : (lease : Option ℕ) → lease ≡ turns_left lease []
 turns_left-none None = refl
 turns_left-none (Some turns) = let all : turns ≡ turns - 0 = omega arith in ap Some all
 
--- therefore they use no turn, and one that is told uses none
+-- passed requests use up no turn, and neither does a request that is told that the line is closed
 pub turns_left-same : (lease : Option ℕ) (xs ys : List End) → served ys ≡ 0 → turns_left lease (xs ++ ys) ≡ turns_left lease xs
 turns_left-same None xs ys e = refl
 turns_left-same (Some turns) xs ys e = let same : served (xs ++ ys) ≡ served xs = served-append xs ys ∙ omega (arith, e) in ap (λ n. Some (turns - n)) same
 
--- a service uses one
+-- a service uses up one turn
 pub turns_left-served : (lease : Option ℕ) (ends : List End) (write : Write) (shut : Bool) → turns_left lease (ends ++ Served write shut ∷ []) ≡ decrement (turns_left lease ends)
 turns_left-served None ends write shut = refl
 turns_left-served (Some turns) ends write shut =
@@ -42,7 +42,7 @@ turns_left-served (Some turns) ends write shut =
     let fewer : turns - served (ends ++ Served write shut ∷ []) ≡ turns - served ends - 1 = omega (arith, more) in
     ap Some fewer
 
--- at the last turn one is left
+-- at the last turn, one turn is left
 pub last-is_one : (lease : Option ℕ) (ends : List End) → is_one (turns_left lease ends) ≡ is_last_turn lease ends
 last-is_one None ends = refl
 last-is_one (Some turns) ends = elim (cases_eq (served ends + 1) turns) [
@@ -50,12 +50,12 @@ last-is_one (Some turns) ends = elim (cases_eq (served ends + 1) turns) [
   | inr ne ↦ ne_eqb (turns - served ends) 1 (λ left. ne (omega (arith, left))) ∙ sym (ne_eqb (served ends + 1) turns ne)
 ]
 
--- and a service then closes the line
+-- a service then closes the line
 pub last_closes : (lease : Option ℕ) (ends : List End) (shut : Bool) → is_last_turn lease ends ≡ true → closes lease ends shut ≡ true
 last_closes lease ends true last = refl
 last_closes lease ends false last = last
 
--- no more turns are served than a lease has, and once all are the line is closed
+-- no more turns are served than a lease has, and once all are served the line is closed
 abbrev IsWithin : ℕ → List End → Type 0
 IsWithin turns ends = (served ends ≤ turns) × (served ends ≡ turns → is_closed ends ≡ true)
 
@@ -85,7 +85,7 @@ lease_bounds turns order ends some legal = subst (IsWithin turns) (take_all (len
         let (e, at) = element_at ends p (omega (arith, le)) in
         subst (IsWithin turns) (sym (take_with ends p e at)) (within_push turns (take p ends) e (up_to p (omega (arith, le))) (legal.closing p e at))
 
--- therefore an open line has a turn left
+-- an open line therefore has a turn left
 pub open_has_turns : (lease : Option ℕ) (order : List Request) (ends : List End) → IsLease lease → IsLegal lease order ends → is_closed ends ≡ false → turns_left lease ends ≡ Some 0 → ⊥
 open_has_turns None order ends some legal opens left = let no : None ≡ Some 0 = left in cc no
 open_has_turns (Some turns) order ends some legal opens left =

@@ -25,8 +25,8 @@ use Rattle.qolb_model.proofs.Agreed.{state_from, first_turn}
 use Rattle.qolb_model.proofs.Follows.{seen_holding, has_push_other}
 use Rattle.qolb_model.proofs.Passing.{goes_queue}
 
--- the state goes on from s to t by a call of the node n: nothing is forgotten, no other node makes a request or loses a mark, and each
--- of them may call what it might; a holder's turn stays
+-- The state goes on from s to t by a call of the node n. Nothing is forgotten, no other node makes a request or loses a
+-- mark, and each other node may make the same calls as before. A holder's turn stays.
 pub record Leaves (n : ℕ) (s t : OwnerState) : Type 0 where
   pub config : t.config ≡ s.config
   pub order : IsPrefix s.queue.order t.queue.order
@@ -174,7 +174,7 @@ leaves_write n s mask bytes first = record {
   turns = λ m ne h. absurd (never (holds_first s m h) (not_first s.queue n m first ne));
 }
 
--- what is passed was marked
+-- a passed request was marked
 passed_marked : (marked xs : List Request) (i : ℕ) (r : Request) → i < length (passed marked xs) → slice_get xs i ≡ Some r → Has marked r
 passed_marked marked [] i r lt at = absurd (let no : None ≡ Some r = at in cc no)
 passed_marked marked (x ∷ xs) i r lt at = by (passed_marked marked xs) (has marked x) refl i lt at

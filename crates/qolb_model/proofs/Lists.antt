@@ -37,7 +37,7 @@ slice_get-middle (y ∷ xs) x ys = slice_get-middle xs x ys
 pub slice_get-push : {X : Type 0} (xs : List X) (x : X) → slice_get (xs ++ x ∷ []) (length xs) ≡ Some x
 slice_get-push xs x = slice_get-middle xs x []
 
--- an element of a list with one more is an old one, or that one
+-- an element of a list with one more element is an old one, or the new one
 pub push_cases : {X : Type 0} (xs : List X) (x : X) (p : ℕ) (y : X) → slice_get (xs ++ x ∷ []) p ≡ Some y → ((p < length xs) × (slice_get xs p ≡ Some y)) ⊎ ((p ≡ length xs) × (y ≡ x))
 push_cases [] x zero y e = inr (refl, sym (same_some e))
 push_cases [] x (suc p) y e = absurd (let h : None ≡ Some y = e in cc h)
@@ -59,7 +59,7 @@ slice_get-drop zero xs p = let e : p ≡ zero + p = omega arith in ap (slice_get
 slice_get-drop (suc n) [] p = refl
 slice_get-drop (suc n) (x ∷ xs) p = let e : suc (n + p) ≡ suc n + p = omega arith in slice_get-drop n xs p ∙ ap (slice_get (x ∷ xs)) e
 
--- one more element, at the place where a list is split
+-- one more element at the place where a list is split
 pub take_with : {X : Type 0} (xs : List X) (p : ℕ) (x : X) → slice_get xs p ≡ Some x → take (suc p) xs ≡ take p xs ++ x ∷ []
 take_with [] p x e = absurd (let h : None ≡ Some x = e in cc h)
 take_with (y ∷ xs) zero x e = ap (λ z. z ∷ []) (same_some e)
@@ -70,7 +70,7 @@ drop_with [] p x e = absurd (let h : None ≡ Some x = e in cc h)
 drop_with (y ∷ xs) zero x e = ap (λ z. z ∷ xs) (same_some e)
 drop_with (y ∷ xs) (suc p) x e = let next : suc (p + 1) ≡ suc p + 1 = omega arith in drop_with xs p x e ∙ ap (λ n. x ∷ drop n (y ∷ xs)) next
 
--- if a test passes for some element of a list, it does so at a place
+-- if a test passes for some element of a list, it passes at some place
 pub place_of : {X : Type 0} (test : X → Bool) (xs : List X) → list_any test xs ≡ true → (p : ℕ) × (x : X) × (slice_get xs p ≡ Some x) × (test x ≡ true)
 place_of test [] h = absurd (let e : false ≡ true = h in cc e)
 place_of {X} test (x ∷ xs) h = by (place_of test xs) (test x) refl h
@@ -80,7 +80,7 @@ place_of {X} test (x ∷ xs) h = by (place_of test xs) (test x) refl h
     by later true e h = (0, x, refl, e)
     by later false e h = let more = later h in (suc more.0, more.1, more.2, more.3)
 
--- and back
+-- the converse: a test that passes at a place of the list passes for the list
 pub passes_at : {X : Type 0} (test : X → Bool) (xs : List X) (p : ℕ) (x : X) → slice_get xs p ≡ Some x → test x ≡ true → list_any test xs ≡ true
 passes_at test [] p x e t = absurd (let h : None ≡ Some x = e in cc h)
 passes_at test (y ∷ xs) zero x e t = ap (λ b. b || list_any test xs) (ap test (same_some e) ∙ t)
@@ -90,11 +90,11 @@ passes_at test (y ∷ xs) (suc p) x e t = or_right (test y) (list_any test xs) (
 pub at_same : {X : Type 0} (xs : List X) (p : ℕ) (x y : X) → slice_get xs p ≡ Some x → slice_get xs p ≡ Some y → x ≡ y
 at_same xs p x y a b = same_some (sym a ∙ b)
 
--- it is at the same place in a longer list
+-- an element is at the same place in a longer list
 pub at_longer : {X : Type 0} (xs ys : List X) (p : ℕ) (x : X) → slice_get xs p ≡ Some x → slice_get (xs ++ ys) p ≡ Some x
 at_longer xs ys p x e = slice_get-append_left xs ys p (slice_get_within xs p x e) ∙ e
 
--- of two lists, one after the other, it is read in the first or in the second
+-- an element of two lists, one after the other, is in the first or in the second
 pub at_either : {X : Type 0} (xs ys : List X) (i : ℕ) (x : X) → slice_get (xs ++ ys) i ≡ Some x → (slice_get xs i ≡ Some x) ⊎ ((j : ℕ) × (i ≡ length xs + j) × (slice_get ys j ≡ Some x))
 at_either [] ys i x e = inr (i, omega arith, e)
 at_either (y ∷ xs) ys zero x e = inl e
@@ -103,7 +103,7 @@ at_either (y ∷ xs) ys (suc i) x e = elim (at_either xs ys i x e) [ inl t ↦ i
 pub at_drop : {X : Type 0} (k : ℕ) (xs : List X) (p : ℕ) (x : X) → slice_get (drop k xs) p ≡ Some x → slice_get xs (k + p) ≡ Some x
 at_drop k xs p x e = sym (slice_get-drop k xs p) ∙ e
 
--- a list of one has that one, and an empty list has none
+-- a list of one element has that element, and an empty list has none
 pub at_one : {X : Type 0} (x y : X) (i : ℕ) → slice_get (x ∷ []) i ≡ Some y → x ≡ y
 at_one x y zero e = same_some e
 at_one x y (suc i) e = absurd (let h : None ≡ Some y = e in cc h)

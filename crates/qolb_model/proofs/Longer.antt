@@ -14,7 +14,7 @@ longer_second xs ys lt = ap (λ b. cond b ys xs) (lt-ltb (length xs) (length ys)
 pub longer_first : {X : Type 0} (xs ys : List X) → length ys ≤ length xs → longer xs ys ≡ xs
 longer_first xs ys le = ap (λ b. cond b ys xs) (le-ltb (length xs) (length ys) le)
 
--- what holds of both lists holds of the longer
+-- what holds of both lists holds of the longer one
 pub longer_has : {X : Type 0} (P : List X → Type 0) (xs ys : List X) → P xs → P ys → P (longer xs ys)
 longer_has P xs ys h k = elim (cases_order (length xs) (length ys)) [
   | inl e ↦ subst P (sym (longer_first xs ys (omega (arith, e)))) h
@@ -22,11 +22,11 @@ longer_has P xs ys h k = elim (cases_order (length xs) (length ys)) [
   | inr (inr gt) ↦ subst P (sym (longer_first xs ys (omega (arith, gt)))) h
 ]
 
--- therefore the longer of two beginnings is a beginning
+-- the longer of two prefixes is a prefix
 pub longer_begins : {X : Type 0} (xs ys zs : List X) → IsPrefix xs zs → IsPrefix ys zs → IsPrefix (longer xs ys) zs
 longer_begins xs ys zs p q = longer_has (λ ws. IsPrefix ws zs) xs ys p q
 
--- the first of two beginnings begins the longer
+-- if the first list is a prefix of the second, it is a prefix of the longer
 pub begins_longer : {X : Type 0} (xs ys zs : List X) → IsPrefix xs zs → IsPrefix ys zs → IsPrefix xs (longer xs ys)
 begins_longer xs ys zs p q = elim (cases_order (length xs) (length ys)) [
   | inl e ↦ subst (λ ws. IsPrefix xs ws) (sym (longer_first xs ys (omega (arith, e)))) (prefix_self xs)
@@ -34,7 +34,7 @@ begins_longer xs ys zs p q = elim (cases_order (length xs) (length ys)) [
   | inr (inr gt) ↦ subst (λ ws. IsPrefix xs ws) (sym (longer_first xs ys (omega (arith, gt)))) (prefix_self xs)
 ]
 
--- and the order of the two does not matter
+-- the order of the two lists does not matter
 pub longer_swap : {X : Type 0} (xs ys zs : List X) → IsPrefix xs zs → IsPrefix ys zs → longer xs ys ≡ longer ys xs
 longer_swap xs ys zs p q = elim (cases_order (length xs) (length ys)) [
   | inl e ↦ longer_first xs ys (omega (arith, e)) ∙ (prefix_same xs ys zs p q e ∙ sym (longer_first ys xs (omega (arith, e))))
@@ -42,11 +42,11 @@ longer_swap xs ys zs p q = elim (cases_order (length xs) (length ys)) [
   | inr (inr gt) ↦ longer_first xs ys (omega (arith, gt)) ∙ sym (longer_second ys xs gt)
 ]
 
--- therefore the second begins it too
+-- the second list is therefore a prefix of it too
 pub begins_longer_too : {X : Type 0} (xs ys zs : List X) → IsPrefix xs zs → IsPrefix ys zs → IsPrefix ys (longer xs ys)
 begins_longer_too xs ys zs p q = subst (λ ws. IsPrefix ys ws) (longer_swap ys xs zs q p) (begins_longer ys xs zs q p)
 
--- and the whole list is the longer
+-- the whole list is the longer one
 pub longer_whole : {X : Type 0} (xs ys zs : List X) → xs ≡ zs → IsPrefix ys zs → longer xs ys ≡ zs
 longer_whole xs ys zs e q = longer_first xs ys (subst (λ ws. length ys ≤ length ws) (sym e) (prefix_length ys zs q)) ∙ e
 

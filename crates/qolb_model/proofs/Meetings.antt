@@ -40,7 +40,7 @@ right_of : (x y : Bool) → x ≡ true → (y || x) ≡ true
 right_of x true e = refl
 right_of x false e = e
 
--- a port that knows the new state's whole history meets one that knows the old one's: then both know the new one's
+-- a port that knows the new state's whole history meets a port that knows the old state's; then both know the new one's
 module _ (allows : List ℕ → List ℕ → Type 0) (n : ℕ) (s t : OwnerState) (leaves : Leaves n s t) (a w b u : ViewAndTurn) (meet : Meet allows a w b u) (node : a.view.node ≡ n) (apart : w.view.node ≢ n)
     (of_a : KnowsWhole t a) (of_w : KnowsWhole s w) where
   known_a : Knows meet.tell.before.config meet.tell.before.order meet.tell.before.ends meet.tell.before.clear a.view
@@ -98,7 +98,7 @@ module _ (allows : List ℕ → List ℕ → Type 0) (n : ℕ) (s t : OwnerState
 abbrev pub AreOthers : OwnerState → ℕ → List ViewAndTurn → Type 0
 AreOthers s n ports = (i : ℕ) (w : ViewAndTurn) → slice_get ports i ≡ Some w → (w.view.node ≢ n) × KnowsWhole s w
 
--- these are the same ports, of which each knows the state's whole history
+-- the new ports are the same ports, and each of them knows the state's whole history
 pub record AreThen (t : OwnerState) (old new : List ViewAndTurn) : Type 0 where
   pub many : length new ≡ length old
   pub each : (i : ℕ) (u : ViewAndTurn) → slice_get new i ≡ Some u → (w : ViewAndTurn) × (slice_get old i ≡ Some w) × (u.view.node ≡ w.view.node) × KnowsWhole t u
@@ -106,7 +106,7 @@ pub record AreThen (t : OwnerState) (old new : List ViewAndTurn) : Type 0 where
 others_before : (s : OwnerState) (n : ℕ) (ws : List ViewAndTurn) (w : ViewAndTurn) → AreOthers s n (ws ++ w ∷ []) → AreOthers s n ws
 others_before s n ws w all i x at = all i x (slice_get-append_left ws (w ∷ []) i (slice_get_within ws i x at) ∙ at)
 
--- after the round all know it
+-- after the round all ports know it
 pub round_whole : (allows : List ℕ → List ℕ → Type 0) (n : ℕ) (s t : OwnerState) → Leaves n s t → (a : ViewAndTurn) (ws : List ViewAndTurn) (b : ViewAndTurn) (us : List ViewAndTurn) → MeetsEach allows a ws b us
     → a.view.node ≡ n → KnowsWhole t a → AreOthers s n ws → (b.view.node ≡ n) × KnowsWhole t b × AreThen t ws us
 round_whole allows n s t leaves a ws b us nobody node knows others =
@@ -131,7 +131,7 @@ round_whole allows n s t leaves a ws b us (another {others = before} {others_the
       },
     )
 
--- and it tells what the port may have learned in the call before it
+-- the round tells what the port may have learned in the call before it
 pub round_bounds : (allows : List ℕ → List ℕ → Type 0) (n : ℕ) (s : OwnerState) → IsReached s → (v : View) (a : ViewAndTurn) (ws : List ViewAndTurn) (b : ViewAndTurn) (us : List ViewAndTurn) → MeetsEach allows a ws b us
     → IsAfter v a.view → IsPrefix s.queue.order v.order → IsPrefix s.queue.ends v.ends → AreOthers s n ws
     → IsAfter v b.view × ((i : ℕ) (w : ViewAndTurn) → slice_get ws i ≡ Some w → Bounds s v w.view.node)

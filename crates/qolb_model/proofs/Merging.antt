@@ -8,7 +8,7 @@ use Rattle.qolb_model.specs.Meeting.{Meets, merged_view}
 use Rattle.qolb_model.specs.Calls.{MergesViews}
 use Rattle.qolb_model.proofs.Agreeing.{among_first, among_second, among_two, history_of_some}
 
--- each then knows what both knew
+-- each port then knows what both knew
 pub meets_view : (v u : View) → Meets v u (merged_view v u)
 meets_view v u = record {
   order = refl;

@@ -42,7 +42,7 @@ module _ (s : OwnerState) (reached : IsReached s) where
   of_nodes : (p : ℕ) (r : Request) → slice_get opens p ≡ Some r → (0 < r.node) × (r.node ≤ s.config.nodes)
   of_nodes p r at = let known = reached.nodes_known (length s.queue.ends + p) r (there p r at) in (omega arith, known.1)
 
-  -- each is its node's last, so two of one node are one
+  -- each open request is its node's last, so two of one node are the same
   one_open : (k i j : ℕ) (r t : Request) → slice_get opens i ≡ Some r → slice_get opens j ≡ Some t → r.node ≡ k → t.node ≡ k → i ≡ j
   one_open k i j r t at at' mine mine' =
       let last = reached.last_open (length s.queue.ends + i) r (omega arith) (there i r at) in

@@ -7,7 +7,7 @@ use Rattle.qolb_model.specs.Requests.{AreOfDifferentNodes, AreOfOthers}
 use Rattle.qolb_model.proofs.Lists.{same_some, element_at}
 use Rattle.qolb_model.proofs.Prefixes.{prefix_get}
 
--- one place alone
+-- a range of one place
 pub once_alone : (order : List Request) (first last : ℕ) → last ≤ first + 1 → AreOfDifferentNodes order first last
 once_alone order first last short = λ p q r s low lt high. absurd (omega (arith, short, low, lt, high))
 
@@ -33,7 +33,7 @@ once_walked node first last order places run long are = λ p q r s low lt high i
     let two = element_at places (q - first) (omega (arith, low, lt, high, long)) in
     are.apart (p - first) (q - first) p q r s (omega (arith, low, lt)) (one.1 ∙ ap Some (run (p - first) one.0 one.1 ∙ omega (arith, low))) (two.1 ∙ ap Some (run (q - first) two.0 two.1 ∙ omega (arith, low, lt))) is_r is_s
 
--- what is known of a longer order too, of which the requests at these places are known
+-- what is known of these places is also known of a longer order, if the requests at these places are known
 pub others_longer : (node : ℕ) (old new : List Request) (places : List ℕ) → IsPrefix old new → ((i p : ℕ) → slice_get places i ≡ Some p → p < length old) → AreOfOthers node old places → AreOfOthers node new places
 others_longer node old new places more known are = record {
   others = λ i p r here at. are.others i p r here (back i p r here at);

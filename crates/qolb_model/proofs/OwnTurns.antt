@@ -32,11 +32,11 @@ use Rattle.qolb_model.proofs.Requests.{same_request, has_at, has_prefix, count_o
 use Rattle.qolb_model.proofs.Agreeing.{among_first}
 use Rattle.qolb_model.proofs.Sums.{turns-append, turns-same, turns-unserved, slice_get-append_right, none_of_node, own_place}
 
--- of the requests that the new view knows behind all that the old one knew, none of its own was served
+-- among the requests that the new view knows beyond those that the old one knew, none of the port's own was served
 abbrev pub NoneServedBeyond : View → View → Type 0
 NoneServedBeyond old new = (p : ℕ) (r : Request) (e : End) → length old.order ≤ p → slice_get new.order p ≡ Some r → slice_get new.ends p ≡ Some e → r.node ≡ new.node → is_served e ≡ false
 
--- asked for before a call that made no request, it is so after it
+-- a request that was made before a call is still made after it, if the call made none
 pub asks_later : (old mid new : View) → Asks old mid → Extends mid new → new.count ≡ mid.count → Asks old new
 asks_later old mid new a more count = record {
   was_clear = λ one. has_prefix mid.clear new.clear (own old) more.clear (a.was_clear one);
@@ -44,7 +44,7 @@ asks_later old mid new a more count = record {
   behind = (a.behind.0, a.behind.1, prefix_get mid.order new.order a.behind.0 (own new) more.order (a.behind.2 ∙ ap Some (same_request mid.node new.node mid.count new.count (sym more.node) (sym count))));
 }
 
--- a beginning of a list begins as the list does
+-- a prefix of a list begins as the list does
 take_prefix : {X : Type 0} (xs ys : List X) (p : ℕ) → IsPrefix xs ys → p ≤ length xs → take p ys ≡ take p xs
 take_prefix xs ys p (more, is) le = ap (take p) (sym is) ∙ take-append-le p xs more le
 
@@ -77,7 +77,7 @@ module _ (old new : View) (more : Extends old new) (h : OneHistory (new ∷ []))
         | inr ge ↦ absurd (none_of_node new.node more.order.0 (omega (arith, ge)) q (own new) at refl)
       ]
 
-  -- behind all that the old view knew there is one request of the node
+  -- among the requests beyond those that the old view knew, there is one of the node
   pub beyond_own : Asks old new → KnowsOwnPlaces old → (p : ℕ) (r : Request) → length old.order ≤ p → slice_get new.order p ≡ Some r → r.node ≡ new.node → r ≡ own new
   beyond_own asks places p r le at same =
       let at_h : slice_get h.order p ≡ Some r = prefix_get new.order h.order p r knows.order_begins at in
@@ -92,7 +92,7 @@ module _ (old new : View) (more : Extends old new) (h : OneHistory (new ∷ []))
       let most : r.number ≤ count_of new.node h.order = subst (λ n. r.number ≤ count_of n h.order) same (number_le_count_all h.order h.legal.numbered r (has_at h.order p r at_h)) in
       same_request r.node new.node r.number new.count same (omega (arith, least, first, number, most, knows.own_count, asks.count))
 
-  -- two places of its last request are one
+  -- two places of the port's last request are the same place
   own_one_place : (p q : ℕ) → slice_get new.order p ≡ Some (own new) → slice_get new.order q ≡ Some (own new) → p ≡ q
   own_one_place p q at_p at_q =
       same_place_legal h.config.lease h.order h.ends h.legal p q (own new) (prefix_get new.order h.order p (own new) knows.order_begins at_p) (prefix_get new.order h.order q (own new) knows.order_begins at_q)
@@ -102,7 +102,7 @@ module _ (old new : View) (more : Extends old new) (h : OneHistory (new ∷ []))
       let is = beyond_own asks places p r le at_r same in
       unserved p e (at_r ∙ ap Some is) at_e
 
-  -- a request that was granted, withdrawn or told was not served; and a busy port made none
+  -- a request that was granted, withdrawn or told has not been served, and a busy port made none
   pub granted_beyond : (turn : Write) → Asks old new → KnowsOwnPlaces old → IsGranted new turn → NoneServedBeyond old new
   granted_beyond turn asks places granted = asked_beyond asks places (λ p e at_p at_e.
       let same = own_one_place p (length new.ends) at_p granted.at_turn in
@@ -129,7 +129,7 @@ module _ (old new : View) (more : Extends old new) (h : OneHistory (new ∷ []))
       let at_most : p < length old.order = own_place new.node old.order new.order more.order counted p r at_r same_node in
       absurd (omega (arith, at_most, le))
 
-  -- therefore the old view knew each turn of the node that the new one knows
+  -- the old view therefore knew each turn of the node that the new view knows
   module _ (quiet : may_ask old.state ≡ true) (past : KnowsOwnHistory old) (beyond : NoneServedBeyond old new) where
     stays : (e : End) → is_served e ≡ true → is_gone e ≡ true → ⊥
     stays (Served write shut) a b = let no : false ≡ true = b in cc no
@@ -169,7 +169,7 @@ module _ (old new : View) (more : Extends old new) (h : OneHistory (new ∷ []))
         ∙ (ap (λ (t : LineConfig). is_last_turn t.lease (take p old.ends)) (sym more.config)
         ∙ ap (is_last_turn new.config.lease) (sym (take_prefix old.ends new.ends p more.ends (omega (arith, lt_ends)))))
 
--- a port that has made no request knows their places, has had no turn, and has not shut the line
+-- a port that has made no request knows the places of its requests, has had no turn, and has not shut the line
 module _ (v : View) (h : OneHistory (v ∷ [])) (unused : v.count ≡ 0) where
   none_made : count_of v.node v.order ≡ 0
   none_made =
@@ -186,7 +186,7 @@ module _ (v : View) (h : OneHistory (v ∷ [])) (unused : v.count ≡ 0) where
   pub unused_unshut : HasNotShut v
   unused_unshut = λ p r write shut at_r same at_e. absurd (none_of_node v.node v.order none_made p r at_r same)
 
--- a port that has released may ask
+-- a port that has released may make a request
 pub quiet_after : (from : ℕ) (leaves : PortState) (v : View) → may_ask leaves ≡ true → AfterRelease from leaves v → may_ask v.state ≡ true
 quiet_after from leaves v quiet releases = by releases.state
   where
@@ -198,7 +198,7 @@ pub may_ask-state_after : (b : Bool) → may_ask (state_after b) ≡ true
 may_ask-state_after true = refl
 may_ask-state_after false = refl
 
--- withdrawn requests, passed, are no turns and change no byte
+-- withdrawn requests that were passed are no turns, and change no byte
 turns-gone : (does : List ℕ → List ℕ → ℕ) (node : ℕ) (bytes : List ℕ) (order : List Request) (n : ℕ) → sum_of_turns does node bytes order (replicate n Gone) ≡ 0
 turns-gone does node bytes [] n = refl
 turns-gone does node bytes (r ∷ order) zero = refl
@@ -224,7 +224,7 @@ module _ (allows : List ℕ → List ℕ → Type 0) (held new : View) (write : 
   long : length held.ends < length held.order
   long = slice_get_within held.order (length held.ends) (own held) at_turn
 
-  -- what its turn left
+  -- the bytes that its turn left
   pub left_bytes : written (bytes_of held) write ≡ write.bytes.bytes
   left_bytes =
       sym (bytes-gone (written (bytes_of held) write) releases.ends_turn.passed)
@@ -233,7 +233,7 @@ module _ (allows : List ℕ → List ℕ → Type 0) (held new : View) (write : 
       ∙ (ap (λ (t : LineConfig). bytes_after t.opening.bytes new.ends) (sym releases.continues.extends.config)
       ∙ releases.bytes)))
 
-  -- its turn is one more
+  -- the turn of the port is one more
   pub more_turns : (does : List ℕ → List ℕ → ℕ) → sum_of_own does new ≡ sum_of_own does held + does (bytes_of held) write.bytes.bytes
   more_turns does =
       ap (λ n. sum_of_turns does n new.config.opening.bytes new.order new.ends) releases.continues.extends.node
@@ -263,7 +263,7 @@ module _ (allows : List ℕ → List ℕ → Type 0) (held new : View) (write : 
           ap (λ o. sum_of_turns does held.node (bytes_of held) o (Served write shut ∷ passed)) (drop_with new.order (length held.ends) (own new) releases.ends_turn.at_turn)
           ∙ last (own new) (drop (length held.ends + 1) new.order) releases.continues.extends.node
 
-  -- and it shut the line no more than those before
+  -- the port's turns did not shut the line, if its earlier turns did not
   pub unshut_released : HasNotShut held → HasNotShut new
   unshut_released unshut p r w s at_r same at_e =
       elim (at_either held.ends (Served write shut ∷ passed) p (Served w s) (ap (λ l. slice_get l p) (sym releases.ends_turn.ends) ∙ at_e)) [

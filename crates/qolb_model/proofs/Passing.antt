@@ -28,7 +28,7 @@ use Rattle.qolb_model.proofs.Runs.{passed, take_while-passed, passes_each, passe
 use Rattle.qolb_model.proofs.Bounds.{open_at, ended_at, place_open, place_ended}
 use Rattle.qolb_model.proofs.Follows.{Follows, quiet_seen, mine, one_place, last_mine, own_at, still, others_marks, counted}
 
--- as many are passed as stand marked before the first that is not
+-- as many requests are passed as are marked before the first one that is not
 passed_count : (marked xs : List Request) (k : ℕ) → k ≤ length xs → ((i : ℕ) (r : Request) → i < k → slice_get xs i ≡ Some r → Has marked r) → ((r : Request) → slice_get xs k ≡ Some r → Lacks marked r)
     → length (passed marked xs) ≡ k
 passed_count marked [] zero le all next = refl
@@ -42,7 +42,7 @@ gone_each_is : (xs : List Request) → gone_each xs ≡ replicate (length xs) Go
 gone_each_is [] = refl
 gone_each_is (x ∷ xs) = ap (λ es. Gone ∷ es) (gone_each_is xs)
 
--- the queue when the request at its turn has ended, and the withdrawn ones behind it
+-- the queue once the request at its turn has ended, and the withdrawn requests behind it
 pub goes_queue : (s : OwnerState) (e : End) → moved_by s.queue (ends_with e s.queue) ≡ passed_by (moved s.queue (finish e)) (passed s.queue.marked (drop (length s.queue.ends + 1) s.queue.order))
 goes_queue s e =
     ap (λ xs. moved_by s.queue (finish e ∷ passes_each xs)) (take_while-passed s.queue.marked (drop (length s.queue.ends + 1) s.queue.order))
@@ -96,7 +96,7 @@ module _ (s : OwnerState) (n : ℕ) (a : View) (reached : IsReached s) (f : Foll
   ends_are : a.ends ≡ (s.queue.ends ++ e ∷ []) ++ gone_each (passed s.queue.marked (drop (length s.queue.ends + 1) s.queue.order))
   ends_are = ends ∙ (sym (append_assoc s.queue.ends (e ∷ []) (replicate k Gone)) ∙ ap (λ es. (s.queue.ends ++ e ∷ []) ++ es) (ap (λ m. replicate m Gone) (sym many) ∙ sym (gone_each_is gone)))
 
-  -- the next is joined, so the release is not short
+  -- the next request is joined, so the release is not short
   not_short : SuccessorUnlinked a → ⊥
   not_short short =
       let at = ap (λ xs. slice_get xs (length a.ends)) (sym f.order) ∙ short.1 in
@@ -149,7 +149,7 @@ module _ (s : OwnerState) (n : ℕ) (a : View) (reached : IsReached s) (f : Foll
   goes_whole w =
       subst (λ q. let t : OwnerState = record s { queue = q; granted = false; turn = new_turn s.config.opening.bytes q.ends } in KnowsWhole t (record { view = a; turn = w })) (sym (goes_queue s e)) (knows_ended w)
 
--- told: nothing had ended of what the state has open, and the line is closed
+-- told: none of the state's open requests had ended, and the line is closed
 pub told_whole : (s : OwnerState) (n : ℕ) (a : View) → IsReached s → (f : Follows s n a) → is_open s.queue n ≡ true → IsTold a
     → (turn_of s.queue.order s.queue.ends ≡ Some (last_of n s.queue.order)) × (is_closed s.queue.ends ≡ true)
     × ((w : Write) → KnowsWhole (after_end (after_moves (ends_with Told s.queue) s)) (record { view = a; turn = w }))

@@ -24,7 +24,7 @@ and_right_true : (a b : Bool) → (a && b) ≡ true → b ≡ true
 and_right_true true b h = h
 and_right_true false b h = absurd (let e : false ≡ true = h in cc e)
 
--- requests that the test takes for one are equal
+-- requests that the test finds equal are equal
 pub is_same-true : (x y : Request) → is_same x y ≡ true → x ≡ y
 is_same-true x y h =
     same_request x.node y.node x.number y.number (eqb-true x.node y.node (and_left_true _ _ h)) (eqb-true x.number y.number (and_right_true _ _ h))
@@ -32,15 +32,15 @@ is_same-true x y h =
 pub is_same-self : (x : Request) → is_same x x ≡ true
 is_same-self x = rw (eq-eqb x.node x.node refl) (eq-eqb x.number x.number refl)
 
--- a request is one of a list if it is at a place of it
+-- a request belongs to a list if it is at a place of it
 pub has_at : (xs : List Request) (p : ℕ) (r : Request) → slice_get xs p ≡ Some r → Has xs r
 has_at xs p r e = passes_at (is_same r) xs p r e (is_same-self r)
 
--- conversely: one of a list is at a place of it
+-- conversely, a request of a list is at some place of it
 pub place_of_request : (xs : List Request) (r : Request) → Has xs r → (p : ℕ) × (slice_get xs p ≡ Some r)
 place_of_request xs r h = let found = place_of (is_same r) xs h in (found.0, found.2 ∙ ap Some (sym (is_same-true r found.1 found.3)))
 
--- a list lacks a request that cannot be one of it
+-- a list lacks a request that cannot belong to it
 pub lacks_from : (xs : List Request) (r : Request) → (Has xs r → ⊥) → Lacks xs r
 lacks_from xs r h = false_from_ne_true (has xs r) h
 
@@ -138,13 +138,13 @@ same_place order numbered p q r at_p at_q = elim (cases_order p q) [
     apart : (i j : ℕ) → i < j → slice_get order i ≡ Some r → slice_get order j ≡ Some r → ⊥
     apart i j lt at_i at_j = never (has_at (take j order) i r (slice_get-take j order i lt ∙ at_i)) (lacks_before order numbered j r at_j)
 
--- the same of a whole order
+-- the same for a whole order
 pub number_le_count_all : (order : List Request) → IsNumbered order → (r : Request) → Has order r → r.number ≤ count_of r.node order
 number_le_count_all order numbered r h =
     let whole = take_all (length order) order (omega arith) in
     subst (λ xs. r.number ≤ count_of r.node xs) whole (number_le_count order numbered (length order) (omega arith) r (subst (λ xs. Has xs r) (sym whole) h))
 
--- and a node that has made requests has made its last one
+-- a node that has made requests has made its last one
 pub has_last_of_all : (order : List Request) → IsNumbered order → (n : ℕ) → 1 ≤ count_of n order → Has order (last_of n order)
 has_last_of_all order numbered n one =
     let whole = take_all (length order) order (omega arith) in

@@ -20,7 +20,7 @@ pub clears_twice : (order : List Request) (ended : ℕ) (a b c : List Request) �
 clears_twice order ended a b c h none = h
 clears_twice order ended a b c h (more p r k lt at lacks) = more p r (clears_twice order ended a b _ h k) lt at lacks
 
--- up to the first `j` more of the requests that have ended
+-- the list grows up to the first `j` more of the requests that have ended
 pub clears_to : (order : List Request) (ended : ℕ) → IsNumbered order → ended ≤ length order → (k j : ℕ) → k + j ≤ ended → Clears order ended (take k order) (take (k + j) order)
 clears_to order ended numbered le k zero room = let e : k ≡ k + 0 = omega arith in subst (λ n. Clears order ended (take k order) (take n order)) e none
 clears_to order ended numbered le k (suc j) room =
@@ -29,7 +29,7 @@ clears_to order ended numbered le k (suc j) room =
     subst (λ xs. Clears order ended (take k order) xs) (sym (take_with order (k + j) at.0 at.1) ∙ ap (λ n. take n order) e)
     (more (k + j) at.0 (clears_to order ended numbered le k j (omega (arith, room))) (omega (arith, room)) at.1 (lacks_before order numbered (k + j) at.0 at.1))
 
--- nothing need be cleared, and what is cleared twice is cleared
+-- nothing needs to be cleared, and what is cleared in two steps is cleared
 pub has_cleared_none : (q : Queue) → HasCleared q q
 has_cleared_none q = (q.clear, none, refl)
 
@@ -43,14 +43,14 @@ pub runs_cleared : (config : LineConfig) (a b c : Queue) (moves : List Move) →
 runs_cleared config a b c [] h k = has_cleared_twice a b c h k
 runs_cleared config a b c (move ∷ moves) h k = (k.0, has_cleared_twice a b k.0 h k.1, k.2, k.3)
 
--- a history that is legal, and all that had ended at some time is clear
+-- the history is legal, and all requests that had ended at some time are clear
 pub record IsTidy (lease : Option ℕ) (q : Queue) : Type 0 where
   pub legal : IsLegal lease q.order q.ends
   pub ended : ℕ
   pub within : ended ≤ length q.ends
   pub cleared : q.clear ≡ take ended q.order
 
--- then all that has ended may be cleared
+-- then all requests that have ended may be cleared
 pub clears_all : (lease : Option ℕ) (q : Queue) → IsTidy lease q → HasCleared q (record q { clear = ended_of q.order q.ends })
 clears_all lease q tidy =
     let e : tidy.ended + (length q.ends - tidy.ended) ≡ length q.ends = omega (arith, tidy.within) in (
@@ -70,7 +70,7 @@ abbrev pub unpassed : List Request → List Request → List Request
 unpassed marked [] = []
 unpassed marked (x ∷ xs) = if has marked x then unpassed marked xs else x ∷ xs
 
--- the two make the whole, and the first are those that a run of tests takes
+-- together the two are the whole, and the first part is what a run of tests takes
 pub take_while-passed : (marked xs : List Request) → take_while (has marked) xs ≡ passed marked xs
 take_while-passed marked [] = refl
 take_while-passed marked (x ∷ xs) = take_while-cons (has marked) x xs ∙ ap (λ ys. cond (has marked x) (x ∷ ys) []) (take_while-passed marked xs)
@@ -83,7 +83,7 @@ passed-unpassed marked (x ∷ xs) = by (has marked x) (passed-unpassed marked xs
     by true e = ap (λ ys. x ∷ ys) e
     by false e = refl
 
--- each of these is marked
+-- each of these requests is marked
 abbrev pub AreMarked : List Request → List Request → Type 0
 AreMarked marked [] = Unit {0}
 AreMarked marked (x ∷ xs) = Has marked x × AreMarked marked xs
@@ -96,7 +96,7 @@ are_marked-passed marked (x ∷ xs) = by (has marked x) refl (are_marked-passed 
     by true e rest = (e, rest)
     by false e rest = tt
 
--- the first that is left is not
+-- the first request that is left is not marked
 pub lacks_unpassed : (marked xs : List Request) (r : Request) → slice_get (unpassed marked xs) 0 ≡ Some r → Lacks marked r
 lacks_unpassed marked [] r e = absurd (let h : None ≡ Some r = e in cc h)
 lacks_unpassed marked (x ∷ xs) r e = by (has marked x) refl (lacks_unpassed marked xs r) e
@@ -109,7 +109,7 @@ lacks_unpassed marked (x ∷ xs) r e = by (has marked x) refl (lacks_unpassed ma
 abbrev pub passes_each : List Request → List Move
 passes_each xs = map (λ _. finish Gone) xs
 
--- the queue when these have ended as withdrawn, and all that has ended is clear
+-- the queue once these requests have ended as withdrawn, and all ended requests are clear
 abbrev pub passed_by : Queue → List Request → Queue
 passed_by q xs = record q { ends = q.ends ++ gone_each xs; clear = take (length (q.ends ++ gone_each xs)) q.order }
 
@@ -135,7 +135,7 @@ turn_from q x xs e =
     let at : length q.ends + 0 ≡ length q.ends = omega arith in
     ap (slice_get q.order) (sym at) ∙ (sym (slice_get-drop (length q.ends) q.order 0) ∙ ap (λ ys. slice_get ys 0) e)
 
--- and when it has ended the others are open
+-- once a request has ended, the others are open
 pub rest_from : (q : Queue) (x : Request) (xs : List Request) (end : End) → drop (length q.ends) q.order ≡ x ∷ xs → drop (length (q.ends ++ end ∷ [])) q.order ≡ xs
 rest_from q x xs end e =
     let long : length (q.ends ++ end ∷ []) ≡ length q.ends + 1 = length-append q.ends (end ∷ []) ∙ omega arith in

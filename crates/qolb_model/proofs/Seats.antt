@@ -9,7 +9,7 @@ use Rattle.qolb_model.specs.Entries.{Member, AreMembers, each_from, front, behin
 use Rattle.qolb_model.proofs.Lists.{same_some, at_one, at_none, at_either}
 use Rattle.qolb_model.proofs.Updates.{pick, put, put_here, put_else}
 
--- a seat of those with one changed is that one, or another as it was
+-- after one seat has changed, a seat is that one, or another one as it was
 seat_set : {A : Type 0} (xs : List A) (i j : ℕ) (a b : A) → get_elem? (set xs i a) j ≡ some b → ((j ≡ i) × (a ≡ b)) ⊎ ((j ≢ i) × (get_elem? xs j ≡ some b))
 seat_set [] i j a b e = absurd (some-ne-none b (sym e))
 seat_set (x ∷ xs) zero zero a b e = inl (refl, some-injective a b e)
@@ -17,7 +17,7 @@ seat_set (x ∷ xs) zero (suc j) a b e = inr ((λ h. omega arith), e)
 seat_set (x ∷ xs) (suc i) zero a b e = inr ((λ h. omega arith), e)
 seat_set (x ∷ xs) (suc i) (suc j) a b e = ⊎_elim (λ t. inl (ap suc t.0, t.1)) (λ t. let n = t.0 in inr ((λ h. n (omega arith)), t.1)) (seat_set xs i j a b e)
 
--- and with one more an old one, or the new one
+-- an element of a list with one more element is an old one, or the new one
 seat_more : {A : Type 0} (xs : List A) (x y : A) (p : ℕ) → get_elem? (xs ++ x ∷ []) p ≡ some y → (get_elem? xs p ≡ some y) ⊎ ((p ≡ length xs) × (x ≡ y))
 seat_more [] x y zero e = inr (refl, some-injective x y e)
 seat_more [] x y (suc p) e = absurd (some-ne-none y (sym e))
@@ -68,13 +68,13 @@ join_else me other n j i ne = go (ℕ_discrete j other)
 two_places : (me : ℕ) (x : ℕ × ℕ) → x ≡ (me, 0) → x ≡ (me, 1) → ⊥
 two_places me x p q = let a : x.1 ≡ 0 = ap (λ (z : ℕ × ℕ). z.1) p in let b : x.1 ≡ 1 = ap (λ (z : ℕ × ℕ). z.1) q in absurd (omega arith)
 
--- of the entries that are left the first is the next node's
+-- the first of the entries that are left is the next node's
 pub each_from_more : {E : Type 0} (entry : ℕ → E) (n nodes : ℕ) → n < nodes → each_from entry n (nodes - n) ≡ entry (n + 1) ∷ each_from entry (n + 1) (nodes - (n + 1))
 each_from_more entry n nodes l = let j = nodes - (n + 1) in let e : nodes - n ≡ suc j = omega arith in let f : suc n ≡ n + 1 = omega arith in
     ap (each_from entry n) e ∙ (λ i. entry (f i) ∷ each_from entry (f i) j)
 
 module _ {E : Type 0} (node : E → ℕ) (nodes : ℕ) where
-  -- all entries of a new table stand in its first seat
+  -- all entries of a new table are in its first seat
   module _ (entry : ℕ → E) (own : (n : ℕ) → node (entry n) ≡ n) where
     entry_at : (k n i : ℕ) (e : E) → slice_get (each_from entry k n) i ≡ Some e → (e ≡ entry (k + i + 1)) × (i < n)
     entry_at k zero i e at = absurd (at_none i e at)
@@ -163,7 +163,7 @@ module _ {E : Type 0} (node : E → ℕ) (nodes : ℕ) where
     pub once_each : (me : ℕ) (es : List E) → get_elem? seats me ≡ some es → (i j : ℕ) (v w : E) → slice_get es i ≡ Some v → slice_get es j ≡ Some w → node v ≡ node w → i ≡ j
     once_each me es at i j v w a b same = ap (λ (z : ℕ × ℕ). z.1) (sym (all me i es v at a).at ∙ ap owner same ∙ (all me j es w at b).at)
 
-    -- the seat `me`, which has the entry v alone, gets w of the same node
+    -- the seat `me`, which has only the entry v, gets the entry w of the same node
     module _ (me : ℕ) (v w : E) (at : get_elem? seats me ≡ some (v ∷ [])) (same : node w ≡ node v) where
       pub step_members : AreMembers node nodes (put who (node v) w) owner (set seats me (w ∷ []))
       step_members j i es e there here = ⊎_elim
@@ -188,7 +188,7 @@ module _ {E : Type 0} (node : E → ℕ) (nodes : ℕ) where
           }
           changed (suc i) e h = absurd (at_none i e h)
 
-    -- two entries of one seat are told apart, and become others of the same nodes
+    -- two entries of one seat are told apart, and are replaced by others of the same nodes
     module _ (me : ℕ) (v u : E) (at : get_elem? seats me ≡ some (v ∷ u ∷ [])) where
       of_first : Member node nodes who owner me 0 v
       of_first = all me 0 (v ∷ u ∷ []) v at refl
@@ -211,7 +211,7 @@ module _ {E : Type 0} (node : E → ℕ) (nodes : ℕ) where
       both_else : (v' u' : E) (n : ℕ) → n ≢ node v → n ≢ node u → both_put v' u' n ≡ who n
       both_else v' u' n a b = put_else (put who (node v) v') (node u) u' n b ∙ put_else who (node v) v' n a
 
-      -- what holds of each node holds still, if it does of these two
+      -- what holds of each node still holds if it holds of these two
       pub pair_each : (v' u' : E) (P : ℕ → E → Type 0) → P (node v) v' → P (node u) u' → ((n : ℕ) → 0 < n → n ≤ nodes → P n (who n)) → (n : ℕ) → 0 < n → n ≤ nodes → P n (both_put v' u' n)
       pair_each v' u' P p q each n a b = dite (ℕ_discrete n (node v))
           (λ e. subst (λ (z : ℕ × E). P z.0 z.1) (λ i. (sym e i, (sym (put_first v' u') ∙ ap (both_put v' u') (sym e)) i)) p)

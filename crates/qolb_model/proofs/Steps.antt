@@ -90,17 +90,17 @@ agrees_write line s mask bytes a holds = record {
   };
 }
 
--- a node that does not wait asks
+-- a node that does not wait makes a request
 module _ (line : PlainView) (s : OwnerState) (node : ℕ) (a : Agrees line s) (low : 1 ≤ node) (high : node ≤ s.config.nodes) (quiet : is_open s.queue node ≡ false) where
   -- the order with its request
   abbrev pub order_then : List Request
   order_then = s.queue.order ++ next_of node s.queue.order ∷ []
 
-  -- its request is not marked
+  -- the node's request is not marked
   unmarked : Lacks s.queue.marked (next_of node s.queue.order)
   unmarked = lacks_from s.queue.marked (next_of node s.queue.order) (λ h. omega (arith, a.reached.marks_known (next_of node s.queue.order) h))
 
-  -- and is the last of those that are open
+  -- the request is the last of those that are open
   open_then : open_of order_then s.queue.ends ≡ open_of s.queue.order s.queue.ends ++ next_of node s.queue.order ∷ []
   open_then = drop-append-le (length s.queue.ends) s.queue.order (next_of node s.queue.order ∷ []) a.reached.legal.ended
 
@@ -113,7 +113,7 @@ module _ (line : PlainView) (s : OwnerState) (node : ℕ) (a : Agrees line s) (l
       let is : r ≡ last_of node s.queue.order = a.reached.last_open p r from e ∙ ap (λ n. last_of n s.queue.order) same in
       never (subst (λ x. Has (open_of s.queue.order s.queue.ends) x) is (has_at (open_of s.queue.order s.queue.ends) (p - length s.queue.ends) r there)) quiet
 
-  -- it may ask, since its last request is clear
+  -- the node may make a request, because its last one is clear
   pub can_ask : CanMove s.config s.queue (ask node)
   can_ask = (low, high, λ one. rw a.reached.cleared (past one))
     where
@@ -134,7 +134,7 @@ module _ (line : PlainView) (s : OwnerState) (node : ℕ) (a : Agrees line s) (l
     cleared = a.reached.cleared ∙ sym (take-append-le (length s.queue.ends) s.queue.order (next_of node s.queue.order ∷ []) a.reached.legal.ended);
   }
 
-  -- a run may begin with its asking
+  -- a run may begin with the node's request
   pub runs_ask : (moves : List Move) (new : Queue) → Runs s.config (after_ask s node).queue moves new → Runs s.config s.queue (ask node ∷ moves) new
   runs_ask moves new h = (s.queue, has_cleared_none s.queue, can_ask, runs_cleared s.config (moved s.queue (ask node)) (after_ask s node).queue new moves (clears_all s.config.lease (moved s.queue (ask node)) tidy_ask) h)
 
@@ -165,7 +165,7 @@ module _ (line : PlainView) (s : OwnerState) (node : ℕ) (a : Agrees line s) (l
     turn = a.reached.turn;
   }
 
-  -- and the line agrees
+  -- the line agrees with that state
   pub agrees_ask : Agrees (with_waiter line node) (after_ask s node)
   agrees_ask = record {
     nodes = a.nodes;
@@ -192,7 +192,7 @@ module _ (line : PlainView) (s : OwnerState) (node : ℕ) (a : Agrees line s) (l
           let turn : turn_of order_then s.queue.ends ≡ Some (last_of node order_then) = first_turn (after_ask s node).queue node first in
           absurd (other_node (length s.queue.ends) (last_of node order_then) (omega arith) (sym (slice_get-append_left s.queue.order (next_of node s.queue.order ∷ []) (length s.queue.ends) lt) ∙ turn) refl)
 
--- the entries that are left stand for the requests that are
+-- the entries that are left belong to the requests that are left
 after_withdrawn-unpassed : (marked xs : List Request) → after_withdrawn (map (waiter_of marked) xs) ≡ map (waiter_of marked) (unpassed marked xs)
 after_withdrawn-unpassed marked [] = refl
 after_withdrawn-unpassed marked (x ∷ xs) = by (has marked x) (after_withdrawn-unpassed marked xs)
@@ -204,7 +204,7 @@ after_withdrawn-unpassed marked (x ∷ xs) = by (has marked x) (after_withdrawn-
 
 -- the request at its turn ends, and the withdrawn ones behind it are passed
 module _ (line : PlainView) (s : OwnerState) (r : Request) (e : End) (a : Agrees line s) (turn : turn_of s.queue.order s.queue.ends ≡ Some r) (so : EndsAs s.config.lease s.queue r e) where
-  -- the requests behind it, the withdrawn ones that are passed, and those that are left; and all ends then
+  -- the requests behind it, the withdrawn ones that are passed, the ones that are left, and all ends afterwards
   abbrev pub behind : List Request
   behind = drop (length s.queue.ends + 1) s.queue.order
 
@@ -248,7 +248,7 @@ module _ (line : PlainView) (s : OwnerState) (r : Request) (e : End) (a : Agrees
       subst (λ moves. Runs s.config s.queue moves (moved_by s.queue moves)) (sym moves_are)
       (s.queue, has_cleared_none s.queue, (r, turn, so), runs_passes s.config (moved s.queue (finish e)) gone rest tidy_then behind_now (are_marked-passed s.queue.marked behind))
 
-  -- the passed ones do not close the line, and change no byte
+  -- the passed requests do not close the line, and change no byte
   closed_then : is_closed ends_then ≡ is_closed (s.queue.ends ++ e ∷ [])
   closed_then = is_closed-append (s.queue.ends ++ e ∷ []) (gone_each gone) ∙ (ap (λ b. is_closed (s.queue.ends ++ e ∷ []) || b) (is_closed-gone gone) ∙ or-false (is_closed (s.queue.ends ++ e ∷ [])))
 
@@ -265,7 +265,7 @@ module _ (line : PlainView) (s : OwnerState) (r : Request) (e : End) (a : Agrees
   abbrev pub ended_state : OwnerState
   ended_state = record s { queue = passed_by (moved s.queue (finish e)) gone; granted = false; turn = new_turn s.config.opening.bytes ends_then }
 
-  -- what holds of reached states holds of it
+  -- what holds of reached states holds of this state
   pub reached_end : IsReached ended_state
   reached_end = record {
     may_open = a.reached.may_open;
@@ -285,7 +285,7 @@ module _ (line : PlainView) (s : OwnerState) (r : Request) (e : End) (a : Agrees
     turn = merged-self (bytes_after s.config.opening.bytes ends_then) 0 (length-bytes_after s.config.opening.bytes ends_then a.reached.line);
   }
 
-  -- and the line agrees
+  -- the line agrees with that state
   pub agrees_end :
       (closed : Bool) (left : Option ℕ) → closed ≡ is_closed (s.queue.ends ++ e ∷ []) → left ≡ turns_left s.config.lease (s.queue.ends ++ e ∷ []) → bytes_after s.config.opening.bytes (s.queue.ends ++ e ∷ []) ≡ s.turn.bytes.bytes
       → Agrees (turn_ended (record line { closed = closed; left = left })) (after_end (after_moves (ends_with e s.queue) s))
@@ -309,7 +309,7 @@ Answered first closed poll.Granted = (first ≡ true) × (closed ≡ false)
 Answered first closed poll.Waiting = first ≡ false
 Answered first closed poll.Closed = (first ≡ true) × (closed ≡ true)
 
--- and says so rightly
+-- what the answer says is true
 answered : (first closed : Bool) → Answered first closed (if first then (if closed then poll.Closed else poll.Granted) else poll.Waiting)
 answered true true = (refl, refl)
 answered true false = (refl, refl)
@@ -382,14 +382,14 @@ releases line s node shut a holds first =
 
 -- a node that waits behind another withdraws
 module _ (line : PlainView) (s : OwnerState) (node : ℕ) (a : Agrees line s) (stands : is_open s.queue node ≡ true) (unmarked : has s.queue.marked (last_of node s.queue.order) ≡ false) (behind_one : is_first s.queue node ≡ false) where
-  -- its last request, and the marks with it
+  -- the node's last request, and the marks with it
   abbrev pub last : Request
   last = last_of node s.queue.order
 
   abbrev pub marked_then : List Request
   marked_then = s.queue.marked ++ last ∷ []
 
-  -- it may be marked, since it waits behind the one at its turn
+  -- the request may be marked, because it waits behind the one at its turn
   can_mark : CanMove s.config s.queue (mark last)
   can_mark =
       let (p, there) = place_of_request (open_of s.queue.order s.queue.ends) last stands in
@@ -429,12 +429,12 @@ module _ (line : PlainView) (s : OwnerState) (node : ℕ) (a : Agrees line s) (s
           ap (λ b. if b then record (waiter_of s.queue.marked x) { withdrawn = true } else waiter_of s.queue.marked x) (ne_eqb x.node node ne)
           ∙ ap (λ b. let w : Waiter = record { node = x.node; withdrawn = b } in w) (sym kept)
 
-  -- therefore all entries do
+  -- all entries therefore change as the marks do
   entries_then : (xs : List Request) → AreLast s.queue.order xs → map (withdrawn_at node) (map (waiter_of s.queue.marked) xs) ≡ map (waiter_of marked_then) xs
   entries_then [] h = refl
   entries_then (x ∷ xs) h = ap₂ (λ w ws. w ∷ ws) (entry_then x h.0) (entries_then xs h.1)
 
-  -- and the line agrees
+  -- the line agrees with that state
   pub agrees_mark : Agrees (record line { waiting = map (withdrawn_at node) line.waiting }) (after_moves (mark_last s node) s)
   agrees_mark = record {
     nodes = a.nodes;

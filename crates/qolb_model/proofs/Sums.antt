@@ -34,7 +34,7 @@ turns-append does node bytes (r ∷ order) (Served write shut ∷ xs) ys =
 turns-append does node bytes (r ∷ order) (Gone ∷ xs) ys = turns-append does node bytes order xs ys
 turns-append does node bytes (r ∷ order) (Told ∷ xs) ys = turns-append does node bytes order xs ys
 
--- no request has ended: no turn
+-- if no request has ended, there was no turn
 turns-none : (does : List ℕ → List ℕ → ℕ) (node : ℕ) (bytes : List ℕ) (order : List Request) → sum_of_turns does node bytes order [] ≡ 0
 turns-none does node bytes [] = refl
 turns-none does node bytes (r ∷ order) = refl
@@ -72,7 +72,7 @@ not_served (Served write shut) h = absurd (h refl)
 not_served Gone h = refl
 not_served Told h = refl
 
--- a longer order and more ends have the same turns of a node, if each of its served requests is known to the shorter ones
+-- a longer order and more ends have the same turns of a node, if the shorter ones know each of its served requests
 pub turns-same : (does : List ℕ → List ℕ → ℕ) (node : ℕ) (bytes : List ℕ) (order more : List Request) (ends later : List End)
     → IsPrefix order more → IsPrefix ends later
     → ((p : ℕ) (r : Request) (e : End) → slice_get more p ≡ Some r → slice_get later p ≡ Some e → r.node ≡ node → is_served e ≡ true → (p < length order) × (p < length ends))
@@ -120,7 +120,7 @@ pub sum-zero : {X : Type 0} (f : X → ℕ) (xs : List X) → ((x : X) → f x �
 sum-zero f [] h = refl
 sum-zero f (x ∷ xs) h = sum_by-cons f x xs ∙ (ap (λ n. n + sum_by f xs) (h x) ∙ (zero-add (sum_by f xs) ∙ sum-zero f xs h))
 
--- the changes by all turns are those by the turns of each node, if each request's node occurs once
+-- the changes by all turns are the changes by the turns of each node, if each request's node occurs once
 pub sums-split : (does : List ℕ → List ℕ → ℕ) (views : List View) (bytes : List ℕ) (order : List Request) (ends : List End) → length ends ≤ length order
     → ((p : ℕ) (r : Request) → slice_get order p ≡ Some r → count_by (λ (v : View). r.node == v.node) views ≡ 1)
     → sum_by (λ (v : View). sum_of_turns does v.node bytes order ends) views ≡ sum_of_all does bytes ends
@@ -137,7 +137,7 @@ sums-split does views bytes (r ∷ order) (Served write shut ∷ ends) le once =
 sums-split does views bytes (r ∷ order) (Gone ∷ ends) le once = sums-split does views bytes order ends (omega (arith, le)) (λ p x at. once (suc p) x at)
 sums-split does views bytes (r ∷ order) (Told ∷ ends) le once = sums-split does views bytes order ends (omega (arith, le)) (λ p x at. once (suc p) x at)
 
--- a node that is there, and no two of which are there, is there once
+-- a node occurs once if it occurs and no two items belong to it
 none_there : (views : List View) (node : ℕ) → ((i : ℕ) (v : View) → slice_get views i ≡ Some v → v.node ≢ node) → count_by (λ (v : View). node == v.node) views ≡ 0
 none_there [] node h = refl
 none_there (v ∷ views) node h =
@@ -171,7 +171,7 @@ none_of_node n (x ∷ xs) none p r at same = by (none_of_node n xs) p at (sym (s
     by rest zero at sum = let one : (cond (x.node == n) 1 0) ≡ (suc 0) = ap (λ (b : Bool). cond {A = ℕ} b 1 0) (eq-eqb x.node n (ap (λ (y : Request). y.node) (same_some at) ∙ same)) in omega (arith, one, sum)
     by rest (suc p) at sum = rest (omega (arith, sum)) p r at same
 
--- a beginning that has all requests of a node has each of its places
+-- a prefix that has all requests of a node has each of their places
 pub own_place : (n : ℕ) (known order : List Request) → IsPrefix known order → count_of n known ≡ count_of n order → (p : ℕ) (r : Request) → slice_get order p ≡ Some r → r.node ≡ n → p < length known
 own_place n known order (more, is) count p r at same = elim (cases_lt p (length known)) [
   | inl lt ↦ lt
@@ -204,7 +204,7 @@ sum-each f g (x ∷ xs) h =
     let rest = sum-each f g xs (λ i y at. h (suc i) y at) in
     sum_by-cons f x xs ∙ (ap (λ n. n + sum_by f xs) here ∙ (ap (λ n. g x + n) rest ∙ sym (sum_by-cons g x xs)))
 
--- a finished line: what all turns did is the sum of what each port's own did
+-- for a finished line, what all turns did is the sum of what each port's own turns did
 module _ (good : List ℕ → Type 0) (allows : List ℕ → List ℕ → Type 0) where
   pub sums_of_ports : (does : List ℕ → List ℕ → ℕ) (label : ℕ) (config : LineConfig) (views : List View) (bytes : List ℕ) (finished : IsFinished good allows label config views bytes)
       → ((v : View) → IsAmong views v → KnowsOwnPlaces v) → sum_of_all does config.opening.bytes finished.history.ends ≡ sum_by (sum_of_own does) views

@@ -33,7 +33,7 @@ module _ (old new : View) (history : OneHistory (new ∷ [])) where
   is_own : (p : ℕ) (r : Request) → slice_get new.order p ≡ Some r → r.node ≡ new.node → old.count < r.number → new.count ≡ old.count + 1 → r ≡ own new
   is_own p r at its made once = same_request r.node new.node r.number new.count its (omega (arith, numbered p r at its, made, once))
 
-  -- and is at one place
+  -- the request is at one place
   one_place : (p q : ℕ) (r : Request) → slice_get new.order p ≡ Some r → slice_get new.order q ≡ Some r → p ≡ q
   one_place p q r at there =
       let begins = (history.known new (among_first new [])).order_begins in

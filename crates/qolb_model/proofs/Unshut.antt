@@ -43,7 +43,7 @@ all_served (Some turns) order ends some legal p write shut at last =
     ap Some e
 
 module _ (good : List ℕ → Type 0) (allows : List ℕ → List ℕ → Type 0) where
-  -- a finished line that no port of its has shut is closed by its lease, or not at all
+  -- if no port of a finished line has shut it, only its lease can have closed it
   pub closed_by_lease : (label : ℕ) (config : LineConfig) (views : List View) (bytes : List ℕ) (finished : IsFinished good allows label config views bytes)
       → ((v : View) → IsAmong views v → KnowsOwnPlaces v) → ((v : View) → IsAmong views v → HasNotShut v) → is_closed finished.history.ends ≡ true → config.lease ≡ Some (served finished.history.ends)
   closed_by_lease label config views bytes f places unshut closed =
@@ -66,7 +66,7 @@ module _ (good : List ℕ → Type 0) (allows : List ℕ → List ℕ → Type 0
       let legal = subst (λ (t : LineConfig). IsLegal t.lease h.order h.ends) f.config_is h.legal in
       all_served config.lease h.order h.ends f.may_open.lease legal p write true at (sym (last ∙ (ap (λ (t : LineConfig). is_last_turn t.lease (take p v.ends)) config_is ∙ ap (is_last_turn config.lease) (sym cut))))
 
-  -- therefore without a lease none of them is told that it is closed
+  -- without a lease, none of the requests is therefore told that the line is closed
   pub untold : (label : ℕ) (config : LineConfig) (views : List View) (bytes : List ℕ) → IsFinished good allows label config views bytes → ((v : View) → IsAmong views v → KnowsOwnPlaces v)
       → ((v : View) → IsAmong views v → HasNotShut v) → config.lease ≡ None → (v : View) → IsAmong views v → IsTold v → ⊥
   untold label config views bytes f places unshut none v among told =

@@ -11,11 +11,11 @@ use Rattle.qolb_model.specs.declared.waiter.Waiter.{Waiter}
 use Rattle.qolb_model.specs.Plain.{is_at, AreWaiting}
 use Rattle.qolb_model.specs.Steps.{after_withdrawn, withdrawn_at}
 
--- two numbers are apart either way round
+-- two numbers differ, whichever is named first
 flip : (a b : ℕ) → eqb a b ≡ false → eqb b a ≡ false
 flip a b h = ne_eqb b a (λ e. eqb-false a b h (sym e))
 
--- a node that does not wait is apart from those that do
+-- a node that does not wait is none of those that do
 apart_from : (n : ℕ) (ws : List Waiter) → list_any (is_at n) ws ≡ false → AllByRecursion (λ y. eqb n y ≡ false) (map (λ w. w.node) ws)
 apart_from n [] h = tt
 apart_from n (w ∷ ws) h = let both = or_parts (is_at n w) (list_any (is_at n) ws) h in (flip w.node n both.0, apart_from n ws both.1)
@@ -37,7 +37,7 @@ below_from nodes (w ∷ ws) h q e = elim (or_cases (eqb q w.node) (list_any (eqb
   | inr more ↦ below_from nodes ws h.3 q more
 ]
 
--- there is room for one that does not wait
+-- there is room for a node that does not wait
 pub room : (nodes n : ℕ) (ws : List Waiter) → AreWaiting nodes ws → list_any (is_at n) ws ≡ false → 1 ≤ n → n ≤ nodes → length ws < nodes
 room nodes n ws h quiet low high =
     let two : IsDistinct eqb (0 ∷ n ∷ map (λ w. w.node) ws) =
@@ -51,7 +51,7 @@ room nodes n ws h quiet low high =
     ]) in
     omega (arith, long, length-map ws (λ w. w.node))
 
--- one more may join them
+-- one more node may join the waiting nodes
 pub waiting_push : (nodes n : ℕ) (b : Bool) (ws : List Waiter) → AreWaiting nodes ws → list_any (is_at n) ws ≡ false → 1 ≤ n → n ≤ nodes → AreWaiting nodes (ws ++ record { node = n; withdrawn = b } ∷ [])
 waiting_push nodes n b [] h quiet low high = (low, high, refl, tt)
 waiting_push nodes n b (w ∷ ws) h quiet low high =
@@ -62,7 +62,7 @@ waiting_push nodes n b (w ∷ ws) h quiet low high =
       waiting_push nodes n b ws h.3 both.1 low high,
     )
 
--- the withdrawn ones at the front may be passed
+-- the withdrawn entries at the front may be passed
 pub waiting_after : (nodes : ℕ) (ws : List Waiter) → AreWaiting nodes ws → AreWaiting nodes (after_withdrawn ws)
 waiting_after nodes [] h = tt
 waiting_after nodes (w ∷ ws) h = by w.withdrawn (waiting_after nodes ws h.3)
@@ -71,7 +71,7 @@ waiting_after nodes (w ∷ ws) h = by w.withdrawn (waiting_after nodes ws h.3)
     by true k = k
     by false k = h
 
--- the oldest may leave
+-- the oldest entry may leave
 pub waiting_rest : (nodes : ℕ) (ws : List Waiter) → AreWaiting nodes ws → AreWaiting nodes (drop 1 ws)
 waiting_rest nodes [] h = tt
 waiting_rest nodes (w ∷ ws) h = h.3
@@ -88,7 +88,7 @@ same_nodes : (m n : ℕ) (ws : List Waiter) → list_any (is_at m) (map (withdra
 same_nodes m n [] = refl
 same_nodes m n (w ∷ ws) = ap (λ k. (k == m) || list_any (is_at m) (map (withdrawn_at n) ws)) (withdrawn_at-node n w) ∙ ap (λ b. is_at m w || b) (same_nodes m n ws)
 
--- therefore one may be marked
+-- a waiting node may therefore be marked
 pub waiting_mark : (nodes n : ℕ) (ws : List Waiter) → AreWaiting nodes ws → AreWaiting nodes (map (withdrawn_at n) ws)
 waiting_mark nodes n [] h = tt
 waiting_mark nodes n (w ∷ ws) h =

@@ -101,7 +101,7 @@ module _ (allows : List ℕ → List ℕ → Type 0) (s : OwnerState) (place : �
             subst (λ n. Bounds s a.view n) is (more i w at))
       ]
 
-  -- and what the ports then know
+  -- what the ports then know
   pub spreads : (t : OwnerState) → Leaves (place + 1) s t → IsReached t → KnowsWhole t a → AreSynced t new
   spreads t leaves reached knows =
       let (node, now, then_) = round_whole allows (place + 1) s t leaves m.port m.before m.now m.before_then m.meets_before (ap (λ x. x.view.node) acting_is ∙ a_node) (subst (λ x. KnowsWhole t x) (sym acting_is) knows) before_others in

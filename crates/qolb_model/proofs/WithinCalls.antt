@@ -16,7 +16,7 @@ module _ (max_steps : ℕ) (old new : Counters) (total_steps : new.total_steps �
   pub one_poll : new.poll_count ≡ old.poll_count + 1 → IsWithinCalls max_steps 0 old new
   one_poll more = record { polls = 1; poll_count = more; total_steps = omega arith }
 
--- calls, and then others
+-- some calls, followed by others
 pub calls_then : (max_steps a b : ℕ) (x y z : Counters) → IsWithinCalls max_steps a x y → IsWithinCalls max_steps b y z → IsWithinCalls max_steps (a + b) x z
 calls_then max_steps a b x y z f s =
     let both : (f.polls + s.polls + (a + b)) * max_steps ≡ (f.polls + a) * max_steps + (s.polls + b) * max_steps

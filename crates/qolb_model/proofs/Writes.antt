@@ -20,12 +20,12 @@ pub bytes_after-passed : (bytes : List ℕ) (passed : ℕ) → bytes_after bytes
 bytes_after-passed bytes zero = refl
 bytes_after-passed bytes (suc passed) = bytes_after-passed bytes passed
 
--- a release leaves what its turn wrote
+-- a release leaves the bytes that its turn wrote
 pub bytes_after-release : (bytes : List ℕ) (ends : List End) (write : Write) (shut : Bool) (passed : ℕ) → bytes_after bytes (ends ++ Served write shut ∷ replicate passed Gone) ≡ written (bytes_after bytes ends) write
 bytes_after-release bytes ends write shut passed =
     bytes_after-append bytes ends (Served write shut ∷ replicate passed Gone) ∙ bytes_after-passed (written (bytes_after bytes ends) write) passed
 
--- what is good at the opening stays good under turns that keep the data invariant
+-- bytes that are good at the opening stay good under turns that keep the data invariant
 pub good_after :
     (good : List ℕ → Type 0) (allows : List ℕ → List ℕ → Type 0)
     (stays_good : (old new : List ℕ) → good old → allows old new → good new)
@@ -43,7 +43,7 @@ allowed-append allows bytes (Served write shut ∷ xs) ys h k = (h.0, allowed-ap
 allowed-append allows bytes (Gone ∷ xs) ys h k = allowed-append allows bytes xs ys h k
 allowed-append allows bytes (Told ∷ xs) ys h k = allowed-append allows bytes xs ys h k
 
--- and a beginning of ends that keep it keeps it
+-- a prefix of ends that keep the data invariant keeps it
 pub allowed-begins : (allows : List ℕ → List ℕ → Type 0) (bytes : List ℕ) (xs ys : List End) → AreAllowed allows bytes (xs ++ ys) → AreAllowed allows bytes xs
 allowed-begins allows bytes [] ys h = tt
 allowed-begins allows bytes (Served write shut ∷ xs) ys h = (h.0, allowed-begins allows (written bytes write) xs ys h.1)

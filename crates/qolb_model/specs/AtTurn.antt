@@ -1,4 +1,4 @@
--- What a port knows while it waits for its turn, and while it has it. (Handing over the line itself is of Goodman,
+-- What a port knows while it waits for its turn, and while it has it. (Handing over the line itself is from Goodman,
 -- Vernon and Woest, 1989.)
 use Rattle.std.specs.Prelude.{◌≡◌, ℕ, ◌+◌, ◌<◌, ◌≤◌, false, length, slice_get, Some}
 use Rattle.qolb_model.specs.declared.answer.PortState.TheVariants.{Holding, Queued, Rolled}

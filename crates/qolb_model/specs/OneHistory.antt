@@ -1,4 +1,4 @@
--- When the views of several ports are all true of one history of a line. The definitions are this project's own.
+-- The views of several ports are of one history if they are all true of it. The definitions are this project's own.
 use Rattle.std.specs.Prelude.{◌≡◌, ℕ, ◌≤◌, false, List, [], length, slice_get, Some}
 use mathlib.Core.List.{IsPrefix}
 use Rattle.qolb_model.specs.declared.answer.PortState.TheVariants.{Holding}

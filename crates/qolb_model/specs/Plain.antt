@@ -14,8 +14,8 @@ use Rattle.qolb_model.specs.Opening.{MayOpen}
 use Rattle.qolb_model.specs.Histories.{IsLegal, turn_of, ended_of, open_of}
 use Rattle.qolb_model.specs.OneOwner.{OwnerState, new_turn}
 
--- the number of nodes, the nodes that wait or hold with the oldest first, whether the oldest holds, whether the line is closed, the number
--- of turns left, and the bytes with the mask of what the holder has written
+-- the number of nodes, the nodes that wait or hold with the oldest first, whether the oldest holds, whether the line is
+-- closed, the number of turns left, and the bytes with the mask of what the holder has written
 pub record PlainView : Type 0 where
   pub nodes : ℕ
   pub waiting : List Waiter

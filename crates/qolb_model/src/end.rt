@@ -1,3 +1,4 @@
+//! The ends that a request can have.
 use crate::write::Write;
 
 /// The end of a request.

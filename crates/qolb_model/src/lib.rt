@@ -1,4 +1,4 @@
-//! The specification of a queued line, which all kinds of lines prove themselves against.
+//! The specification of a queued line, against which every kind of line is proved.
 //!
 //! It defines requests, their ends, and the bytes after these ends; the queue as a state machine; and a plain line with
 //! one owner, which runs that machine. The trait `LineSync` has the calls of a shared line, and its contracts say what

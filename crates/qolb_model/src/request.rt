@@ -1,3 +1,5 @@
+//! The requests of nodes.
+
 /// A request of a node: the node's `number`-th request on the line, counted from 1.
 #[derive(Clone, Copy, Debug, PartialEq, Eq)]
 pub struct Request {

@@ -1,3 +1,4 @@
+//! The view of a port, in terms of which the contracts of all calls are stated.
 use crate::answer::PortState;
 use crate::config::LineConfig;
 use crate::end::End;

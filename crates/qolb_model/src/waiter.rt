@@ -1,3 +1,5 @@
+//! The entry of a waiting node in a plain line.
+
 /// An entry of a waiting node, and whether the node has withdrawn.
 #[derive(Clone, Copy, Debug, Default, PartialEq, Eq)]
 pub struct Waiter {

@@ -24,7 +24,7 @@ pub empty_rest : {X : Type 0} (xs : List X) (n : ℕ) → n ≡ length xs → n 
 empty_rest [] n is none = refl
 empty_rest (x ∷ xs) n is none = absurd (omega arith)
 
--- a handle that has what it had changes nothing
+-- a handle that gets what it had does not change
 pub held_same : (hs : List Handle) (k : ℕ) (g h : Handle) → k < length hs → h.held ≡ (get_or hs k g).held → held_by (set hs k h) ≡ held_by hs
 held_same [] k g h low same = refl
 held_same (x ∷ hs) zero g h low same = ap (λ (o : Option AnyNode). o ∷ held_by hs) same
@@ -52,7 +52,7 @@ tail_is x y xs ys e = cc e
 none_there : {X C : Type 0} (y : X) (ys : List X) → [] ≡ y ∷ ys → C
 none_there y ys e = cc e
 
--- behind the handles that were filled, each has what it had
+-- behind the handles that were filled, each handle has what it had
 there : (bs : Boxes) (os : List (Option AnyNode)) → length bs < length os → slice_get (held_values bs ++ drop (length bs) os) (length bs) ≡ slice_get os (length bs)
 there [] os low = refl
 there (b ∷ bs) [] low = absurd (omega arith)

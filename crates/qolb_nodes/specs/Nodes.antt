@@ -34,7 +34,8 @@ pub record PollsWithin (polls was now : ℕ) (answer : Poll) : Type 0 where
   pub at_most : now ≤ was + polls
   pub all : answer ≡ Waiting → now ≡ was + polls
 
--- a turn after `value` is written to lane k, and after `by` is added to it modulo 2^64. A lane is written by a write of its bytes.
+-- a turn after `value` is written to lane k, and after `by` is added to it modulo 2^64. A lane is written by a write of
+-- its bytes.
 abbrev pub with_lane : Write → ℕ → ℕ → Write
 with_lane turn k value = turn_after turn (placed_mask (8 * k) 8) (with_lane_of turn.bytes.bytes k value)
 

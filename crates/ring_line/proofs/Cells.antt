@@ -38,7 +38,7 @@ stays_by shows_turn place blank ended holder cleared marks says below near free 
 pub stays : (place : ℕ) → StaysBehind CELLS RingCells is_granted place
 stays place = stays_by is_granted place (λ some. some refl)
 
--- what a word becomes to which a number is added
+-- what a word becomes when a number is added to it
 abbrev pub added : ℕ → ℕ → ℕ
 added word d = (word + d) % 2 ^ 64
 

@@ -28,7 +28,7 @@ cleared_entry t d e = ap (λ m. single m.0) e
 pub cleared_slot : (t d : ArraySeat) → IsCleared t d → d.me.1 ≡ t.me.1
 cleared_slot t d e = ap (λ m. m.1) e
 
--- that the cell is cleared changes nothing in what the line carries, and in what a grant tells
+-- clearing the cell changes neither what the line carries nor what a grant tells
 cleared_carries : (allows : List ℕ → List ℕ → Type 0) (v : ArrayGhost) (y : Payload) → IsNextPayload allows v y → IsNextPayload allows (after_clear v) y
 cleared_carries allows v y c = record { bytes = c.bytes; closed = c.closed; turns = c.turns; may_end = c.may_end; allowed = c.allowed }
 
@@ -46,14 +46,14 @@ pub record IsWalking (allows : List ℕ → List ℕ → Type 0) (s : ArraySeat)
   pub cell_is : cell ≡ turn_cell t
   pub walking : walk.IsWalking one_slot allows s nodes (2 * length nodes) found (withdrawn_by found) t
 
--- what the next grant asks, once the cell is cleared
+-- what the next grant requires, once the cell is cleared
 pub walk_carries : (allows : List ℕ → List ℕ → Type 0) (s t d : ArraySeat) (nodes : List ℕ) (cell found : ℕ) (y : Payload) → IsWalking allows s nodes cell found t → found ≢ 0 → IsCleared t d → HasSlot s y → MatchesEnds (ghost_of s) y
     → HasSlot d y × IsNextPayload allows (ghost_of d) y
 walk_carries allows s t d nodes cell found y k more cleared slot bare =
     let both = walk.walk_carries one_slot allows s t nodes (2 * length nodes) found (withdrawn_by found) y k.walking more slot bare in
     (cleared_slot t d cleared ∙ both.0, subst (λ e. IsNextPayload allows e y) (sym (cleared_entry t d cleared)) (cleared_carries allows (ghost_of t) y both.1))
 
--- and what the walk has done after it
+-- what the walk has done after that grant
 pub walk_step : (allows : List ℕ → List ℕ → Type 0) (s t d u : ArraySeat) (nodes : List ℕ) (cell found after next : ℕ) (y : Payload) → IsWalking allows s nodes cell found t → found ≢ 0 → (ghost_of s).view.config.nodes ≤ MAX_NODES → IsSameSeat t d → IsCleared t d
     → HasSlot s y → (ghost_of s).view.state ≡ state_after y.closed → IsSameSeat d u → Advances allows d.me u.me 1 → ((x : Payload) → HasSlot d x → Ended (ghost_of d) (ghost_of u) x)
     → (next ≡ 0 → HasNoSlot u × IsHandedOver (ghost_of d) (ghost_of u)) → (next ≢ 0 → ((x : Payload) → HasSlot d x → HasSlot u x) × Passes (ghost_of d) (withdrawn_by next) (ghost_of u)) → after ≡ cell_of (cell + 1)

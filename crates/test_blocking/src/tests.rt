@@ -125,7 +125,7 @@ fn try_by<R: Threads + Wait + Clock + Abort + Sync, Q: Discipline<Free> + Send +
     try_over::<R, Line<Free, Q>>(rt, alloc, row)
 }
 
-/// Runs `row` over each kind of lock.
+/// Runs `row` over each kind of line.
 fn over_each<R: Threads + Wait + Clock + Abort + Sync>(
     rt: &R,
     alloc: Global,
@@ -137,7 +137,7 @@ fn over_each<R: Threads + Wait + Clock + Abort + Sync>(
     Ok(())
 }
 
-/// Three threads count to 3,000; a line for 0 or for 201 nodes is refused.
+/// Three threads count to 3,000. A line for 0 or for 201 nodes is refused.
 fn no_addition_is_lost<R: Threads + Wait + Abort + Sync, L: OpenLine<Free> + Sync + Drop>(
     rt: &R,
     alloc: Global,
@@ -151,7 +151,7 @@ where
     }
 }
 
-/// Clerks sell as many seats as they have customers, and at most all 100; a line for 201 clerks is refused.
+/// Clerks sell as many seats as they have customers, but at most all 100. A line for 201 clerks is refused.
 fn the_house_is_sold_out<R: Threads + Wait + Abort + Sync, H: OpenLine<SeatLimit> + Sync + Drop>(
     rt: &R,
     alloc: Global,
@@ -172,7 +172,7 @@ where
     }
 }
 
-/// A node is granted the line, shuts it, and asks again. Returns both answers, each with the state after it.
+/// A node is granted the line, shuts it, and requests it again. Returns both answers, each with the state after it.
 fn granted_and_then_told<R: Wait, L: LineSync<Free>>(
     rt: &R,
     line: &L,
@@ -203,7 +203,7 @@ where
     granted_and_then_told(rt, &line, &mut port)
 }
 
-/// Node 2 shuts the line in its turn, then node 1 asks. Returns both answers.
+/// Node 2 shuts the line in its turn, and then node 1 requests it. Returns both answers.
 fn one_after_the_other<R: Wait, L: LineSync<Free>>(
     rt: &R,
     line: &L,
@@ -233,7 +233,8 @@ where
     one_after_the_other(rt, &line, &mut one, &mut two)
 }
 
-/// Node 1 holds; node 2 asks twice with 3 polls; node 1 releases, and node 2 asks once more. Returns node 2's answers.
+/// Node 1 holds the line, and node 2 requests it twice with 3 polls. Node 1 releases, and node 2 requests the line once
+/// more. Returns node 2's answers.
 fn late<L: LineSync<Free>>(line: &L, one: &mut L::Port, two: &mut L::Port) -> Option<[Acquired; 3]>
     requires belongs_one { L.belongs line.now one.old }
     requires belongs_two { L.belongs line.now two.old }
@@ -284,7 +285,7 @@ fn a_value_lies_in_its_lane(rt: HostRuntime) -> Result<(), Fail> {
 
 #[test]
 fn no_more_seats_are_sold_than_there_are(rt: HostRuntime) -> Result<(), Fail> {
-    // What a data invariant allows does not depend on the lock.
+    // What a data invariant allows does not depend on the kind of line.
     the_house_is_sold_out::<HostRuntime, TicketLine<SeatLimit>>(&rt, rt.alloc());
     Ok(())
 }

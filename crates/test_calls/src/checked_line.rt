@@ -55,7 +55,7 @@ impl<Q: Discipline<Free>> Instrumented for Line<Free, Q> {
     }
 }
 
-/// A line on which a node can also ask by two calls.
+/// A line on which a node can also make a request by two calls.
 pub trait SplitCalls: Instrumented {
     /// The first half of a request.
     fn prepend(&self, port: &mut Self::Port) -> Prep
@@ -185,7 +185,8 @@ where
 
     /// Returns `Some(true)` if the node's last request is clear.
     ///
-    /// Then asking is not answered `Busy`. Returns `None` if its port is not there or may not ask.
+    /// The node's next request is then not answered `Busy`. Returns `None` if its port is not there or may not make a
+    /// request.
     pub fn is_clear(&mut self, node: u64) -> Option<bool> {
         let mut port = self.take(node)?;
         let may_ask = L::state(&port).may_ask();
@@ -198,7 +199,7 @@ where
         answer
     }
 
-    /// The turns left of the lease; `None` if the node's port is not there or does not hold the line.
+    /// Returns the turns left of the lease, or `None` if the node's port is not there or does not hold the line.
     pub fn turns_left(&mut self, node: u64) -> Option<Option<u64>> {
         let port = self.take(node)?;
         let answer = if self.owns(&port) && L::state(&port) == PortState::Holding {
@@ -243,7 +244,7 @@ where
         Some(held)
     }
 
-    /// The bytes that the node sees; `None` if its port does not hold the line.
+    /// Returns the bytes that the node sees, or `None` if its port does not hold the line.
     pub fn bytes(&self, node: u64) -> Option<[u8; 64]> {
         let port = self.ports.iter().find(|port| L::node(port) == node)?;
         if L::state(port) == PortState::Holding {

@@ -21,8 +21,8 @@ use std::process::Abort;
 use std::sync::Wait;
 use std::test::Fail;
 
-/// What differs between the locks: the atomic steps of a release that passes two withdrawn nodes of three, and of one
-/// that passes 199 of 200; and the bytes of the table of a line with four nodes.
+/// What differs between the kinds of lines: the atomic steps of a release that passes two withdrawn nodes of three, and
+/// of one that passes 199 of 200; and the bytes of the table of a line with four nodes.
 #[derive(Drop)]
 struct Known {
     few: u64,
@@ -30,7 +30,7 @@ struct Known {
     table: usize,
 }
 
-/// What is tried over lines of each lock.
+/// What is tried over lines of each kind.
 #[derive(Clone, Copy)]
 pub(crate) enum Part {
     Lines(Row),
@@ -116,7 +116,7 @@ fn names_over<R: Abort, Q: Discipline<Free>>(rt: &R, alloc: Global) {
     }
 }
 
-/// What differs between this lock and the others.
+/// What differs between this kind of line and the others.
 fn known_of(lines: Lock) -> Known {
     match lines {
         // 256 cells, each with a node's word in 128 bytes, and a slot: as for 200 nodes.
@@ -140,7 +140,8 @@ fn known_of(lines: Lock) -> Known {
     }
 }
 
-/// Tries `part` over lines of each lock. The prover takes long wherever a lock is named, so all of them are named here alone.
+/// Tries `part` over lines of each kind. The prover takes long wherever a kind is named, so all of them are named only
+/// here.
 pub(crate) fn over_each<R: Wait + Abort>(rt: &R, alloc: Global, part: Part) -> Result<(), Fail> {
     for lines in ALL {
         let known = known_of(lines);

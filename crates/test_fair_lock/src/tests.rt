@@ -68,7 +68,7 @@ fn enter_within<R: Wait, C: Wait + Clock>(
     }
 }
 
-/// Adds one this often, each time in a critical section of its own. Returns how many critical sections there were.
+/// Adds one this many times, each time in a critical section of its own. Returns how many critical sections there were.
 fn add<R: Wait>(rt: &R, lock: &FairLock<u64>, times: u64) -> u64 {
     let mut had = 0u64;
     for _ in 0..times {
@@ -96,7 +96,7 @@ fn add_within<R: Wait + Clock>(rt: &R, lock: &FairLock<u64>, times: u64, at_most
     had
 }
 
-/// Adds one this often, if that can be done at once. Returns how often it could.
+/// Adds one this many times, if that is possible at once. Returns how often it was.
 fn try_add<R: Wait>(rt: &R, lock: &FairLock<u64>, times: u64) -> u64 {
     let mut had = 0u64;
     for _ in 0..times {

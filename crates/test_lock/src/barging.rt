@@ -11,7 +11,7 @@ use lock_core::{
 use std::hint::spin_loop;
 use std::sync::Wait;
 
-/// The looks of a queue head at the lock word before it sleeps.
+/// How often a queue head looks at the lock word before it sleeps.
 const LOOKS: u64 = 16;
 
 /// Tries for the lock word for a while. Returns `true` once the queue head is inside.
@@ -50,7 +50,7 @@ fn sleep_as_head<R: Wait>(rt: &R, field: &Field, seat: &mut TicketSeat, ticket: 
     }
 }
 
-/// The queue head takes the lock word, awake and asleep.
+/// Takes the lock word for the queue head, awake and asleep.
 fn take_as_head<R: Wait>(rt: &R, field: &Field, seat: &mut TicketSeat, ticket: u64)
     requires barging { 2 ≤ field.now.table.shared.key }
     requires seat { IsSeatOf field.now.table.shared.table_id field.now.table.shared.key seat.old }
@@ -89,7 +89,7 @@ fn go_out<R: Wait>(rt: &R, field: &Field, seat: &mut TicketSeat, barging_limit: 
     unreachable!()
 }
 
-/// Makes one request: barges if it can, and otherwise waits in the queue. Returns 1 if it was served.
+/// Makes one request: barges if possible, and otherwise waits in the queue. Returns 1 if the request was served.
 fn turn_or_none<R: Wait>(
     rt: &R,
     field: &Field,

@@ -35,7 +35,8 @@ impl Counts {
         self.newcomers.load(Ordering::SeqCst)
     }
 
-    /// Returns how often was seen what should never be: two inside, a smaller ticket behind a larger, a newcomer too many.
+    /// Returns how often something was seen that must never happen: two threads inside, a smaller ticket after a larger
+    /// one, or a newcomer too many.
     pub(crate) fn faults(&self) -> u64 {
         self.faults.load(Ordering::SeqCst)
     }
@@ -46,7 +47,7 @@ impl Counts {
         }
     }
 
-    /// Counts an acquisition: nobody else is inside, and the sum is one more.
+    /// Counts an acquisition, and checks that nobody else is inside and that the sum is one more.
     fn count_turn(&self) {
         self.check(self.inside.fetch_add(1, Ordering::SeqCst) == 0);
         let turns = self.turns.load(Ordering::SeqCst);
@@ -54,8 +55,8 @@ impl Counts {
         self.inside.fetch_sub(1, Ordering::SeqCst);
     }
 
-    /// Counts the turn of a ticket, of which the next is larger. Since it was drawn, when `before` newcomers had been counted, at most
-    /// `bound` others were.
+    /// Counts the turn of a ticket, and checks that the next ticket is larger. It also checks that at most `bound`
+    /// newcomers were counted since the ticket was drawn, when `before` had been counted.
     pub(crate) fn queue_turn(&self, ticket: u64, before: u64, bound: u64) {
         let next = ticket.wrapping_add(1);
         let last = self.last_ticket.load(Ordering::SeqCst);
@@ -66,7 +67,7 @@ impl Counts {
         self.count_turn();
     }
 
-    /// Counts the acquisition of a newcomer, one of at most `most` since the last queue head.
+    /// Counts the acquisition of a newcomer, and checks that it is one of at most `most` since the last queue head.
     pub(crate) fn newcomer(&self, most: u64) {
         let since = self.since_head.load(Ordering::SeqCst).wrapping_add(1);
         self.since_head.store(since, Ordering::SeqCst);

@@ -1,6 +1,6 @@
 //! Pseudorandom numbers by which a thread chooses its next call.
 
-/// A row of numbers, the same for the same seed (Marsaglia's xorshift).
+/// A sequence of numbers that is the same for the same seed (Marsaglia's xorshift).
 #[derive(Drop)]
 pub(crate) struct Dice {
     state: u64,

@@ -23,7 +23,7 @@ const POLLS: u64 = 64;
 pub(crate) struct Field {
     pub(crate) table: TicketTable,
     pub(crate) counts: Counts,
-    /// Raised when a grant, or a leave, is told of sleepers.
+    /// The signal that a grant or a leave raises when it is told of sleepers.
     wakes: AtomicU64,
     ghost words: { IsLockTable table.shared.table_id },
 }
@@ -52,7 +52,8 @@ impl Field {
         self.wakes.wake_all();
     }
 
-    /// Sleeps, with no timeout, until somebody wakes after `seen` was read. A lost wake-up would hang the test.
+    /// Sleeps, with no timeout, until some thread wakes the sleepers after `seen` was read. A lost wake-up would hang
+    /// the test.
     pub(crate) fn sleep<R: Wait>(&self, rt: &R, seen: u64) {
         self.wakes.park(rt, (seen % (1 << 32)) as u32);
     }
@@ -112,8 +113,8 @@ impl Field {
         unreachable!()
     }
 
-    /// Draws a ticket by one of the calls, and waits, or withdraws. Returns the ticket at its turn, and the newcomers that were counted when
-    /// it was drawn.
+    /// Draws a ticket by one of the calls, and waits, or withdraws. Returns the ticket at its turn, and the newcomers
+    /// that were counted when it was drawn.
     pub(crate) fn draw_somehow<R: Wait>(
         &self,
         rt: &R,

@@ -1,4 +1,4 @@
-//! Tests of the lock's core: threads share a lock, and each answer is given to one caller.
+//! Tests of the lock's core: threads share a lock, and single callers get each answer.
 //!
 //! The modules of this crate are compiled only for its tests, so that they are proved once.
 #![tactic(auto)]

@@ -4,7 +4,7 @@ use Rattle.qolb_model.specs.declared.answer.PortState.TheVariants.{Queued, Holdi
 use Rattle.qolb_model.specs.declared.view.View.{View}
 use Rattle.qolb_model.specs.PortStates.{may_ask}
 
--- a port of the line that may ask
+-- a port of the line that may make a request
 abbrev pub MayAskFor : {Line Port : Type 0} → (Line → Port → Type 0) → (Port → View) → Line → Port → Type 0
 MayAskFor belongs view line port = belongs line port × IsTrue (may_ask (view port).state)
 

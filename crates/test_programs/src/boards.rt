@@ -43,8 +43,8 @@ pub fn two_tasks<L: LineSync<BoardLaw>>(
     }
 }
 
-/// Puts twice while `holder` holds the line; after its release the views are merged, and `port` puts once and takes twice. Also returns the
-/// port's state between the first two puts; `None` if `holder` is not granted the line.
+/// Puts twice while `holder` holds the line. After its release the views are merged, and `port` puts once and takes
+/// twice. Also returns the port's state between the first two puts. Returns `None` if `holder` is not granted the line.
 pub fn late_node<L: LineSync<BoardLaw>>(
     line: &L,
     holder: &mut L::Port,

@@ -40,8 +40,8 @@ impl<R: Wait, L: LineSync<Free>> ScopedTask<R, L, L::Port> for Raising {
     }
 }
 
-/// Each node of a new line adds 1 `rounds` times, in its own thread. Returns the line's last bytes, or `None` if memory or a thread is
-/// refused.
+/// Each node of a new line adds 1 `rounds` times, in its own thread. Returns the line's last bytes, or `None` if memory
+/// or a thread is refused.
 pub fn raise_all<R: Threads + Wait + Sync, L: LineSync<Free> + Sync + Drop>(
     rt: &R,
     alloc: Global,
@@ -69,7 +69,8 @@ fn add_one<L: LineSync<Free>>(port: &mut L::Port)
     L::write(port, mask, &credited);
 }
 
-/// One round of a race: the holder adds 1 and releases, while the waiter withdraws. If `withdraw` returns `Granted`, the waiter adds 1 too.
+/// One round of a race: the holder adds 1 and releases, while the waiter withdraws. If `withdraw` returns `Granted`,
+/// the waiter adds 1 too.
 #[derive(Clone, Copy)]
 struct Contest;
 
@@ -120,9 +121,9 @@ pub struct Raced {
     pub last: Line64,
 }
 
-/// Runs `rounds` rounds of two nodes. At the start of each, node 1 holds the line, node 2 waits and no call runs; then node 1 releases
-/// while node 2 withdraws, each in its own thread; then their views are merged. Returns `None` if memory or a thread is refused, or a round
-/// does not start so.
+/// Runs `rounds` rounds of two nodes. At the start of each, node 1 holds the line, node 2 waits and no call runs; then
+/// node 1 releases while node 2 withdraws, each in its own thread; then their views are merged. Returns `None` if
+/// memory or a thread is refused, or a round does not start so.
 pub fn race<R: Threads + Wait + Sync, L: LineSync<Free> + Sync + Drop>(
     rt: &R,
     alloc: Global,
@@ -152,8 +153,8 @@ where
     Some(Raced { granted, last })
 }
 
-/// Starts a round: node 1 is granted the line, and node 2 waits. Returns both ports, or `None` if memory is refused or the round does not
-/// start so.
+/// Starts a round: node 1 is granted the line, and node 2 waits. Returns both ports, or `None` if memory is refused or
+/// the round does not start so.
 fn start_round<L: LineSync<Free>>(
     alloc: Global,
     line: &L,

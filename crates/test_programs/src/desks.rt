@@ -31,7 +31,7 @@ where
     Some((lines, Desk::new(ports)))
 }
 
-/// A list of two items; `None` if memory is refused.
+/// Returns a list of two items, or `None` if memory is refused.
 pub(crate) fn pair<T: Drop>(alloc: Global, first: T, second: T) -> Option<Vec<T>>
     ensures { IfSome result (λ both. both.items ≡ first ∷ second ∷ []) }
 {
@@ -79,7 +79,8 @@ where
     Some(settle(alloc, lines, desks))
 }
 
-/// A day at a desk: pays 100 into account 3, moves 40 of them to account 5, and pays 10 out of that. Returns the settled total.
+/// A day at a desk: pays 100 into account 3, moves 40 of them to account 5, and pays 10 out of that. Returns the
+/// settled total.
 pub fn a_day<L: LineSync<AccountLaw> + Drop>(alloc: Global, line: L, port: L::Port) -> Option<u128>
 where
     L::Port: Drop,
@@ -92,8 +93,8 @@ where
     settle_with(alloc, lines, desk)?.ok()
 }
 
-/// Pays in all that an account may hold, and 1 more; pays out of an empty account; transfers to the same account; pays into an account
-/// beyond the line.
+/// Pays in all that an account may hold, and 1 more; pays out of an empty account; transfers to the same account; and
+/// pays into an account beyond the line.
 pub fn limits<L: LineSync<AccountLaw>>(lines: &[L], desk: &mut Desk<L>) -> [Reply; 5]
     requires { IsDeskOver L.belongs L.view lines.now desk.old }
     ensures { IsDeskOver L.belongs L.view lines.now desk.new }
@@ -138,7 +139,8 @@ pub fn over<L: LineSync<AccountLaw>>(lines: &[L], desk: &mut Desk<L>) -> [Reply;
     [few, most, moved]
 }
 
-/// Deposits; then, while another node holds the line of account 9, transfers to it, pays out of it, and pays out of the other line.
+/// Deposits; then, while another node holds the line of account 9, transfers to it, pays out of it, and pays out of the
+/// other line.
 pub fn late<L: LineSync<AccountLaw>>(
     lines: &[L],
     desk: &mut Desk<L>,
@@ -159,8 +161,8 @@ pub fn late<L: LineSync<AccountLaw>>(
     (asked, [paid, moved, again, taken])
 }
 
-/// While another node holds the line of account 0, pays into it without a poll; then pays in, pays out and transfers with `patience` polls
-/// each.
+/// While another node holds the line of account 0, pays into it without a poll; then pays in, pays out and transfers
+/// with `patience` polls each.
 pub fn busy<L: LineSync<AccountLaw>>(
     lines: &[L],
     desk: &mut Desk<L>,
@@ -180,7 +182,8 @@ pub fn busy<L: LineSync<AccountLaw>>(
     (asked, [late, paid, taken, moved])
 }
 
-/// Deposits and transfers, the two turns of the first line's lease; then deposits there, and pays out of the second line.
+/// Deposits and transfers, the two turns of the first line's lease; then deposits there, and pays out of the second
+/// line.
 pub fn leased<L: LineSync<AccountLaw>>(lines: &[L], desk: &mut Desk<L>) -> [Reply; 4]
     requires { IsDeskOver L.belongs L.view lines.now desk.old }
     ensures { IsDeskOver L.belongs L.view lines.now desk.new }

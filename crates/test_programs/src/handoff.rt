@@ -7,8 +7,8 @@ use qolb_model::{Enq, Free, LineSync, Poll, PortState};
 
 /// Hands the line from node one to node two, and merges their views.
 ///
-/// Node one takes the line, node two asks behind it, one writes and releases, and two is granted. Returns what one released and what two
-/// sees, or `None` if another node was before one of them.
+/// Node one takes the line, node two requests it behind node one, node one writes and releases, and node two is granted
+/// the line. Returns what node one released and what node two sees, or `None` if another node was before one of them.
 pub fn hand_over<L: LineSync<Free>>(
     line: &L,
     one: &mut L::Port,

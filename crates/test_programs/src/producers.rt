@@ -122,7 +122,8 @@ pub struct Handed {
 
 /// Hands tasks over a board: nodes 1 and 2 put them, the others take them.
 ///
-/// Each producer puts `count` tasks on the empty board, numbered from 0. Returns `None` if memory or a thread is refused.
+/// Each producer puts `count` tasks on the empty board, numbered from 0. Returns `None` if memory or a thread is
+/// refused.
 pub fn hand_over<R: Threads + Wait + Sync, L: LineSync<BoardLaw> + Sync + Drop>(
     rt: &R,
     alloc: Global,
@@ -199,7 +200,7 @@ fn job_of(node: u64, count: u64) -> Job
     }
 }
 
-/// The ports of the workers, and what each took; `None` if memory is refused.
+/// Returns the ports of the workers and what each took, or `None` if memory is refused.
 fn collect_results<L: LineSync<BoardLaw>>(
     alloc: Global,
     line: &L,

@@ -32,7 +32,7 @@ where
     boards::each_task_is_taken_once::<R, L>(rt, alloc)
 }
 
-/// What is tried over lines of each lock.
+/// What is tried over lines of each kind.
 #[derive(Clone, Copy)]
 enum Part {
     Boards,
@@ -113,7 +113,8 @@ fn part_by<
     }
 }
 
-/// Tries `part` over lines of each lock. The prover takes long wherever a lock is named, so the locks are named here alone.
+/// Tries `part` over lines of each kind. The prover takes long wherever a kind is named, so the kinds are named only
+/// here.
 fn over_each<R: Threads + Wait + Sync + Abort>(
     rt: &R,
     alloc: Global,

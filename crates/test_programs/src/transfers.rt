@@ -189,8 +189,8 @@ pub struct Settled {
 
 /// Runs a customer for each node of eight new lines, and settles.
 ///
-/// Each makes `rounds` transfers in its own thread. Returns `None` if memory or a thread is refused, or a line has fewer than `nodes`
-/// nodes.
+/// Each makes `rounds` transfers in its own thread. Returns `None` if memory or a thread is refused, or a line has
+/// fewer than `nodes` nodes.
 pub fn transfer_at_random<R: Threads + Wait + Sync, L: LineSync<AccountLaw> + Sync + Drop>(
     rt: &R,
     alloc: Global,
@@ -238,7 +238,7 @@ where
     Some(customers)
 }
 
-/// Returns the customers' desks, and the outcomes of all their transfers; `None` if memory is refused.
+/// Returns the customers' desks and the outcomes of all their transfers, or `None` if memory is refused.
 fn unseat<L: LineSync<AccountLaw>>(
     alloc: Global,
     lines: &Vec<L>,

@@ -28,7 +28,7 @@ impl Hooks for &Tries {
     }
 }
 
-/// Hooks that allow three busy tries. A call that is busy once more does not end.
+/// Hooks that allow three busy tries. A call that finds the port busy once more does not end.
 #[derive(Drop)]
 pub struct Thrice {
     busy: AtomicU64,

@@ -15,7 +15,8 @@ use std::time::Duration;
 
 /// What a wrapped line calls beside its own calls, for tests and measurements.
 ///
-/// A hook reads the line and the port, and changes neither. By default a hook does nothing, and `sleep` sleeps at the line.
+/// A hook reads the line and the port, and changes neither. By default a hook does nothing, and `sleep` sleeps at the
+/// line.
 pub trait Hooks {
     /// Called after an `enqolb` that answered `Busy`: the port's last request is not clear.
     fn on_busy<K: Keep, L: ParkingLine<K>>(&self, line: &L, port: &L::Port)

@@ -13,8 +13,8 @@ use std::str::from_utf8;
 /// The grain of the heap in bytes: block sizes are multiples of it.
 pub const GRAIN: usize = 16;
 
-/// The most blocks in which all memory of a process is taken. A block is as large as the system gives in one call, so some thousands fill
-/// the 128 TB that a process on x86-64 can address.
+/// The most blocks in which all memory of a process is taken. A block is as large as the system gives in one call, so
+/// some thousands fill the 128 TB that a process on x86-64 can address.
 const MAX_BLOCKS: usize = 1 << 16;
 
 /// The most blocks in which the rest of a `MemoryLimit`'s room is taken.
@@ -23,14 +23,15 @@ const FEW_BLOCKS: usize = 1 << 11;
 /// The bytes of a part of the stack.
 const PAGE: usize = 1 << 10;
 
-/// The parts of the stack that a thread can rely on after all memory of its process is taken: 4 megabytes, of the 8 that Linux lets a stack
-/// have.
+/// The parts of the stack that a thread can rely on after all memory of its process is taken: 4 megabytes, of the 8
+/// that Linux lets a stack have.
 const PAGES: usize = 1 << 12;
 
-/// Grows this thread's stack by the 4 megabytes that it can rely on. A stack grows page by page when it is touched, into free addresses;
-/// once all addresses are taken, the process ends instead.
+/// Grows this thread's stack by the 4 megabytes that it can rely on. A stack grows page by page when it is touched,
+/// into free addresses. Once all addresses are taken, the process ends instead.
 ///
-/// Returns `true` if the touched bytes are a text. So they are read, and the compiler leaves none of them out.
+/// Returns `true` if the touched bytes are a text. The bytes are read for this, so the compiler leaves none of them
+/// out.
 #[inline(never)]
 fn grow_stack() -> bool {
     let touched = [[0u8; PAGE]; PAGES];
@@ -42,22 +43,23 @@ fn is_text(bytes: &[u8]) -> bool {
     from_utf8(bytes).is_ok()
 }
 
-/// Blocks that take memory from the rest of the process until they are dropped. They are never touched, so they take no memory of the
-/// machine.
+/// Blocks that take memory from the rest of the process until they are dropped. They are never touched, so they take no
+/// memory of the machine.
 #[derive(Drop)]
 pub struct MemoryHog {
     blocks: Vec<Vec<u8>>,
 }
 
 impl MemoryHog {
-    /// Takes all memory that the process could still have, in at most `most` blocks: the largest that the system gives, then what is left
-    /// between them.
+    /// Takes all memory that the process could still have, in at most `most` blocks: first the largest that the system
+    /// gives, and then what is left between them.
     ///
-    /// Grows this thread's stack by 4 megabytes first. The thread can't rely on more stack until the blocks are dropped.
+    /// The call first grows this thread's stack by 4 megabytes. The thread cannot rely on more stack until the blocks
+    /// are dropped.
     ///
     /// # Errors
     ///
-    /// `AllocError` if the list of blocks itself finds no memory.
+    /// The call fails with `AllocError` if the list of blocks itself finds no memory.
     pub fn of_all(alloc: Global, most: usize) -> Result<MemoryHog, AllocError>
         ensures { IfOk result (λ hog. length hog.blocks.items ≤ most) }
     {
@@ -99,7 +101,7 @@ impl MemoryHog {
     }
 }
 
-/// A process without memory except a room. A test can take all of the room but one block.
+/// A process that has no memory except a room. A test can take all of the room but one block.
 #[derive(Drop)]
 pub struct MemoryLimit {
     _beyond: MemoryHog,

@@ -34,7 +34,8 @@ fn nothing_is_left(rt: HostRuntime) -> Result<(), Fail> {
     Ok(())
 }
 
-/// Touches a little less of the stack than a thread can rely on, and returns `true`; if the stack can't grow, the process ends.
+/// Touches a little less of the stack than a thread can rely on, and returns `true`. If the stack cannot grow, the
+/// process ends.
 #[inline(never)]
 fn has_stack() -> bool {
     let touched = [[0u8; PAGE]; PAGES - 100];

@@ -19,7 +19,8 @@ use Rattle.ticket_line.specs.Ticket.{IsLater, TicketCells}
 use Rattle.ticket_line.specs.Steps.{is_other, is_granted, is_granted_half, withdrawn_by}
 use Rattle.ticket_line.proofs.Numbers.{granted_ticket, withdrawn_ticket, not_granted, not_granted_half, number_of_granted, number_of_withdrawn, by_nobody, by_node}
 
--- a granted cell has the own ticket, which no node reads as waiting, and a node that takes the line leaves that number there
+-- a granted cell has the node's own ticket, which no node reads as waiting, and a node that takes the line leaves that
+-- number there
 pub takes_by : (nodes : ℕ) (waits : ℕ → ℕ → Type 0) (place n : ℕ) (change : ℕ → ℕ) → (waits place (granted_word place) → ⊥)
     → ((word : ℕ) → word ≡ granted_word place → change word / NUMBER_UNIT ≡ number place) → Takes (cells_for nodes) (TicketCells nodes) waits place n change
 takes_by nodes waits place n change own slots_in_turn cleared marks says low free c = (
@@ -35,7 +36,7 @@ takes_by nodes waits place n change own slots_in_turn cleared marks says low fre
 pub takes : (nodes : ℕ) (place n : ℕ) (change : ℕ → ℕ) → ((word : ℕ) → word ≡ granted_word place → change word / NUMBER_UNIT ≡ number place) → Takes (cells_for nodes) (TicketCells nodes) is_other place n change
 takes nodes place n change = takes_by nodes is_other place n change (λ other. other (sym (granted_ticket place)))
 
--- as by a poll, and by a withdrawal after the grant
+-- the word as a poll finds it, or a withdrawal after the grant
 pub looked : (place word : ℕ) → word ≡ granted_word place → word / NUMBER_UNIT ≡ number place
 looked place word e = number_of_granted place word e
 
@@ -47,14 +48,14 @@ later_at : (nodes : ℕ) (ended holder place : ℕ) (cleared : Bool) (marks says
 later_at nodes ended holder place cleared marks says below near c = let k : ended + (place - ended) ≡ place = omega arith in
     subst (λ q. IsLater nodes q (marks q) (says (cell_of nodes q))) k (c.later (place - ended) (omega arith) (omega arith))
 
--- therefore neither it nor its lower half shows a grant
+-- neither the word nor its lower half therefore shows a grant
 pub stays_half : (nodes : ℕ) (place : ℕ) → StaysBehind (cells_for nodes) (TicketCells nodes) is_granted_half place
 stays_half nodes place ended holder cleared marks says below near free c e = not_granted_half nodes place (marks place) (says (cell_of nodes place)) (later_at nodes ended holder place cleared marks says below near c) free (e ∙ ap (λ k. k % 2 ^ 32) (granted_ticket place))
 
 pub stays : (nodes : ℕ) (place : ℕ) → StaysBehind (cells_for nodes) (TicketCells nodes) is_granted place
 stays nodes place ended holder cleared marks says below near free c e = not_granted nodes place (marks place) (says (cell_of nodes place)) (later_at nodes ended holder place cleared marks says below near c) free (e ∙ granted_ticket place)
 
--- the own number is written into the own cell, with the node
+-- the node's own number is written into its own cell, together with the node
 pub withdraws : (nodes : ℕ) (place n new : ℕ) → new ≡ withdrawn_word (ticket_of place) n → Withdraws (cells_for nodes) (TicketCells nodes) place n (λ _. new)
 withdraws nodes place n new add ended holder cleared marks says low high below near free c = record {
   kept = c.kept;
@@ -71,7 +72,7 @@ withdraws nodes place n new add ended holder cleared marks says low high below n
     at_turn : put says (cell_of nodes place) new (cell_of nodes ended) ≡ says (cell_of nodes ended)
     at_turn = put_else says (cell_of nodes place) new (cell_of nodes ended) (apart ended (omega arith) (omega arith) (λ z. omega arith))
 
-    -- the own cell names the node
+    -- the node's own cell names the node
     own_cell : IsLater nodes place (put marks place n place) (put says (cell_of nodes place) new (cell_of nodes place))
     own_cell = record {
       withdrawn = λ _. put_here says (cell_of nodes place) new ∙ add ∙ withdrawn_ticket place n ∙ ap (withdrawn_word place) (sym (put_here marks place n));

@@ -6,7 +6,8 @@ use native.Mathlib.Decide.{ℕ_discrete}
 use lib.ListN.{get_elem?}
 use Rattle.line_generic.specs.declared.table.Payload.{Payload}
 
--- The slots below `at` are empty, and those from there on are full, as they were. Once the place is passed its line is found.
+-- The slots below `at` are empty, and the slots from there on are full, as they were. Once a place is passed, its line
+-- is found.
 pub record AreEmptied (count place at : ℕ) (old items : List Payload) (filled : List Bool) (long : ℕ) (line : Payload) : Type 0 where
   pub seat : items ≡ old
   pub many : long ≡ count
@@ -22,7 +23,7 @@ emptied_here (b ∷ bs) (suc i) = emptied_here bs i
 emptied_else : (filled : List Bool) (i k : ℕ) → k ≢ i → slice_index_or (set filled i false) k false ≡ slice_index_or filled k false
 emptied_else filled i k ne = get_or-set_other filled i k false false (λ e. ne (omega arith))
 
--- one more
+-- one more slot
 pub empties : (count place at : ℕ) (old items : List Payload) (filled : List Bool) (long : ℕ) (line : Payload) → AreEmptied count place at old items filled long line
     → (items' : List Payload) (filled' : List Bool) (long' : ℕ) (payload line' : Payload) → get_elem? items at ≡ some payload → items' ≡ items → filled' ≡ set filled at false → long' ≡ long
     → (at ≡ place → line' ≡ payload) → (at ≢ place → line' ≡ line) → AreEmptied count place (at + 1) old items' filled' long' line'
@@ -36,7 +37,7 @@ empties count place at old items filled long line k items' filled' long' payload
       (λ ne. k.found (omega arith) ∙ ap some (sym (else ne)));
 }
 
--- none yet
+-- no slot is emptied yet
 pub emptied_none : (count place : ℕ) (old : List Payload) (filled : List Bool) (long : ℕ) (line : Payload) → long ≡ count → ((k : ℕ) → 0 ≤ k → k < long → slice_index_or filled k false ≡ true) → AreEmptied count place 0 old old filled long line
 emptied_none count place old filled long line many full = record { seat = refl; many = many; empty = λ k low. absurd (omega arith); full = λ k low few. full k low (omega arith); found = λ low. absurd (omega arith) }
 

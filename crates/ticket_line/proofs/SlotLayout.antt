@@ -18,7 +18,7 @@ use Rattle.ticket_line.specs.Layout.{ticket_after, cell_of}
 use Rattle.ticket_line.specs.Slots.{slot_of, slot_count, slot_layout, slots_at_grant}
 use Rattle.ticket_line.proofs.Numbers.{cell_ticket, ticket_next}
 
--- in a line of n nodes the slots of place p, of the next and of the next but one are distinct
+-- in a line of n nodes, the slots of a place, of the next place and of the one after that are distinct
 slot_place : (nodes p : ℕ) → slot_of nodes (ticket_of p) ≡ slot_of nodes p
 slot_place nodes p = cell_ticket nodes p
 

@@ -28,19 +28,19 @@ module _ (good : List ℕ → Type 0) (allows : List ℕ → List ℕ → Type 0
     own_word : i ≡ cell_at (cell_of key.config.nodes v.own.place)
     own_word = word ∙ (ap (λ t. cell_at (cell_of key.config.nodes t)) own ∙ ap cell_at (cell_ticket key.config.nodes v.own.place))
 
-    -- reads it
+    -- the node reads that word
     pub ticket_loads : Allows (TicketRule good allows key) slots me m i (λ n. n) (loaded allows (step slots i 0 0 none) m)
     ticket_loads = subst (λ (n : ℕ). Allows (TicketRule good allows key) slots me m i (λ n. n) (array.loaded allows ticket_of (slot_layout n) is_other is_granted (step slots i 0 0 none) m)) (sym sized)
         (loads_next (TicketCells key.config.nodes) (slot_layout key.config.nodes) good allows key v queued ticket_of is_other is_granted (take key.config.nodes)
         (takes key.config.nodes v.own.place v.view.node (λ n. n) (looked v.own.place)) (stays key.config.nodes v.own.place) me slots i m is own_word)
 
-    -- or puts the own number there
+    -- a node puts its own number there
     pub ticket_rolls : (new : ℕ) → v.view.node ≤ MAX_NODES → new ≡ withdrawn_word (ticket_of v.own.place) v.view.node → Allows (TicketRule good allows key) slots me m i (λ _. new) (rolled allows (step slots i 0 0 none) m)
     ticket_rolls new high says = subst (λ (n : ℕ). Allows (TicketRule good allows key) slots me m i (λ _. new) (array.rolled allows ticket_of (slot_layout n) is_other is_granted (step slots i 0 0 none) m)) (sym sized)
         (rolls_next (TicketCells key.config.nodes) (slot_layout key.config.nodes) good allows key v queued ticket_of is_other is_granted (λ _. new) (take key.config.nodes)
         (takes key.config.nodes v.own.place v.view.node (λ _. new) (λ _ _. written v.own.place v.view.node new high says)) (stays key.config.nodes v.own.place) (withdraws key.config.nodes v.own.place v.view.node new says) me slots i m is own_word)
 
-  -- a node that has laid the line for the next one grants that one's cell, by its word
+  -- a node that has laid the line for the next ticket grants that ticket's cell, by its word
   module _ (goes : (a b : List ℕ) → good a → allows a b → good b) (has_it : has_line v.own.point ≡ true) (y : Payload) (carries : IsNextPayload allows v y) (carried : Slots) (is : m ≡ (v ∷ [], carried)) (laid : slots_at_release key.config.nodes (ticket_of (length v.view.ends)) y carried)
       (next : ℕ) (behind : next ≡ ticket_of (length v.view.ends + 1)) (word : i ≡ cell_at (cell_of key.config.nodes next)) where
     next_word : i ≡ cell_at (cell_of key.config.nodes (length v.view.ends + 1))

@@ -16,8 +16,8 @@ use Rattle.ticket_line.specs.Slots.{slot_layout}
 use Rattle.ticket_line.specs.Steps.{turn_ticket, SlotsAtGrant, SlotsAtRelease}
 use Rattle.ticket_line.proofs.Numbers.{ticket_next}
 
--- In a line of m nodes, what a walk that began at the seat s has done so far: one step for each
--- request that it passed; its last grant found this node, or 0.
+-- In a line of m nodes, what a walk that began at the seat s has done so far. It has taken one step for each request
+-- that it passed, and its last grant found this node, or 0.
 pub record IsWalking (m : ℕ) (allows : List ℕ → List ℕ → Type 0) (s : ArraySeat) (nodes : List ℕ) (ticket found : ℕ) (t : ArraySeat) : Type 0 where
   pub ticket_is : ticket ≡ turn_ticket t
   pub walking : walk.IsWalking (slot_layout m) allows s nodes (length nodes) found found t
@@ -40,7 +40,7 @@ goes_from allows a b m n same g = record {
 pub walk_has : (m : ℕ) (allows : List ℕ → List ℕ → Type 0) (s t : ArraySeat) (nodes : List ℕ) (first ticket found : ℕ) (y : Payload) → IsWalking m allows s nodes ticket found t → found ≢ 0 → first ≡ turn_ticket s → SlotsAtGrant m first s y → SlotsAtGrant m ticket t y
 walk_has m allows s t nodes first ticket found y k more begins slot = subst (λ n. SlotsAtGrant m n t y) (sym k.ticket_is) ((k.walking.stands more).0 y (subst (λ n. SlotsAtGrant m n s y) begins slot))
 
--- what the next grant asks
+-- what the next grant requires
 pub walk_carries : (m : ℕ) (allows : List ℕ → List ℕ → Type 0) (s t d : ArraySeat) (nodes : List ℕ) (first ticket found : ℕ) (y : Payload) → IsWalking m allows s nodes ticket found t → found ≢ 0 → IsLaid m ticket t d → first ≡ turn_ticket s → SlotsAtGrant m first s y → MatchesEnds (ghost_of s) y
     → SlotsAtRelease m (turn_ticket d) d y × IsNextPayload allows (ghost_of d) y
 walk_carries m allows s t d nodes first ticket found y k more laid begins slot bare =
@@ -51,7 +51,7 @@ walk_carries m allows s t d nodes first ticket found y k more laid begins slot b
       subst (λ e. IsNextPayload allows e y) (sym entry) both.1,
     )
 
--- and what it has done after it
+-- what the walk has done after that grant
 pub walk_step : (m : ℕ) (allows : List ℕ → List ℕ → Type 0) (s t d u : ArraySeat) (nodes : List ℕ) (first ticket found after next : ℕ) (y : Payload) → IsWalking m allows s nodes ticket found t → found ≢ 0 → (ghost_of s).view.config.nodes ≤ MAX_NODES → IsLaid m ticket t d
     → first ≡ turn_ticket s → SlotsAtGrant m first s y → MatchesEnds (ghost_of s) y → (ghost_of s).view.state ≡ state_after y.closed → IsSameSeat d u → Advances allows d.me u.me 1 → ((x : Payload) → SlotsAtRelease m (turn_ticket d) d x → Ended (ghost_of d) (ghost_of u) x)
     → (next ≡ 0 → HasNoSlot u × IsHandedOver (ghost_of d) (ghost_of u)) → (next ≢ 0 → ((x : Payload) → SlotsAtRelease m (turn_ticket d) d x → SlotsAtGrant m after u x) × Passes (ghost_of d) next (ghost_of u)) → after ≡ ticket_after ticket

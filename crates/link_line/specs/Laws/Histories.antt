@@ -41,11 +41,11 @@ use Rattle.link_line.specs.Ghost.{LinkGhost}
 use Rattle.line_generic.specs.declared.table.TableKey.{TableKey}
 use Rattle.link_line.specs.Links.{At, History, NodeInv, HistoryInv, IsFreed, state_of, state_in_release}
 
--- a place of a list has one member
+-- a place of a list has only one member
 pub at_same : {A : Type 0} (xs : List A) (p : ℕ) (x y : A) → At xs p x → At xs p y → x ≡ y
 at_same xs p x y a b = same_some (sym a ∙ b)
 
--- a withdrawn request is clear as its entry says
+-- a withdrawn request is clear if its entry says so, and only then
 pub clear_is : {config : LineConfig} {c : Core} {q : Queue} (s : Shows config c q) (r : Request) → IsNode c r.node → IsFreed c q.order r → has q.clear r ≡ is_clear Rolled (entry c r.node)
 clear_is {c = c} {q = q} s r node f = ap (has q.clear) (sym (request_got q.order f.at r f.here)) ∙ s.matches.clears r.node f.at node f.last ∙ ap (λ (z : Point). is_clear z (entry c r.node)) f.rolled
 
@@ -86,7 +86,7 @@ module _ {config : LineConfig} {c : Core} {q : Queue} (s : Shows config c q) (jo
     pub joined_clear : Has q.clear r
     joined_clear = clear_is s r node f ∙ unboxed (entry c r.node).done (entry c r.node) f.freed refl (λ d l. boxed (s.matches.settled.boxed r.node node d l) s.matches.lies)
 
--- if a port shows that it holds, its node has the line, and has passed no request
+-- if a port shows that it holds the line, its node has the line and has passed no request
 holding_in : (reason : ReleaseCause) (passed : List ℕ) → state_in_release reason passed ≡ port_state.Holding → passed ≡ []
 holding_in r [] e = refl
 holding_in Own (m ∷ ms) e = cc
@@ -120,7 +120,7 @@ marked_is q m p r Told at end = lacks_from q.marked r (λ h. let z : Some Told �
 
 module _ (allows : List ℕ → List ℕ → Type 0) (key : TableKey) (x : History) (f : HistoryInv allows key x) where
   module _ (n : ℕ) (v : LinkGhost) (node : IsNode x.core n) (ok : NodeInv key x n v) where
-    -- its last request
+    -- the last request of the node
     pub own_at : (p : ℕ) → IsLast x.queue.order n p → At x.queue.order p (own v.view)
     own_at p l = get_request x.queue.order p l.known ∙ ap Some (last_is key.config.lease x.queue.order x.queue.ends n p f.shown.legal l ∙ (λ i. record { node = sym ok.who.node i; number = ok.knows.counts i }))
 
@@ -158,7 +158,7 @@ module _ (allows : List ℕ → List ℕ → Type 0) (key : TableKey) (x : Histo
         (λ l. ok.joins.freed_last r h l)
         (ok.joins.all_freed r h)
 
-    -- the outcome of each of its requests: one without an end is its last, and waits or holds
+    -- the outcome of each of the node's requests: a request without an end is its last, and waits or holds
     module _ (p : ℕ) (r : Request) (at : At x.queue.order p r) (mine : r.node ≡ n) where
       abbrev Outcome : Type 0
       Outcome = (p < length v.view.ends) ⊎ (Has v.view.marked r ⊎ ((r ≡ own v.view) × (may_ask v.view.state ≡ false)))

@@ -40,7 +40,7 @@ is_at_rest Rolled = true
 is_at_rest Shut = true
 is_at_rest _ = false
 
--- a port that may ask is at rest
+-- a port that may make a request is at rest
 may_ask_rests : (nodes : ℕ) (state : PortState) (token : ℕ) (own : LinkLocal) → may_ask state ≡ true → in_state nodes state token own → is_at_rest own.seat.point ≡ true
 may_ask_rests nodes port_state.Idle token own may at = ap is_at_rest at
 may_ask_rests nodes port_state.Linking token own may at = absurd (cc may)
@@ -50,7 +50,7 @@ may_ask_rests nodes port_state.Left token own may at = ap is_at_rest at
 may_ask_rests nodes port_state.Rolled token own may at = ap is_at_rest at
 may_ask_rests nodes port_state.Shut token own may at = ap is_at_rest at
 
--- it does not have the line
+-- the node does not have the line
 rests_without : (p : Point) → is_at_rest p ≡ true → has_line p ≡ true → ⊥
 rests_without Idle e l = cc l
 rests_without Ready e l = cc l
@@ -67,7 +67,7 @@ rests_without Shut e l = cc l
 
 module _ (good : List ℕ → Type 0) (allows : List ℕ → List ℕ → Type 0) (stays : (old new : List ℕ) → good old → allows old new → good new) (key : TableKey) (entries : List LinkGhost) (at_rest : AllInState in_state key.config.nodes entries) where
   module _ (id : ℕ) (s : St good allows key) (r : Rule good allows key s) (at : get_elem? s.views id ≡ some entries) where
-    -- a view of the seat is that of its node
+    -- a view of the seat is the view of its node
     view_ok : (i : ℕ) (v : LinkGhost) → At entries i v → IsNode r.history.core v.view.node × NodeInv key r.history v.view.node v
     view_ok i v e = let m = r.members id i entries v at e in
         ((m.low, subst (λ (q : ℕ). v.view.node ≤ q) (sym r.history_inv.shown.matches.size) m.high), subst (NodeInv key r.history v.view.node) m.is (r.each v.view.node m.low m.high))
@@ -79,7 +79,7 @@ module _ (good : List ℕ → Type 0) (allows : List ℕ → List ℕ → Type 0
         let (own, ok) = view_ok i v here in
         ap is_at_rest (ap (point r.history.core) (sym is) ∙ at_point allows key r.history r.history_inv v.view.node v own ok) ∙ may_ask_rests v.view.config.nodes state token v.own may rest
 
-    -- therefore the line is at home, and all requests have ended
+    -- The line is therefore at home, and all requests have ended.
     pub record IsHome : Type 0 where
       pub ended : length r.history.queue.ends ≡ length r.history.queue.order
       pub place : r.history.core.place ≡ Home

@@ -151,7 +151,7 @@ module _ (good : List ℕ → Type 0) (allows : List ℕ → List ℕ → Type 0
     knows_all : (n : ℕ) (w : LinkGhost) → NodeInv key r.history n w → w.view.state ≡ port_state.Holding → w.view.ends ≡ r.history.queue.ends
     knows_all n w ok held = ok.stands.holds (holding_of w.own.seat w.own.seat.point refl (sym ok.stands.state ∙ held)).0
 
-    -- and a port that holds learns no end
+    -- a port that holds the line learns of no end
     whole_stays : (xs ys : List End) → xs ≡ r.history.queue.ends → IsPrefix ys r.history.queue.ends → longer xs ys ≡ xs
     whole_stays xs ys all begins = longer_whole xs ys r.history.queue.ends all begins ∙ sym all
 

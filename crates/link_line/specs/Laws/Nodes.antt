@@ -19,7 +19,7 @@ module _ (good : List ℕ → Type 0) (allows : List ℕ → List ℕ → Type 0
   pub low : (s : St) (r : Rule s) (me : ℕ) (v : LinkGhost) → get_elem? s.views me ≡ some (v ∷ []) → (0 < v.view.node) × (v.view.node ≤ key.config.nodes)
   low s r me v at = let m = r.members me 0 (v ∷ []) v at refl in (m.low, m.high)
 
-  -- the invariant's part for the seat's own node
+  -- the part of the invariant that is about the seat's own node
   pub mine_ok : (s : St) (r : Rule s) (me : ℕ) (v : LinkGhost) → get_elem? s.views me ≡ some (v ∷ []) → NodeInv key r.history v.view.node v
   mine_ok s r me v at = let m = r.members me 0 (v ∷ []) v at refl in subst (NodeInv key r.history v.view.node) m.is (r.each v.view.node m.low m.high)
 

@@ -30,11 +30,11 @@ max_steps_positive nodes some = omega arith
 pub max_steps_fits : (nodes : ℕ) → nodes ≤ MAX_NODES → max_steps nodes < 2 ^ 32
 max_steps_fits nodes few = omega arith
 
--- the word of the turn: the entry of whose joined request is at its turn
+-- the word of the turn is the entry of the node whose joined request is at its turn
 pub names_joined : (v : View) (r : Request) → turn_of v.order v.ends ≡ Some r → Has v.joined r → wake_word v ≡ entry_at r.node
 names_joined v r turn joined = ap (word_of v.joined) turn ∙ ap (λ (b : Bool). if b then entry_at r.node else home_at) joined
 
--- or home, if no request is at its turn, or one that is not joined
+-- the word of the turn is home if no request is at its turn, or one that is not joined
 pub names_nobody : (v : View) → ((r : Request) → turn_of v.order v.ends ≡ Some r → ⊥) → wake_word v ≡ home_at
 names_nobody v nobody = by (turn_of v.order v.ends) nobody
   where
@@ -45,7 +45,7 @@ names_nobody v nobody = by (turn_of v.order v.ends) nobody
 pub names_short : (v : View) → SuccessorUnlinked v → wake_word v ≡ home_at
 names_short v s = ap (word_of v.joined) s.1 ∙ ap (λ (b : Bool). if b then entry_at s.0.node else home_at) s.2
 
--- a node that has the line waited on the word of the turn, if it was granted open, and if closed
+-- a node that has the line waited on the word of the turn, whether the line was granted open or closed
 pub holder_waits_there : (token : ℕ) (u v : View) (local : LinkLocal) → holds_open token (length v.ends) local → SeesTurn u v → wait_word v.config.nodes v.node token ≡ wake_word u
 holder_waits_there token u v local h sees = sym (names_joined u (own v) sees.turn sees.joined)
 

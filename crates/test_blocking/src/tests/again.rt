@@ -21,7 +21,7 @@ const BUSY_MILLIS: u64 = 30;
 enum Again {
     Awake,
     Asleep,
-    /// With this time limit.
+    /// The node asks again with this timeout.
     Timed(Duration),
 }
 
@@ -37,8 +37,8 @@ const HASTE: u64 = 100_000;
 /// Several brief sleeps, in nanoseconds. The system ends a very short sleep some 60 microseconds late.
 const LONG: u64 = 1_000_000;
 
-/// Counts the busy tries of a node, and the hasty ones among them: those that followed the last too soon for a sleep in between, although
-/// there had been more than `AWAKE`.
+/// Counts the busy tries of a node, and the hasty ones among them: those that followed the last too soon for a sleep in
+/// between, although there had been more than `AWAKE`.
 #[derive(Drop)]
 struct Tries<'r, R> {
     clock: &'r R,
@@ -61,7 +61,7 @@ impl<'r, R: Clock> Tries<'r, R> {
         }
     }
 
-    /// The time in nanoseconds; 0 if the clock can't be read.
+    /// The time in nanoseconds, or 0 if the clock cannot be read.
     fn nanos(&self) -> u64 {
         match self.clock.monotonic() {
             Ok(time) => u64::try_from(time.as_nanos()).unwrap_or(u64::MAX),
@@ -85,7 +85,7 @@ impl<R: Clock> Hooks for &Tries<'_, R> {
     }
 }
 
-/// Node 2 times out while node 1 holds the line, and asks again at once.
+/// Node 2 times out while node 1 holds the line, and requests it again at once.
 #[derive(Drop)]
 struct Asking<'t> {
     again: Again,
@@ -115,7 +115,8 @@ impl<R: Wait + Clock, L: ParkingLine<Free>> Scene<R, L> for Asking<'_> {
     }
 }
 
-/// Whether both nodes had the line; node 2's busy and hasty tries; the shortest pause between two tries that may sleep in between.
+/// Whether both nodes had the line; node 2's busy and hasty tries; the shortest pause between two tries that may sleep
+/// in between.
 #[derive(Clone, Copy, Debug)]
 struct Found {
     had: bool,
@@ -150,9 +151,9 @@ where
     })
 }
 
-/// Asks again with each call, over lines of this type. A parking or timed call sleeps 200 microseconds between two tries: some hundred
-/// tries in 30 milliseconds, hasty only if a sleep ends early. Without the sleeps there would be thousands of tries. The shortest sleep
-/// takes less than `LONG`.
+/// Node 2 asks again with each call, over lines of this type. A parking or timed call sleeps 200 microseconds between
+/// two tries. These are some hundred tries in 30 milliseconds, which are hasty only if a sleep ends early. Without the
+/// sleeps there would be thousands of tries. The shortest sleep takes less than `LONG`.
 pub(super) fn each_manner<R: Threads + Wait + Clock + Abort + Sync, L: SleepLine + Sync>(
     rt: &R,
     alloc: Global,

@@ -17,14 +17,15 @@ use std::time::Duration;
 /// The number of nodes of the line. Node 1 holds it, and the others ask behind it in their order.
 const NODES: u64 = 5;
 
-/// How many milliseconds the waiters have to fall asleep, one attempt for each. A waiter that is still awake when it is woken ahead falls
-/// asleep later and sleeps on, as it is not at its turn.
+/// How many milliseconds the waiters have to fall asleep, one attempt for each. A waiter that is still awake when it is
+/// woken one turn early falls asleep later and sleeps on, because it is not at its turn.
 static NAPS: [u64; 6] = [50, 100, 200, 400, 800, 1_600];
 
 /// How many milliseconds the next holder and the waiter behind it may sleep.
 const LONG_MILLIS: u64 = 5_000;
 
-/// Node 1 releases the line; the nodes before the next holder have withdrawn; the next holder does nothing with the line.
+/// Node 1 releases the line; the nodes before the next holder have withdrawn; the next holder does nothing with the
+/// line.
 #[derive(Drop)]
 struct Ahead {
     /// The next holder's node.
@@ -109,8 +110,8 @@ where
     Ok(all_see(rt, alloc, &line, ports, &scene, &AtomicU64::new(0)))
 }
 
-/// A release wakes the waiter behind the next holder, and none behind that waiter. So it does whether the next holder sleeps or not, also
-/// if it passes a withdrawn request, and if it closes the line.
+/// A release wakes the waiter behind the next holder, and no waiter behind that one. It does so whether or not the next
+/// holder sleeps, also if the release passes a withdrawn request, and if it closes the line.
 pub(super) fn each_release_wakes_one_ahead<
     R: Threads + Wait + Clock + Abort + Sync,
     L: SleepLine + Sync,

@@ -20,14 +20,14 @@ use std::thread;
 use std::thread::Threads;
 use std::time::Duration;
 
-/// How each thread asks. Limits are in microseconds.
+/// How each thread requests the line. Timeouts are in microseconds.
 #[derive(Clone, Copy)]
 enum Manner {
-    /// It sleeps until its turn.
+    /// The thread sleeps until its turn.
     Asleep,
-    /// With this time limit.
+    /// The thread waits with this timeout.
     Timed(u64),
-    /// With the limit if the round plus the place is divisible by 3, otherwise without.
+    /// The thread has the timeout if the round plus the place is divisible by 3, and otherwise no timeout.
     Mixed(u64),
 }
 
@@ -39,7 +39,7 @@ struct Sharing {
     hold: Duration,
     /// Each turn closes the line.
     shuts: bool,
-    /// The turns and the time-outs of all threads together.
+    /// The turns and the timeouts of all threads together.
     turns: AtomicU64,
     late: AtomicU64,
 }
@@ -118,7 +118,7 @@ impl<R: Wait + Clock, L: ParkingLine<Free>> ScopedTask<R, L, L::Port> for Sharin
     }
 }
 
-/// The outcome of a line that threads shared: the number in its first lane, their turns, and their time-outs.
+/// The outcome of a line that threads shared: the number in its first lane, their turns, and their timeouts.
 #[derive(Clone, Copy, Debug, PartialEq, Eq)]
 struct Outcome {
     number: u64,
@@ -228,7 +228,8 @@ where
     }
 }
 
-/// Time-outs race with grants, as the limit is about as long as a turn. Returns `true` if each try was either a turn or a time-out.
+/// Timeouts race with grants, because the timeout is about as long as a turn. Returns `true` if each try was either a
+/// turn or a timeout.
 fn race<R: Threads + Wait + Clock + Sync, L: SleepLine + Sync>(
     rt: &R,
     alloc: Global,
@@ -244,7 +245,7 @@ where
     outcome.number == outcome.turns && outcome.turns.wrapping_add(outcome.late) == 1_500
 }
 
-/// Time limits from none up to some turns.
+/// The timeouts, from none up to some turns.
 pub(super) fn no_grant_is_lost_to_a_time_limit<
     R: Threads + Wait + Clock + Abort + Sync,
     L: SleepLine + Sync,
@@ -273,8 +274,8 @@ where
     }
 }
 
-/// Node 1 holds; node 2 asks twice for 5 ms; node 1 releases, and node 2 asks once more. Returns node 2's answers, each with its state
-/// after it.
+/// Node 1 holds; node 2 asks twice for 5 ms; node 1 releases, and node 2 asks once more. Returns node 2's answers, each
+/// with its state after it.
 fn late_and_later<R: Wait + Clock, L: ParkingLine<Free>>(
     rt: &R,
     line: &L,
@@ -309,7 +310,8 @@ where
     late_and_later(rt, &line, &mut one, &mut two)
 }
 
-/// After a time-out the port is `Rolled`. It times out again while its withdrawn request is not passed, and is then granted.
+/// After a timeout the port is `Rolled`. It times out again while its withdrawn request has not been passed, and is
+/// then granted the line.
 fn whoever_is_late_asks_again<R: Wait + Clock + Abort, L: SleepLine>(rt: &R, alloc: Global)
 where
     L::Port: Drop,
@@ -322,7 +324,7 @@ where
     expect(rt, "late", late_at_a_new_line::<R, L>(rt, alloc), wanted);
 }
 
-/// Waiters are woken, ask again once they were late, and are told of a line that was closed.
+/// Waiters are woken, request the line again after they were late, and are told of a line that was closed.
 pub(super) fn each_wait<R: Threads + Wait + Clock + Abort + Sync, L: SleepLine + Sync>(
     rt: &R,
     alloc: Global,

@@ -76,8 +76,10 @@ impl<R: Wait, L: Counting> Scene<R, L> for Counted {
     }
 }
 
-/// The counts of one run: whether each node had a turn; the groups that counted 12 or 13 while all others slept; the sleepers counted at
-/// the end; and the groups that counted none at the end.
+/// The counts of one run:
+/// - whether each node had a turn;
+/// - the groups that counted 12 or 13 while all others slept;
+/// - the sleepers counted at the end, and the groups that counted none at the end.
 #[derive(Clone, Copy, Debug, PartialEq, Eq)]
 struct Counts {
     had: bool,
@@ -107,7 +109,8 @@ where
     })
 }
 
-/// Sleepers are counted while they sleep, and none afterwards: in all, and in each group. The words are spread evenly over the groups.
+/// Sleepers are counted while they sleep, and none afterwards: in all, and in each group. The words are spread evenly
+/// over the groups.
 pub(super) fn sleepers_are_counted<R: Threads + Wait + Abort + Sync, L: Counting + Sync>(
     rt: &R,
     alloc: Global,

@@ -221,8 +221,8 @@ where
     run_scoped(rt, alloc, &held, line, ports).is_some_and(|saw| saw.iter().all(|saw| *saw))
 }
 
-/// Runs the scene on a new line of `nodes` nodes with these hooks, as `all_see` does. To see that threads may share a line with hooks takes
-/// the prover some seconds, here once for several hooks.
+/// Runs the scene on a new line of `nodes` nodes with these hooks, as `all_see` does. The prover needs some seconds to
+/// see that threads may share a line with hooks; here it needs them once for several hooks.
 pub(super) fn all_see_hooked<
     R: Threads + Wait + Sync,
     H: Hooks + Sync + Drop,

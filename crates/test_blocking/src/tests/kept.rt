@@ -37,7 +37,8 @@ where
     expect(rt, "three turns", add_ten::<R, L>(rt, alloc), wanted);
 }
 
-/// Puts a value, takes it if `takes`, and finishes the line. Returns whether a value was put, whether one was taken, and the last bytes.
+/// Puts a value, takes it if `takes`, and finishes the line. Returns whether a value was put, whether one was taken,
+/// and the last bytes.
 fn put_and_taken<L: OpenLine<Free> + Drop>(
     alloc: Global,
     takes: bool,
@@ -68,8 +69,8 @@ where
     }
 }
 
-/// Hooks that check the order of values: a holder that would release the line with a value that is neither the last one nor its successor
-/// waits for ever, so the test does not end.
+/// Hooks that check the order of values. A holder waits for ever if it would release the line with a value that is
+/// neither the last one nor its successor, so the test then does not end.
 #[derive(Drop)]
 struct InOrder {
     last: AtomicU64,

@@ -20,8 +20,11 @@ use std::thread::{Threads, yield_now};
 use std::time::Duration;
 use test_support::{HookedLine, Hooks};
 
-/// The notes of a line: busy tries; polls that found the turn not there, and how many of these came before the first and the second sleep;
-/// sleeps; the limits of the last and of the longest sleep in nanoseconds; and releases.
+/// The notes of a line:
+/// - busy tries;
+/// - polls that found that the turn had not come, and how many of these came before the first and the second sleep;
+/// - sleeps, and the timeouts of the last and of the longest sleep in nanoseconds;
+/// - releases.
 #[derive(Drop)]
 struct Notes {
     busy: AtomicU64,
@@ -120,7 +123,7 @@ impl Hooks for &Notes {
     }
 }
 
-/// A clock that advances by `tick` nanoseconds at each reading; if `tick` is `None`, it can't be read.
+/// A clock that advances by `tick` nanoseconds at each reading. If `tick` is `None`, the clock cannot be read.
 #[derive(Drop)]
 pub(super) struct Ticking<'r, R> {
     /// Allows the clock's reader to wait.
@@ -165,8 +168,8 @@ impl<R> Clock for Ticking<'_, R> {
     }
 }
 
-/// A limit of 3 milliseconds by a clock that moves one at each reading: what is left at each, and then nothing. Without a clock nothing is
-/// left.
+/// A limit of 3 milliseconds by a clock that moves one at each reading: what is left at each, and then nothing. Without
+/// a clock nothing is left.
 #[test]
 fn less_is_left_of_a_limit_at_each_reading(rt: HostRuntime) {
     let clock = Ticking::new(&rt, Some(1_000_000));
@@ -200,7 +203,8 @@ where
     Some((NotedLine::with(notes, line), one, two))
 }
 
-/// Node 2 waits for `at_most` by `clock` while node 1 holds the line; if `adds`, by `add_within`. Returns node 2's answer.
+/// Node 2 waits for `at_most` by `clock` while node 1 holds the line; if `adds`, by `add_within`. Returns node 2's
+/// answer.
 fn wait_behind<C: Wait + Clock, L: ParkingLine<Free>>(
     clock: &C,
     line: &L,
@@ -242,10 +246,10 @@ where
 
 /// A wait of 136 ticks times out at its limit, and sleeps twice before.
 ///
-/// It begins at the first reading, reads the clock between its polls, and times out when it reads the limit: after 135 polls. It stays
-/// awake for 64 polls (32 spins, then 32 yields), and sleeps after the 65th. A release also wakes the waiter behind the next holder, so the
-/// waiter then stays awake as long again: it sleeps after the 130th poll, with 6 ticks left. No sleep may take longer than the time left.
-/// All this holds for `acquire_timeout` and for `add_within`.
+/// It begins at the first reading, reads the clock between its polls, and times out when it reads the limit: after 135
+/// polls. It stays awake for 64 polls (32 spins, then 32 yields), and sleeps after the 65th. A release also wakes the
+/// waiter behind the next holder, so the waiter then stays awake as long again: it sleeps after the 130th poll, with 6
+/// ticks left. No sleep may take longer than the time left. All this holds for `acquire_timeout` and for `add_within`.
 fn a_wait_keeps_to_its_time<R: Wait + Abort, L: SleepLine>(rt: &R, alloc: Global)
 where
     L::Port: Drop,
@@ -267,7 +271,7 @@ where
     }
 }
 
-/// A wait without time, or by a clock that can't be read, times out without a sleep.
+/// A wait without time, or by a clock that cannot be read, times out without a sleep.
 fn no_time_is_over_at_once<R: Wait + Abort, L: SleepLine>(rt: &R, alloc: Global)
 where
     L::Port: Drop,
@@ -283,8 +287,8 @@ where
     expect(rt, "sleeps", notes.sleeps(), 0);
 }
 
-/// Node 2 times out behind node 1, which holds the line, and asks again for `at_most` by `clock` while its withdrawn request is not passed.
-/// Returns the second answer.
+/// Node 2 times out behind node 1, which holds the line. It requests the line again for `at_most` by `clock` while its
+/// withdrawn request has not been passed. Returns the second answer.
 fn ask_behind<N: Wait + Clock, C: Wait + Clock, L: ParkingLine<Free>>(
     no_time: &N,
     clock: &C,
@@ -338,7 +342,8 @@ where
     }
 }
 
-/// Waits until `count` is not 0. Bounded, because hooks and clocks have no `Wait` that would allow an endless loop.
+/// Waits until `count` is not 0. The loop is bounded, because hooks and clocks have no `Wait` that would allow an
+/// endless one.
 fn wait_for(count: &AtomicU64) {
     for _ in 0..u64::MAX {
         if count.load(Ordering::SeqCst) > 0 {
@@ -351,7 +356,8 @@ fn wait_for(count: &AtomicU64) {
 /// How many tries of node 2 are busy before node 1 releases.
 const BUSY: u64 = 50;
 
-/// A clock that ticks by a nanosecond, and from reading `BUSY + 1` on waits until the holder has released.
+/// A clock that ticks by a nanosecond at each reading. From reading `BUSY + 1` on it waits until the holder has
+/// released.
 #[derive(Drop)]
 struct Pausing<'r, R> {
     clock: Ticking<'r, R>,
@@ -374,8 +380,8 @@ impl<R> Clock for Pausing<'_, R> {
     }
 }
 
-/// Node 1 holds the line, node 2 has withdrawn behind it, and node 3 waits. Node 2 asks again and is busy until node 1 releases; then node
-/// 2 waits behind node 3, which does nothing with the line.
+/// Node 1 holds the line, node 2 has withdrawn behind it, and node 3 waits. Node 2 requests the line again and is busy
+/// until node 1 releases. Then node 2 waits behind node 3, which does nothing with the line.
 #[derive(Drop)]
 struct Renewing<'n> {
     notes: &'n Notes,
@@ -435,7 +441,7 @@ where
     Ok((saw, renewing.readings.load(Ordering::SeqCst)))
 }
 
-/// Busy tries and polls share one time limit: 50 tries leave time for 86 polls, besides the first one.
+/// Busy tries and polls share one timeout: 50 tries leave time for 86 polls, besides the first one.
 fn a_limit_does_not_begin_again<R: Threads + Wait + Clock + Abort + Sync, L: SleepLine + Sync>(
     rt: &R,
     alloc: Global,
@@ -458,7 +464,8 @@ where
     );
 }
 
-/// Node 2 polls twice while node 1 holds the line, and once after node 1 has released. Returns `true` if each answer was right.
+/// Node 2 polls twice while node 1 holds the line, and once after node 1 has released. Returns `true` if each answer
+/// was right.
 fn look_behind<L: LineSync<Free>>(line: &L, one: &mut L::Port, two: &mut L::Port) -> bool
     requires belongs_one { L.belongs line.now one.old }
     requires belongs_two { L.belongs line.now two.old }
@@ -481,7 +488,7 @@ fn look_behind<L: LineSync<Free>>(line: &L, one: &mut L::Port, two: &mut L::Port
     line.poll(two) == Poll::Granted
 }
 
-/// Node 2 polls a new `ParkOnPoll` so.
+/// Node 2 polls a new `ParkOnPoll` in this way.
 fn look_asleep<R: Wait, L: SleepLine>(rt: &R, alloc: Global, notes: &Notes) -> Option<bool>
 where
     L::Port: Drop,
@@ -512,7 +519,8 @@ where
     expect(rt, "the limit", notes.last(), u64::MAX);
 }
 
-/// Hooks that note the shortest time from a poll that finds the turn not there to the sleep behind it, in nanoseconds of `clock`.
+/// Hooks that note the shortest time between a poll that finds the turn has not come and the sleep after it, in
+/// nanoseconds of `clock`.
 #[derive(Drop)]
 struct Between<'c, C> {
     clock: &'c C,
@@ -520,7 +528,7 @@ struct Between<'c, C> {
     shortest: AtomicU64,
 }
 
-/// Returns the reading of `clock` in nanoseconds, or 0 if it can't be read.
+/// Returns the reading of `clock` in nanoseconds, or 0 if the clock cannot be read.
 fn nanos_at<C: Clock>(clock: &C) -> u64 {
     match clock.monotonic() {
         Ok(now) => u64::try_from(now.as_nanos()).unwrap_or(u64::MAX),
@@ -545,7 +553,7 @@ impl<C: Clock> Hooks for &Between<'_, C> {
     }
 }
 
-/// Node 2 polls a new `ParkOnPoll` so, with these hooks.
+/// Node 2 polls a new `ParkOnPoll` in this way, with these hooks.
 fn look_timed<R: Wait + Clock, L: SleepLine>(
     rt: &R,
     alloc: Global,
@@ -559,7 +567,7 @@ where
     Some(look_behind(&line, &mut one, &mut two))
 }
 
-/// How often 256 pauses are timed, and how often node 2 polls so.
+/// How often 256 pauses are timed, and how often node 2 polls in this way.
 const TIMED: u64 = 20;
 
 /// Returns the shortest time that 256 pauses took, in nanoseconds.
@@ -575,8 +583,8 @@ fn time_of_pauses<C: Clock>(clock: &C) -> u64 {
     shortest
 }
 
-/// Between a poll that finds the turn not there and its sleep, a `ParkOnPoll` takes at least half the time of 256 pauses, however often it
-/// is tried. A body that does not pause takes a small part of it.
+/// Between a poll that finds the turn has not come and its sleep, a `ParkOnPoll` takes at least half the time of 256
+/// pauses, however often that is tried. A body that does not pause takes a small part of that time.
 fn each_look_in_vain_pauses<R: Wait + Clock + Abort, L: SleepLine>(rt: &R, alloc: Global)
 where
     L::Port: Drop,
@@ -597,7 +605,7 @@ where
     );
 }
 
-/// Node 2 withdraws its request behind node 1. Returns the answer.
+/// Node 2 withdraws its request behind node 1. Returns the answer of the withdrawal.
 fn withdraw_behind<L: LineSync<Free>>(line: &L, one: &mut L::Port, two: &mut L::Port) -> Option<Out>
     requires belongs_one { L.belongs line.now one.old }
     requires belongs_two { L.belongs line.now two.old }
@@ -613,7 +621,7 @@ fn withdraw_behind<L: LineSync<Free>>(line: &L, one: &mut L::Port, two: &mut L::
     Some(line.withdraw(two))
 }
 
-/// Node 2 withdraws so at a new `ParkOnPoll`.
+/// Node 2 withdraws in this way at a new `ParkOnPoll`.
 fn withdraw_asleep<R: Wait, L: SleepLine>(rt: &R, alloc: Global, notes: &Notes) -> Option<Out>
 where
     L::Port: Drop,
@@ -635,7 +643,7 @@ where
     expect(rt, "nothing is noted", noted, (0, 0, 0));
 }
 
-/// Node 1 releases the line, and node 2 shuts it. Returns the number of noted releases after each.
+/// Node 1 releases the line, and node 2 shuts it. Returns the number of noted releases after each of the two.
 fn let_go_and_shut<L: LineSync<Free>>(
     line: &L,
     one: &mut L::Port,
@@ -696,7 +704,7 @@ impl Hooks for &LooksBefore {
     }
 }
 
-/// Node 1 releases or shuts the line; between its hooks and the release, node 2 polls, which waits behind it.
+/// Node 1 releases or shuts the line. Between its hooks and the release, node 2 polls, which waits behind node 1.
 #[derive(Drop)]
 struct Looking<'n> {
     hooks: &'n LooksBefore,
@@ -789,8 +797,8 @@ where
     all_see_hooked::<R, &Notes, L, Handing>(rt, alloc, 2, notes, &Handing { notes }, &let_go)
 }
 
-/// `acquire_parking` sleeps after 65 polls that found the turn not there, without a limit. Woken ahead of its turn, it polls 65 times again
-/// before it sleeps again.
+/// `acquire_parking` sleeps, without a timeout, after 65 polls that found the turn has not come. If it is woken before
+/// its turn, it polls 65 times again before it sleeps again.
 fn a_long_wait_sleeps<R: Threads + Wait + Abort + Sync, L: SleepLine + Sync>(rt: &R, alloc: Global)
 where
     L::Port: Send + Drop,

@@ -28,7 +28,7 @@ impl Default for NoHooks {
 
 impl Hooks for NoHooks {}
 
-/// The shortest and the longest sleep before the turn, and one sleep when the node was at its turn.
+/// The shortest and the longest sleep before the turn, and one sleep while the node was at its turn.
 #[derive(Clone, Copy, Debug)]
 struct Took {
     shortest: Duration,
@@ -36,7 +36,7 @@ struct Took {
     after: Duration,
 }
 
-/// Measures one sleep of at most `at_most`; `None` if the clock can't be read.
+/// Measures one sleep of at most `at_most`. Returns `None` if the clock cannot be read.
 pub(super) fn sleep_for<R: Wait + Clock, L: ParkingLine<Free>>(
     rt: &R,
     line: &L,
@@ -51,8 +51,9 @@ pub(super) fn sleep_for<R: Wait + Clock, L: ParkingLine<Free>>(
     begin.elapsed(rt).ok()
 }
 
-/// Node 1 holds, nodes 2 and 3 queue. Node 2 sleeps with the limit `at_most` until it has slept so long, and once less than `less`; at most
-/// `times` times. Then node 1 releases, and node 2 sleeps once more with a limit 1,000 times as long.
+/// Node 1 holds the line, and nodes 2 and 3 queue. Node 2 sleeps with the timeout `at_most` until it has slept that
+/// long, and once less than `less`, but at most `times` times. Then node 1 releases, and node 2 sleeps once more with a
+/// timeout 1,000 times as long.
 fn sleep_behind_another<R: Wait + Clock, L: SleepLine>(
     rt: &R,
     alloc: Global,
@@ -93,8 +94,9 @@ where
     })
 }
 
-/// How often node 2 sleeps at most, its limit in microseconds, and a bound in microseconds that the shortest of these sleeps is under. The
-/// system ends a very short sleep some 60 microseconds late, and where many threads want a processor a whole millisecond, mostly.
+/// How often node 2 sleeps at most, its timeout in microseconds, and a bound in microseconds on the shortest of these
+/// sleeps. The system ends a very short sleep some 60 microseconds late. If many threads want a processor, it usually
+/// ends the sleep a whole millisecond late.
 static SLEEPS: [(u32, u64, u64); 4] = [
     (5_000, 200, 1_000),
     (1_000, 4_000, 8_000),
@@ -102,7 +104,7 @@ static SLEEPS: [(u32, u64, u64); 4] = [
     (5, 1_100_000, 2_200_000),
 ];
 
-/// The longest sleep takes at least its limit, and the shortest hardly longer. At its turn a node does not sleep.
+/// The longest sleep takes at least its timeout, and the shortest hardly longer. At its turn a node does not sleep.
 pub(super) fn a_sleep_lasts_as_long_as_it_may<R: Wait + Clock + Abort, L: SleepLine>(
     rt: &R,
     alloc: Global,
@@ -123,11 +125,11 @@ where
     }
 }
 
-/// The number of nodes of a line at which all but one sleep.
+/// The number of nodes of a line at which all nodes but one sleep.
 const NODES: u64 = 200;
 
-/// Node 1 holds the line until all others have slept behind it, ten times each with the limit `at_most`. Each tells whether one of its
-/// sleeps took that long.
+/// Node 1 holds the line until all others have slept behind it, ten times each with the timeout `at_most`. Each node
+/// tells whether one of its sleeps took that long.
 #[derive(Drop)]
 struct Dozing {
     at_most: Duration,
@@ -181,7 +183,7 @@ where
     Ok(all_see(rt, alloc, &line, ports, &dozing, &AtomicU64::new(0)))
 }
 
-/// All 199 waiters sleep at the same time: none stays awake because others sleep.
+/// All 199 waiters sleep at the same time. None stays awake because others sleep.
 pub(super) fn all_sleep_at_the_same_time<
     R: Threads + Wait + Clock + Abort + Sync,
     L: SleepLine + Sync,

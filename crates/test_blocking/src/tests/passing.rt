@@ -19,8 +19,8 @@ use std::time::Duration;
 /// How many milliseconds the third node has to fall asleep.
 const NAP_MILLIS: u64 = 30;
 
-/// The first node holds the line, the second waits behind it, and the third sleeps behind both. The first shuts the line; then the second
-/// withdraws, and so forwards the closed line.
+/// The first node holds the line, the second waits behind it, and the third sleeps behind both. The first node shuts
+/// the line. Then the second one withdraws, and thereby forwards the closed line.
 #[derive(Drop)]
 struct Passing {
     /// The stage that the three nodes have reached.
@@ -147,7 +147,7 @@ where
     );
 }
 
-/// A line on which a node can also ask by two calls.
+/// A line on which a node can also make a request by two calls.
 trait SplitCalls: ParkingLine<Free> {
     /// The first half of a request.
     fn prepend(&self, port: &mut Self::Port) -> Prep
@@ -172,8 +172,8 @@ impl<Q: SplitEnqueue<Free>> SplitCalls for Line<Free, Q> {
     }
 }
 
-/// The first node holds a list, the second has prepended its node but not linked it, and the third sleeps behind both. The first shuts the
-/// list; then the second links, and so forwards the closed line.
+/// The first node holds a list, the second has prepended its node but not linked it, and the third sleeps behind both.
+/// The first node shuts the list. Then the second one links, and thereby forwards the closed line.
 #[derive(Drop)]
 struct LinkingLate {
     passing: Passing,

@@ -9,10 +9,11 @@ use std::thread::Threads;
 use std::time::Duration;
 use test_support::{GRAIN, MemoryLimit};
 
-/// So many threads that their stacks take more than what the heap may keep, 64 megabytes.
+/// This number of threads is so large that their stacks take more than what the heap may keep, which is 64 megabytes.
 const MANY: u64 = 8;
 
-/// So few threads that the stacks of all are kept for others once they have ended: the C library keeps 40 megabytes.
+/// This number of threads is so small that the stacks of all of them are kept for others once they have ended. The C
+/// library keeps 40 megabytes.
 const FEW: u64 = 4;
 
 /// How many bytes an output has: a list of them takes more than a list of handles.
@@ -34,7 +35,7 @@ impl Drop for Output<'_> {
 /// How many naps of a millisecond a thread waits for the others, so that its stack is in use while they start.
 const NAPS: u32 = 1_000;
 
-/// Each thread counts that it works, waits for the others, though not for ever, and returns an output.
+/// Each thread counts that it works, waits for the others for a bounded time, and returns an output.
 #[derive(Drop)]
 struct Working<'a> {
     all: u64,
@@ -65,8 +66,8 @@ impl<'a, R: Wait> ScopedTask<R, u64, u64> for Working<'a> {
     }
 }
 
-/// Runs `all` threads, which wait this many naps, in a room of `bytes` bytes. Returns how many outputs came back, how many threads worked, and
-/// how many outputs were dropped by then.
+/// Runs `all` threads, which wait this many naps, in a room of `bytes` bytes. Returns how many outputs came back, how
+/// many threads worked, and how many outputs were dropped by then.
 fn run_in<R: Threads + Wait + Sync>(
     rt: &R,
     alloc: Global,
@@ -91,7 +92,7 @@ fn run_in<R: Threads + Wait + Sync>(
     Ok((came_back, worked.load(Ordering::SeqCst), by_then))
 }
 
-/// Whether what came back is what all threads returned, or all outputs are dropped.
+/// Whether the call returned the outputs of all threads, or all outputs are dropped.
 fn is_right(found: (Option<u64>, u64, u64), all: u64) -> bool {
     let (came_back, worked, dropped) = found;
     match came_back {
@@ -114,7 +115,7 @@ fn no_output_is_left_behind(rt: HostRuntime) -> Result<(), Fail> {
         half_done = half_done || found.1 > 0;
     }
     expect(&rt, "a later thread was refused", half_done, true);
-    // Now there are stacks for all, so only a list or an output can be refused.
+    // There are now stacks for all threads, so only a list or an output can be refused.
     for grains in 2..4_096usize {
         let found = run_in(&rt, alloc, &limit, GRAIN * grains, FEW, 0)?;
         expect_at(&rt, grains as u64, is_right(found, FEW), true);

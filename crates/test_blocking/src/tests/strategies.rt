@@ -78,7 +78,7 @@ impl<K: Keep, L: LineSync<K>> WaitStrategy<K, L> for InStep<'_> {
 /// How often node 2 polls before node 1 releases or shuts the line.
 const AT_LEAST: u64 = 50;
 
-/// Node 1 holds the line until node 2, which waits by a strategy of its own, has polled so often.
+/// Node 1 holds the line until node 2, which waits by a strategy of its own, has polled that often.
 #[derive(Drop)]
 struct Waiting<'p> {
     polls: &'p Polls,
@@ -110,7 +110,8 @@ impl<R: Wait, L: ParkingLine<Free>> Scene<R, L> for Waiting<'_> {
     }
 }
 
-/// Returns `true` if node 2 of a new line was granted the line, or told, and its strategy was asked in step with its polls.
+/// Returns `true` if node 2 of a new line was granted the line or told that it is closed, and its strategy was asked in
+/// step with its polls.
 fn wait_in_step<R: Threads + Wait + Sync, L: SleepLine + Sync>(
     rt: &R,
     alloc: Global,
@@ -143,8 +144,8 @@ where
 /// How many tries of node 2 are busy before node 1 releases: more than the polls that a waiter makes before it sleeps.
 const BUSY: u64 = 100;
 
-/// Node 1 holds the line, node 2 has withdrawn behind it, and node 3 waits. Node 2 asks again, is busy until node 1 releases, and then waits
-/// behind node 3, which releases once node 2 sleeps.
+/// Node 1 holds the line, node 2 has withdrawn behind it, and node 3 waits. Node 2 requests the line again, is busy
+/// until node 1 releases, and then waits behind node 3, which releases once node 2 sleeps.
 #[derive(Drop)]
 struct Tired<'p> {
     polls: &'p Polls,
@@ -202,7 +203,7 @@ where
     all_see_hooked::<R, &Polls, L, Tired>(rt, alloc, 3, polls, &tired, &let_go)
 }
 
-/// A port that was busy for long polls 65 times before it sleeps, as any other: its wait begins again.
+/// A port that was busy for long polls 65 times before it sleeps, as any other port does: its wait begins again.
 pub(super) fn a_wait_begins_anew_after_busy_tries<
     R: Threads + Wait + Abort + Sync,
     L: SleepLine + Sync,

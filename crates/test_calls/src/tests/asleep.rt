@@ -9,7 +9,8 @@ use std::process::Abort;
 use std::sync::Wait;
 use std::time::Duration;
 
-/// Counts the sleepers after the only waiter has slept for all of its time, and after it was at its turn and so did not sleep.
+/// Counts the sleepers after the only waiter has slept for all of its time, and after it was at its turn and so did not
+/// sleep.
 fn counted_after_a_sleep<R: Wait, L: Instrumented + ParkingLine<Free> + Drop>(
     rt: &R,
     alloc: Global,

@@ -29,7 +29,8 @@ pub(super) enum CallOutcome {
     Steps(u64),
 }
 
-/// Makes a call of this kind for the node, and returns its outcome; `None` if there is no port, or its state forbids the call.
+/// Makes a call of this kind for the node, and returns its outcome. Returns `None` if there is no port, or if its state
+/// forbids the call.
 pub(super) fn answered<L: Instrumented + Drop>(
     row: &mut CheckedLine<L>,
     node: u64,

@@ -62,9 +62,10 @@ where
     Some((line, one, two, three))
 }
 
-/// Of the last three nodes of a line of `nodes` nodes, one holds, and two and three queue. One releases, two shuts the line, and three is
-/// told that it is closed. Returns `Some(true)` if each names its successor's word, one also the word of the waiter behind, and three no
-/// word of theirs; before its first turn one must name `NO_WORD`.
+/// Of the last three nodes of a line of `nodes` nodes, node one holds the line, and nodes two and three queue. Node one
+/// releases, node two shuts the line, and node three is told that it is closed. Returns `Some(true)` if each node names
+/// its successor's word, if node one also names the word of the waiter behind that, and if node three names no word of
+/// theirs. Before its first turn, node one must name `NO_WORD`.
 pub(super) fn each_names_the_next<L: Tells + Drop>(alloc: Global, nodes: u64) -> Option<bool>
 where
     L::Port: Drop,

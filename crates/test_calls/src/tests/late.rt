@@ -167,7 +167,8 @@ where
     Some(row.put(stranger))
 }
 
-/// The ports that `finish` returns, place by place, with one of another line: the node, its state, and whether the port is the line's.
+/// The ports that `finish` returns, place by place, with one of another line: the node, its state, and whether the port
+/// is the line's.
 static BESIDE: [(u64, PortState, bool); 3] = [
     (1, PortState::Left, true),
     (2, PortState::Linking, true),

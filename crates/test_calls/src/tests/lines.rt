@@ -143,7 +143,8 @@ where
     Ok(())
 }
 
-/// Returns why a line of two nodes does not finish without the second port, and its bytes when it finishes with that port.
+/// Returns why a line of two nodes does not finish without the second port, and its bytes when it finishes with that
+/// port.
 fn without_a_port<L: Instrumented + Drop>(alloc: Global) -> Option<(FinishError, [u8; 64])>
 where
     L::Port: Drop,
@@ -172,8 +173,8 @@ where
     expect_eq(rt, "without a port", without_a_port::<L>(alloc), want);
 }
 
-/// Returns why a line of two nodes does not finish with a port of another line, and whether it finishes without it; `None` if it owned that
-/// port.
+/// Returns why a line of two nodes does not finish with a port of another line, and whether it finishes without that
+/// port. Returns `None` if the line owned that port.
 fn beside_a_stranger<L: Instrumented + Drop>(alloc: Global) -> Option<(FinishError, bool)>
 where
     L::Port: Drop,
@@ -217,8 +218,8 @@ where
     Some(row)
 }
 
-/// Finishes the line on this heap. Returns `false` with its bytes; if memory was refused, `true` with the bytes that it finished with
-/// elsewhere.
+/// Finishes the line on this heap. Returns `false` with its bytes; if memory was refused, `true` with the bytes that it
+/// finished with elsewhere.
 fn finished_on<L: Instrumented + Drop>(alloc: Global, heap: &LocalHeap) -> Option<(bool, [u8; 64])>
 where
     L::Port: Drop,
@@ -329,9 +330,9 @@ where
 /// The bytes of a port.
 const PORT: usize = 128;
 
-/// Opens a line in a room that grows by the heap's grain. It is refused for lack of memory until the room holds all
-/// that it allocates, so each of its allocations is refused once. These are its table, two copies of it for a moment,
-/// its ports, and little otherwise.
+/// Opens a line in a room that grows by the heap's grain. Opening is refused for lack of memory until the room holds
+/// all that it allocates, so each of its allocations is refused once. These are the table of the line, two copies of it
+/// for a moment, and the ports of the line, and little else.
 pub(super) fn each_allocation_of_opening_is_refused<R: Abort, L: Instrumented + Drop>(
     rt: &R,
     alloc: Global,
@@ -360,7 +361,8 @@ where
     Err(Fail::from("no room was large enough"))
 }
 
-/// Hands a line of two nodes over. Returns what one node releases and what the next sees; `None` if it was not handed over.
+/// Hands a line of two nodes over. Returns what one node releases and what the next one sees, or `None` if the line was
+/// not handed over.
 fn handed<L: Instrumented + Drop>(alloc: Global) -> Option<(Line64, Line64)>
 where
     L::Port: Drop,

@@ -64,7 +64,7 @@ fn step(text: &str) -> Option<(u64, CallOutcome)> {
     Some((node, said(call, answer)?))
 }
 
-/// The first step, counted from 0, with another answer than the text says, or that can't be read.
+/// The first step, counted from 0, whose answer differs from the text or that cannot be read.
 fn first_difference<L: Instrumented + Drop>(row: &mut CheckedLine<L>, script: &str) -> Option<usize>
 where
     L::Port: Drop,
@@ -83,7 +83,8 @@ where
     None
 }
 
-/// The outcome of a script: the first step that differs, why the line did not finish after the calls, and its bytes at the end.
+/// The outcome of a script: the first step that differs, why the line did not finish after the calls, and its bytes at
+/// the end.
 #[derive(Clone, Copy, Debug, PartialEq)]
 struct Outcome {
     differs: Option<usize>,
@@ -91,8 +92,8 @@ struct Outcome {
     end: Option<[u8; 64]>,
 }
 
-/// The nodes of a line, its lease, the calls, and the calls after `finish` was refused; why it was refused, and byte 0 at the end (the
-/// others are 0).
+/// The nodes of a line, its lease, the calls, and the calls after `finish` was refused; why `finish` was refused, and
+/// byte 0 at the end (the other bytes are 0).
 type Script = (
     u64,
     Option<u64>,
@@ -112,8 +113,8 @@ static SCRIPTS: [Script; 8] = [
         Some(FinishError::Unquiet(2)),
         Some(0),
     ),
-    // a node that withdrew is not clear until a release passes it, which `is_clear` finds by one step; any other port that may ask is clear
-    // without a step
+    // a node that withdrew is not clear until a release passes it, which `is_clear` finds by one step; any other port
+    // that may ask is clear without a step
     (
         3,
         None,

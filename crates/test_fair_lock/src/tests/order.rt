@@ -9,7 +9,7 @@ use std::sync::atomic::Ordering::SeqCst;
 use std::time::{Duration, Instant};
 use std::{io, thread};
 
-/// Holds the lock while these waiters come: each once the one before it has called, and some time later.
+/// Holds the lock while these waiters come. Each of them comes some time after the one before has called.
 fn hold_for<R: Wait + Clock>(rt: &R, lock: &FairLock<u64>, stage: &AtomicU64, waiters: u64) {
     if let Ok(guard) = lock.enter(rt) {
         for waiter in 1..=waiters {
@@ -34,8 +34,8 @@ fn come_as<R: Wait + Clock>(
     append(rt, lock, waiter, has_timeout);
 }
 
-/// None of the waiters has a timeout, each has one, or every second one. A thread may be stopped between its last step before the call and its
-/// request, so not each round has to show the order: three of at most fifty.
+/// Either no waiter has a timeout, or each has one, or every second one has. A thread may be stopped between its last
+/// step before the call and its request, so not each round has to show the order: three of at most fifty rounds must.
 #[test]
 fn thirteen_waiters_are_served_as_they_came(rt: HostRuntime) {
     for (barging_limit, timeouts) in [(1, 0), (1, 1), (1, 2), (2, 0), (8, 2)] {
@@ -141,10 +141,11 @@ impl<R> Clock for Gated<'_, R> {
     }
 }
 
-/// The waiters of a lock up to the one that has the wake word of the first.
+/// The waiters of a lock, up to the one that shares the wake word of the first.
 const WAITERS: u64 = 33;
 
-/// Holds the lock until the first waiter has its ticket and reads its clock, the others have theirs, and the first sleeps behind them.
+/// Holds the lock until the first waiter has its ticket and reads its clock, the others have theirs, and the first
+/// sleeps behind them.
 fn hold_past_the_gate<R: Wait + Clock>(
     rt: &R,
     lock: &FairLock<u64>,
@@ -167,7 +168,7 @@ fn hold_past_the_gate<R: Wait + Clock>(
     }
 }
 
-/// The first and the last waiter have one wake word, and the last slept first.
+/// The first and the last waiter share a wake word, and the last fell asleep first.
 #[test]
 fn both_that_sleep_at_one_word_are_woken(rt: HostRuntime) {
     let lock = lock_of(rt.alloc(), 1, 0).expect(&rt, "memory");
@@ -202,7 +203,8 @@ fn both_that_sleep_at_one_word_are_woken(rt: HostRuntime) {
     assert_eq!(&rt; lock.into_inner(), WAITERS);
 }
 
-/// Enters the lock, and once another thread waits again and again, until that thread was served. Returns how often.
+/// Enters the lock again and again once another thread waits, until that thread was served. Returns how often it
+/// entered.
 fn take_again<R: Wait + Clock>(rt: &R, lock: &FairLock<u64>, stage: &AtomicU64) -> u64 {
     let Ok(guard) = lock.enter(rt) else { return 0 };
     stage.store(1, SeqCst);
@@ -222,7 +224,8 @@ fn take_again<R: Wait + Clock>(rt: &R, lock: &FairLock<u64>, stage: &AtomicU64) 
     1_000_000
 }
 
-/// The queue head sleeps while a newcomer is inside, which then barges again and again: at most as often as the barging limit allows.
+/// The queue head sleeps while a newcomer is inside. The newcomer then barges again and again, but at most as often as
+/// the barging limit allows.
 #[test]
 fn a_queue_head_that_sleeps_is_served_after_the_barging_limit(rt: HostRuntime) {
     for (barging_limit, has_timeout) in [

@@ -72,8 +72,8 @@ pub(super) fn wait_for<R: Wait + Clock>(rt: &R, stage: &AtomicU64, wanted: u64) 
     unreachable!()
 }
 
-/// Holds the lock this often: until that number of threads has come, and then long enough for the others to fall asleep.
-/// Returns how many critical sections there were.
+/// Holds the lock this often: until that number of threads has come, and then long enough for the others to fall
+/// asleep. Returns how many critical sections there were.
 fn hold_while_others_sleep<R: Wait + Clock>(
     rt: &R,
     lock: &FairLock<u64>,
@@ -150,7 +150,8 @@ fn hold_and_draw_again<R: Wait + Clock>(
     append(rt, lock, 2, has_timeout);
 }
 
-/// A thread may be stopped between its last step before the call and its request, so not each round has to show the order.
+/// A thread may be stopped between its last step before the call and its request, so not each round has to show the
+/// order.
 #[test]
 fn a_waiter_is_served_before_a_later_request(rt: HostRuntime) {
     for waiter_has_timeout in [false, true] {

@@ -8,7 +8,7 @@ use std::sync::atomic::AtomicU64;
 use std::sync::atomic::Ordering::SeqCst;
 use std::time::Duration;
 
-/// A clock that moves by a nanosecond at each reading, and counts them; or one that can't be read.
+/// A clock that moves by a nanosecond at each reading, and counts its readings; or a clock that cannot be read.
 #[derive(Drop)]
 struct Ticking<'r, R> {
     /// Allows the clock's reader to wait.
@@ -44,7 +44,7 @@ impl<R> Clock for Ticking<'_, R> {
     }
 }
 
-/// Whether a call times out, with this timeout in nanoseconds, and how often it read the clock.
+/// Returns whether a call times out with this timeout in nanoseconds, and how often it read the clock.
 fn call_that_times_out<R: Wait>(
     rt: &R,
     lock: &FairLock<u64>,
@@ -56,9 +56,9 @@ fn call_that_times_out<R: Wait>(
     (answer == Answer::TimedOut, clock.readings.load(SeqCst))
 }
 
-/// A call begins at its first reading, reads the clock once after each try, and times out at the reading that is `nanos` later; at the
-/// second one at the soonest. The same holds for a call behind 60 requests, which draws no ticket. A call that can't read the clock times out
-/// at the second reading.
+/// A call begins at its first reading, and reads the clock once after each try. It times out at the reading that is
+/// `nanos` later, and at the second one at the earliest. The same holds for a call behind 60 requests, which draws no
+/// ticket. A call that cannot read the clock times out at the second reading.
 #[test]
 fn a_call_that_times_out_reads_the_clock_up_to_its_timeout(rt: HostRuntime) {
     for barging_limit in [1, 2, 8] {
@@ -97,8 +97,8 @@ impl<R: Clock> Clock for Counted<'_, R> {
     }
 }
 
-/// A call that is too far from its turn to draw a ticket naps between two looks, each of which reads the clock: in 50 ms it looks at most 250
-/// times, and a few times before.
+/// A call that is too far from its turn to draw a ticket naps between two looks, each of which reads the clock. In 50
+/// ms it therefore looks at most 250 times, and a few times before.
 #[test]
 fn a_call_far_from_its_turn_naps(rt: HostRuntime) {
     let lock = lock_of(rt.alloc(), 1, 0).expect(&rt, "memory");

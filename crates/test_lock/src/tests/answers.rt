@@ -10,7 +10,7 @@ use lock_core::{
 use std::alloc::Global;
 use std::test::Fail;
 
-/// A new strict lock.
+/// Returns a new strict lock.
 fn strict(alloc: Global) -> Result<TicketTable, Fail>
     ensures table { IfOk result (λ table. IsLockTable table.shared.table_id) }
     ensures strict { IfOk result (λ table. table.shared.key ≤ 1) }
@@ -18,8 +18,8 @@ fn strict(alloc: Global) -> Result<TicketTable, Fail>
     Ok(open(alloc, LockKind::Strict).ok().ok_or("opened")?)
 }
 
-/// A caller holds the lock. Another waits, announces its sleep, and is granted the lock. Returns the rounds and the word of the announcement,
-/// the answer of the release, and the rounds to go after it.
+/// A caller holds the lock. Another waits, announces its sleep, and is granted the lock. Returns the rounds and the
+/// word of the announcement, the answer of the release, and the rounds to go after it.
 fn granted_asleep(lock: &SharedTable) -> Option<(u64, u64, ReleaseResult, u64)>
     requires { IsLockTable lock.now.table_id }
 {
@@ -41,14 +41,14 @@ fn granted_asleep(lock: &SharedTable) -> Option<(u64, u64, ReleaseResult, u64)>
 #[test]
 fn a_sleeper_is_told_of(rt: HostRuntime) -> Result<(), Fail> {
     let table = strict(rt.alloc())?;
-    // One sleeper, and no round is granted in the cell of ticket 1.
+    // There is one sleeper, and no round is granted in the cell of ticket 1.
     let wanted = (1, 1 << 16, ReleaseResult::Granted { sleepers: 1 }, 0);
     assert_eq!(rt; granted_asleep(&table.shared), Some(wanted));
     Ok(())
 }
 
-/// A request is withdrawn, and the release passes it. Returns the withdrawn ticket with its rounds to go, the answer of the release, the
-/// ticket that the release passed last, and the next one.
+/// A caller withdraws its request, and the release passes it. Returns the withdrawn ticket with its rounds to go, the
+/// answer of the release, the ticket that the release passed last, and the next ticket.
 fn passed(lock: &SharedTable) -> Option<(u64, u64, ReleaseResult, u64, DrawNearResult)>
     requires { IsLockTable lock.now.table_id }
 {
@@ -106,8 +106,8 @@ fn draw_one(lock: &SharedTable) -> u64
     draw(lock, &mut seat)
 }
 
-/// A caller holds the lock, and 60 requests wait. Returns the answers to a caller that draws a ticket only near its turn, to one that draws
-/// only if it need not wait, and to one that draws in any case.
+/// A caller holds the lock, and 60 requests wait. Returns the answers to a caller that draws a ticket only near its
+/// turn, to one that draws only if it need not wait, and to one that draws in any case.
 fn drawn_far(lock: &SharedTable) -> Option<(DrawNearResult, Option<u64>, u64)>
     requires { IsLockTable lock.now.table_id }
 {
@@ -133,7 +133,8 @@ fn far_and_busy_draw_no_ticket(rt: HostRuntime) -> Result<(), Fail> {
     Ok(())
 }
 
-/// A caller finds the lock open and shuts it, and two callers behind it find it shut. Returns whether each of these two reopened the lock.
+/// A caller finds the lock open and shuts it, and two callers behind it find it shut. Returns whether each of these two
+/// reopened the lock.
 fn reopened(lock: &SharedTable) -> Option<(bool, bool)>
     requires table { IsLockTable lock.now.table_id }
     requires strict { lock.now.key ≤ 1 }
@@ -164,7 +165,7 @@ fn reopened(lock: &SharedTable) -> Option<(bool, bool)>
     Some((by_second, by_third))
 }
 
-/// After a shut each caller is told of it, until one with nobody behind reopens the lock.
+/// After a shut each caller is told that the lock is shut, until a caller with nobody behind it reopens the lock.
 #[test]
 fn a_shut_lock_is_reopened(rt: HostRuntime) -> Result<(), Fail> {
     let table = strict(rt.alloc())?;
@@ -172,7 +173,7 @@ fn a_shut_lock_is_reopened(rt: HostRuntime) -> Result<(), Fail> {
     Ok(())
 }
 
-/// A caller tells another one what it knows, which then draws a ticket.
+/// A caller tells another caller what it knows, and that caller then draws a ticket.
 fn drawn_after_it_learnt(lock: &SharedTable) -> Option<u64>
     requires { IsLockTable lock.now.table_id }
 {

@@ -10,7 +10,7 @@ use lock_core::{
 use std::alloc::Global;
 use std::test::Fail;
 
-/// A new lock with a barging limit of three.
+/// Returns a new lock with a barging limit of three.
 fn in_threes(alloc: Global) -> Result<TicketTable, Fail>
     ensures table { IfOk result (λ table. IsLockTable table.shared.table_id) }
     ensures barging { IfOk result (λ table. 3 ≤ table.shared.key) }
@@ -18,7 +18,7 @@ fn in_threes(alloc: Global) -> Result<TicketTable, Fail>
     Ok(open(alloc, LockKind::Barging(3)).ok().ok_or("opened")?)
 }
 
-/// What the queue head and a newcomer, which is a thread that barged, are answered.
+/// What the queue head and a newcomer, which is a thread that barged, get as answers.
 #[derive(Clone, Copy, Debug, PartialEq)]
 struct Told {
     held: TakeResult,
@@ -26,7 +26,7 @@ struct Told {
     asleep: HeadSleepResult,
     left: LeaveResult,
     awake: HeadSleepResult,
-    /// Whether another thread barged after that.
+    /// Whether another thread barged after these answers.
     other_in: bool,
     released: ReleaseResult,
 }
@@ -88,8 +88,8 @@ fn a_queue_head_is_told_of(rt: HostRuntime) -> Result<(), Fail> {
     Ok(())
 }
 
-/// A thread barges and leaves by steps that expect a certain lock word. Returns the answers to words that it does not find, and to the
-/// right one.
+/// A thread barges and leaves by steps that expect a certain lock word. Returns the answers to words that it does not
+/// find, and to the right one.
 fn left_as_expected(
     lock: &SharedTable,
 ) -> Option<(BargeResult, BargeResult, LeaveResult, LeaveResult)>

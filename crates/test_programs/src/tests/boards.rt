@@ -46,7 +46,7 @@ where
     Some(eight_tasks(&line, &mut port))
 }
 
-/// Seven tasks are stored, an eighth finds the board full, and the seven are taken in order; then the board is empty.
+/// The board stores seven tasks, is full for an eighth, and returns the seven in order. Then it is empty.
 pub(super) fn tasks_are_taken_in_their_order<R: Abort, L: OpenLine<BoardLaw> + Drop>(
     rt: &R,
     alloc: Global,
@@ -104,7 +104,7 @@ where
     late_node(&line, &mut holder, &mut port)
 }
 
-/// A node that was late is then busy, until its request is passed.
+/// A node that was late is busy afterwards, until its request is passed.
 pub(super) fn a_late_node_is_busy_until_it_is_passed<R: Abort, L: OpenLine<BoardLaw> + Drop>(
     rt: &R,
     alloc: Global,
@@ -132,7 +132,7 @@ where
     Some((puts, found, tries.count()))
 }
 
-/// A busy node asks once, whatever its `patience`.
+/// A busy node makes one try, whatever its `patience`.
 pub(super) fn a_busy_node_asks_once<R: Abort, L: OpenLine<BoardLaw> + ParkingLine<BoardLaw> + Drop>(
     rt: &R,
     alloc: Global,

@@ -11,7 +11,7 @@ use std::sync::Wait;
 use std::test::Fail;
 use std::thread::Threads;
 
-/// Four threads add 1,000 times 1: no addition is lost, and no other byte is written.
+/// Four threads add 1 to the lane 1,000 times each. No addition is lost, and no other byte is written.
 pub(super) fn four_threads_raise_one_count<
     R: Threads + Wait + Sync + Abort,
     L: OpenLine<Free> + Sync + Drop,
@@ -29,8 +29,8 @@ where
     Ok(())
 }
 
-/// In 10,000 rounds a node withdraws while another releases. The count is one for each round, and one for each withdrawal that returned
-/// `Granted`.
+/// In 10,000 rounds a node withdraws while another releases. The count is one for each round, and one for each
+/// withdrawal that returned `Granted`.
 pub(super) fn a_withdrawal_and_a_release_race<
     R: Threads + Wait + Sync + Abort,
     L: OpenLine<Free> + Sync + Drop,

@@ -66,7 +66,7 @@ where
     Some(lines)
 }
 
-/// The total that is settled with this desk alone; `None` if settling is refused.
+/// Returns the total that is settled with this desk alone, or `None` if settling is refused.
 fn total_of<L: LineSync<AccountLaw> + Drop>(
     alloc: Global,
     lines: Vec<L>,
@@ -106,7 +106,7 @@ where
     expect(rt, "a day", day::<L>(alloc), Some(90));
 }
 
-/// The desk's answers at the limits of an account, and the settled total; `None` if memory is refused.
+/// Returns the desk's answers at the limits of an account and the settled total, or `None` if memory is refused.
 fn at_the_limits<L: OpenLine<AccountLaw> + Drop>(
     alloc: Global,
 ) -> Option<([Reply; 5], Option<u128>)>
@@ -213,7 +213,7 @@ where
     Ok(())
 }
 
-/// The desk's answers over two lines, and the settled total; `None` if memory is refused.
+/// Returns the desk's answers over two lines and the settled total, or `None` if memory is refused.
 fn moved_across<L: OpenLine<AccountLaw> + Drop>(alloc: Global) -> Option<([Reply; 2], Option<u128>)>
 where
     L::Port: Drop,
@@ -234,7 +234,7 @@ where
     expect(rt, "over two lines", moved_across::<L>(alloc), want);
 }
 
-/// The desk's answers at the limit of an account, and the settled total; `None` if memory is refused.
+/// Returns the desk's answers at the limit of an account and the settled total, or `None` if memory is refused.
 fn moved_to_a_full_account<L: OpenLine<AccountLaw> + Drop>(
     alloc: Global,
 ) -> Option<([Reply; 3], Option<u128>)>
@@ -371,8 +371,8 @@ where
     Some(busy(&lines, &mut desk, &lines[0], &mut other, 10))
 }
 
-/// Two payments and a transfer ask once each for a line at which the desk's node is busy, whatever their `patience`: at this line a call
-/// that asks more often does not end.
+/// Two payments and a transfer each try once at a line at which the desk's node is busy, whatever their `patience`. At
+/// this line, a call that tries more often does not end.
 pub(super) fn a_busy_desk_asks_once<
     R: Abort,
     L: OpenLine<AccountLaw> + ParkingLine<AccountLaw> + Drop,
@@ -390,8 +390,8 @@ where
     );
 }
 
-/// The answers to node 2 and to the desk of node 1, over two lines of which the second has a lease of one turn. A transfer that waits for
-/// the first line has not used that turn.
+/// The answers to node 2 and to the desk of node 1, over two lines of which the second has a lease of one turn. A
+/// transfer that waits for the first line has not used that turn.
 fn waits_for_the_lower<L: OpenLine<AccountLaw> + Drop>(
     alloc: Global,
     from: u64,
@@ -424,7 +424,8 @@ where
     );
 }
 
-/// The number of customers that transfer, and of the transfers of each: over three locks they make a million.
+/// The number of customers that transfer, and the number of transfers of each. Over the three kinds of lines they make
+/// a million.
 pub(super) const CUSTOMERS: u64 = 4;
 
 const ROUNDS: u64 = 84_000;
@@ -496,8 +497,8 @@ where
     Some((paid, found))
 }
 
-/// Settles in a room that grows by the heap's grain: refused for lack of memory, without returning the lines, until the
-/// room holds all that it allocates.
+/// Settles in a room that grows by the heap's grain. Settling is refused for lack of memory, without returning the
+/// lines, until the room holds all that it allocates.
 pub(super) fn settling_is_refused_for_want_of_memory<R: Abort, L: OpenLine<AccountLaw> + Drop>(
     rt: &R,
     alloc: Global,

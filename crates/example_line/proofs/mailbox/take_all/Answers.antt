@@ -2,7 +2,7 @@ use Rattle.std.proofs.Common.{◌≡◌, ℕ, ◌+◌, ◌%◌, ◌^◌, arith}
 use Rattle.example_line.proofs.Exchanging.{takes_one}
 use Rattle.example_line.proofs.mailbox.take_all.Goals as goal
 
--- the sum with one value more
+-- the sum with one more value
 one_more : (sum value taken : ℕ) → sum ≡ taken % 2 ^ 64 → (sum + value) % 2 ^ 64 ≡ (taken + value) % 2 ^ 64
 one_more sum value taken is = omega (arith, is)
 

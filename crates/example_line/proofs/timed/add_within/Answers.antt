@@ -7,7 +7,7 @@ use Rattle.qolb_model.proofs.Going.{asks_goes}
 use Rattle.example_line.proofs.Counting.{round_places, round_unshut, round_added, ungranted_adds_nothing}
 use Rattle.example_line.proofs.timed.add_within.Goals as goal
 
--- what was asked before the turn is asked after it
+-- a request that was made before the turn is still made after it
 pub returns-in-Granted-clause-asks : goal.returns-in-Granted-clause-asks
 returns-in-Granted-clause-asks g c in_time =
     let asked = c.acquire_timeout-got.ensures.acquires.asks in_time in
@@ -34,7 +34,7 @@ returns-in-Granted-clause-adds g c in_time known =
       added = round_added _ old mid c.requires.state sound.own_history known a.continues asks new _ _ granted releases c.add_one.ensures.added;
     }
 
--- without a turn nothing is added
+-- without a turn, nothing is added
 pub returns-in_default-clause-adds_nothing : goal.returns-in_default-clause-adds_nothing
 returns-in_default-clause-adds_nothing g c other known =
     let sound = g.met.L.LineSync.sound c.args.line.now c.args.port.now c.requires.belongs in

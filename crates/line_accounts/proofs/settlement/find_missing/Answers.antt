@@ -9,7 +9,7 @@ use Rattle.line_accounts.specs.Desks.{DeskOf}
 use Rattle.line_accounts.specs.Settled.{HasPort}
 use Rattle.line_accounts.proofs.settlement.find_missing.Goals as goal
 
--- one line more has all its ports
+-- one more line has all its ports
 there_more : {Line Port : Type 0} (view : Port → View) (config_of : Line → LineConfig) (lines : List Line) (desks : List (DeskOf Port)) (index : ℕ) (here : Line) → slice_get lines index ≡ Some here → EachNode (config_of here).nodes (HasPort view desks index)
     → ((j : ℕ) (line : Line) → j < index → slice_get lines j ≡ Some line → EachNode (config_of line).nodes (HasPort view desks j))
     → (j : ℕ) (line : Line) → j < index + 1 → slice_get lines j ≡ Some line → EachNode (config_of line).nodes (HasPort view desks j)

@@ -6,7 +6,7 @@ use Rattle.qolb_model.proofs.Lists.{same_some}
 use Rattle.line_accounts.specs.Desks.{DeskOf}
 use Rattle.line_accounts.proofs.settlement.is_there.Goals as goal
 
--- one desk more lacks the port
+-- one more desk lacks the port
 lacks_more : {Port : Type 0} (view : Port → View) (desks : List (DeskOf Port)) (i node index : ℕ) (here : DeskOf Port) (seen : Port) → slice_get desks index ≡ Some here → slice_get here.ports i ≡ Some seen → (view seen).node ≢ node
     → ((k : ℕ) (desk : DeskOf Port) (port : Port) → k < index → slice_get desks k ≡ Some desk → slice_get desk.ports i ≡ Some port → (view port).node ≢ node)
     → (k : ℕ) (desk : DeskOf Port) (port : Port) → k < index + 1 → slice_get desks k ≡ Some desk → slice_get desk.ports i ≡ Some port → (view port).node ≢ node

@@ -4,7 +4,7 @@ use Rattle.std.specs.PromisedHandle.{KeepsAt}
 use Rattle.std.proofs.Common.{rules, arith, below_more, refl, sym, subst}
 use Rattle.line_blocking.proofs.scoped.join_into.Goals as goal
 
--- The handle that is joined stood first among the rest, so it is the one at the next place.
+-- The handle that is joined was the first among the rest, so it is the one at the next place.
 pub loop-handle-preserved : goal.loop-handle-preserved
 loop-handle-preserved g c =
     let was = c.loop-handle.invariant in let step = c.in-Some.ensures.steps in let done = vec_len c.loop-handle.outputs in

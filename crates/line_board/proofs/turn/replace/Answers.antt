@@ -9,7 +9,8 @@ use Rattle.line_board.specs.Law.{Changes}
 use Rattle.line_board.proofs.Turns.{had_turn, new_bytes, new_mask}
 use Rattle.line_board.proofs.turn.replace.Goals as goal
 
--- `long` is what the type `[u8; 64]` of the new line's bytes says: a search finds it too, but has to read all that is known for it
+-- `long` is what the type `[u8; 64]` of the new line's bytes says. A search finds it too, but has to read all that is
+-- known for it.
 pub release-requires-clause-allowed : goal.release-requires-clause-allowed
 release-requires-clause-allowed g c =
     let v = g.L.LineSync.view c.args.port.now in

@@ -5,7 +5,7 @@ use Rattle.std.proofs.lemmas.Simd.{pick_l_whole}
 use lib.Pow.{shr-shr}
 use Rattle.line_lanes.proofs.write.mask_bytes.Goals as goal
 
--- two bytes of the mask and then the next two are four
+-- two bytes of the mask, followed by the next two, are four
 four_bytes : (mask : ℕ) (low high : List ℕ) → length low ≡ 16 → ((k : ℕ) → k < 16 → get_or low k 0 ≡ mask / 2 ^ (8 * (k / 8)) % 256) → ((k : ℕ) → k < 16 → get_or high k 0 ≡ mask / 2 ^ 16 / 2 ^ (8 * (k / 8)) % 256) → (k : ℕ) → k < 32 → get_or (low ++ high) k 0 ≡ mask / 2 ^ (8 * (k / 8)) % 256
 four_bytes mask low high long at_low at_high k h = go (cases_order k 16)
   where

@@ -9,7 +9,7 @@ use Rattle.link_line.proofs.Stepping.{goes_trans}
 use Rattle.link_line.proofs.Released.{one_more, lets_out, lets_left, lets_on, walk_nodes, same_slot}
 use Rattle.link_line.proofs.release.release.Goals as goal
 
--- steps that were counted from none on
+-- steps that are counted from 0 on
 after_none : {allows : List ℕ → List ℕ → Type 0} (s t : LinkSeat) (n steps : ℕ) → steps ≡ 0 + n → Advances allows s.me t.me n → Advances allows s.me t.me steps
 after_none {allows} s t n steps is goes = let e : n ≡ steps = omega (arith, is) in subst (Advances allows s.me t.me) e goes
 

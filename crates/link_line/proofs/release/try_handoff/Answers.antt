@@ -6,7 +6,7 @@ use Rattle.link_line.proofs.Stepping.{goes_trans}
 use Rattle.link_line.proofs.Handing.{hands_left, hands_out, hands_passed}
 use Rattle.link_line.proofs.release.try_handoff.Goals as goal
 
--- a node of the line as a port knows it two steps later is one of the line
+-- a node that is of the line by the view of a port two steps later is of the line
 one_of : {allows : List ℕ → List ℕ → Type 0} (s t u : LinkSeat) (nodes n a b : ℕ) → KnowsNodes nodes s → Advances allows s.me t.me a → Advances allows t.me u.me b → IsWithin (ghost_of u).view.config.nodes n → IsWithin nodes n
 one_of s t u nodes n a b size first next w =
     let e : (ghost_of t).view.config.nodes ≡ (ghost_of s).view.config.nodes = ap (λ (t : LineConfig). t.nodes) first.extends.config in

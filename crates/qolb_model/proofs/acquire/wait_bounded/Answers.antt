@@ -34,7 +34,7 @@ loop-preserved g c =
       count = polls.count ∙ c.loop.invariant.count;
     }
 
--- what `withdraw` promises is at hand; a wait that ends without it has nothing to say
+-- what `withdraw` promises is at hand; a wait that ends without `withdraw` needs nothing
 pub returns-clause-withdraws : goal.returns-clause-withdraws
 returns-clause-withdraws g c = withdraws_later _ _ _ _ _ c.loop.invariant.extends c.loop.invariant.count _ assumption
 

@@ -1,4 +1,4 @@
--- `get_mut` tests the pointer and lends the node behind it. What the caller does to the node, it does to the handle.
+-- `get_mut` tests the pointer and lends the node behind it. A change of the node is a change of the handle.
 use Rattle.std.proofs.Common.{◌≡◌, ℕ, List, [], ◌∷◌, refl, sym, ap, ◌∙◌, lit<}
 use seplogic.Ra.Ura.{Ura}
 use base.Fraction.{full_share}
@@ -55,7 +55,7 @@ stayed = (stay_dropped (RefMutOf (0 ∷ []) tt (plain (λ _. R)) (λ _. tt)) no,
 abbrev lent : Body
 lent = seq (assign (place 6 []) (rv_opd (copy (place 7 [])))) (assign (place 5 []) (aggregate (int w8 1 ∷ copy (place 6 []) ∷ [])))
 
--- all that a handle with a node owns but the node
+-- all that a handle with a node owns, except the node
 abbrev Rest : Ptr → R.Denot → List Val → ℕ → ℕ → Fml
 Rest p d us rb ro = fsep (may_free (bare (lone N.mir)) p) (fsep (Data.own_val (d.at, tt) us) (cell_at full_share R.mir us rb ro))
 
