@@ -1,8 +1,8 @@
-/* Abandoned tickets: those of calls that timed out when their turn was too far away to withdraw the request
- * (entries.h). This file is tested and model-checked, and not proved.
+/* Abandoned tickets, which belong to calls that timed out when their turn was too far away for a withdrawal
+ * (entries.h). This file is tested and model-checked, but not proved.
  *
- * The thread that grants an abandoned ticket passes it on. The number of a ticket decides which guard it has, so that
- * calls which give up at the same time do not all wait for one guard. */
+ * The thread that grants an abandoned ticket passes the turn on to the next ticket. Several guards share the work,
+ * chosen by the ticket's number, so that calls that time out at the same moment do not all wait for one guard. */
 #include "entries.h"
 #include <errno.h>
 #include <stdlib.h>

@@ -1,13 +1,15 @@
-/* Conditions of locks, and telling their waiters that the lock is shut (lock.h). This file is tested and model-checked,
- * and not proved.
+/* Conditions of locks: waiting, signalling, and notifying all waiters when the lock is shut (lock.h). This file is
+ * tested and model-checked, but not proved.
  *
- * A waiter has a `struct waiter` on its stack, which is in two lists. One is the list of the condition, under a guard;
- * a signal takes the first waiter out of it. The other is the list of the lock, which only the holder uses; a shut
- * tells all waiters in it. The waiter sleeps on the word `told` of its struct, which is set once.
+ * A thread that waits on a condition has a `struct waiter` on its stack, which is in two lists. The list of the
+ * condition is protected by a guard, and a signal removes the first waiter from it. The list of the lock is used only
+ * by the holder, and a shut notifies all waiters in it. The thread sleeps on the word `told` of its struct, which is
+ * set once.
  *
- * The lock must not be destroyed while a thread waits. Therefore the waiter is counted as a thread without a ticket
- * from before it leaves the lock until it has a ticket again. A waiter that is told of a shut also requests the lock.
- * It is answered CLOSED at its turn, when the shut is complete. */
+ * The lock must not be destroyed while a thread waits on a condition. Therefore the lock counts this thread among the
+ * threads without a ticket, from before the thread leaves the lock until it has a ticket again. A waiter that is
+ * notified of a shut also requests the lock, and gets the result CLOSED when its turn comes, after the shut is
+ * complete. */
 #include "entries.h"
 
 enum { NOTHING, SIGNALLED, SHUT };

@@ -1,18 +1,20 @@
-/* Entering a lock, from the call until the thread holds it (lock.h). Tested and explored, not proved.
+/* Entering a lock: from the call until the thread holds the lock (lock.h). This file is tested and model-checked, but
+ * not proved.
  *
- * A strict lock: draw a ticket; from that step on the call is in the order. Wait for its turn, and look whether the
- * lock is open. A barging lock: take the lock word as a barging thread, if that is free for anyone, or becomes free
- * while the thread spins; else draw a ticket, wait for its turn, take the lock word as the queue head, and release the
- * turn of the queue.
+ * To enter a strict lock, a thread draws a ticket, which fixes its place in the order. It waits until its turn has
+ * come, and then checks that the lock is open. To enter a barging lock, a thread takes the lock word if the word is
+ * free and not reserved for the queue head, or becomes so while the thread spins. Otherwise the thread draws a ticket,
+ * waits until its turn has come, takes the lock word as the queue head, and releases its turn in the queue.
  *
- * A waiter polls, spins by spin.h, and then announces its sleep by a proved call, whose answer has the value to sleep
- * at. It sleeps while the word has that value, retracts, and looks again. The thread that grants is told by the same
- * step how many sleep there, and wakes them by address, unless nobody waits for the ticket. There is no other
- * handshake.
+ * A waiting thread polls and spins as spin.h decides. Then it announces its sleep with a proved call, which returns the
+ * value that the word now has. The thread sleeps while the word has this value, retracts its announcement when it
+ * wakes, and polls again. The atomic step that grants a ticket also returns the number of announced sleepers to the
+ * granting thread. That thread wakes the sleepers by the address of the word, unless no thread waits for the ticket. No
+ * other handshake is needed.
  *
- * A call that times out withdraws, or abandons its ticket if its turn is too far for that. A call that may not wait
- * draws a ticket only if that can be withdrawn. While too many requests are open a call with a timeout draws none: it
- * waits without a ticket, and looks every millisecond. */
+ * A call that times out withdraws its request, or abandons its ticket if the turn is too far away for a withdrawal. A
+ * call that may not wait draws a ticket only if it could withdraw the request. While too many requests are open, a call
+ * with a timeout draws no ticket; it looks at the lock every millisecond instead. */
 #include "entries.h"
 #include <stdlib.h>
 

@@ -1,18 +1,19 @@
-/* Entries: the tickets for which no thread waits, in lists by the lock's address and the ticket's number. abandoned.c
- * has the entries of calls that timed out, and tasks.c has those of tasks.
+/* Entries: lists of the tickets for which no thread waits. The lists are searched by the lock's address and the
+ * ticket's number. abandoned.c has the entries of calls that timed out, and tasks.c has the entries of tasks.
  *
- * A ticket's entry is first put into its list. Then the ticket's sleep is announced by the proved call. Therefore a
- * thread that grants the ticket is told of a sleeper, looks at the list, and finds the entry. If the ticket is at its
- * turn already, the entry is taken out again.
+ * A ticket's entry is put into its list before the proved call announces the ticket's sleep. So a thread that grants
+ * the ticket is told of a sleeper, searches the list, and finds the entry. If the ticket's turn has come before the
+ * announcement, the entry is removed again.
  *
- * The granting thread knows only the lock's address and label, because the lock may no longer exist. While a list has
- * an entry of a lock, this lock exists. If the memory has become another lock, an entry of that lock has another label,
- * and is left to the thread that grants there. A thread that takes an entry out first takes back the announced sleep.
- * Only then does it pass the turn on, withdraw, or tell the task, because after any of these the lock may be gone.
+ * The granting thread knows only the lock's address and label, because the lock may no longer exist. A lock exists as
+ * long as a list contains an entry for it. If the memory now contains another lock, the entries of that lock have
+ * another label, and the granting thread leaves them alone. A thread that removes an entry first retracts the announced
+ * sleep. Only then does it pass the turn on, withdraw the request, or notify the task, because after any of these the
+ * lock may no longer exist.
  *
- * The entries of a lock are counted from before they are put in until after they are taken out. While there are none, a
- * thread that is told of a sleeper looks at no list. The count is here and not in the lock, because the lock may be
- * gone by then. */
+ * The library counts the entries of a lock, from before an entry is put into a list until after it is removed. While
+ * this count is zero, a thread that is told of a sleeper searches no list. The count is not stored in the lock, because
+ * the lock may no longer exist when the count is read. */
 #ifndef QOLB_ENTRIES_H
 #define QOLB_ENTRIES_H
 

@@ -1,18 +1,19 @@
-/* Leaving a lock and deciding whom to wake (lock.h); shutting and destroying it. This file is tested and model-checked,
- * and not proved.
+/* Leaving a lock and deciding which threads to wake, and shutting and destroying a lock (lock.h). This file is tested
+ * and model-checked, but not proved.
  *
- * A thread that leaves a strict lock releases a turn of the queue; one that leaves a barging lock releases the lock
- * word. After this step the lock's memory may be gone, because the thread that enters next may free it. Therefore the
- * code that follows has a `struct released` and no pointer to the lock. Only an entry can give it a pointer, because a
- * lock exists while one of its entries is in a list.
+ * A thread that leaves a strict lock releases a turn of the queue; a thread that leaves a barging lock releases the
+ * lock word. After this atomic step the lock's memory may be freed by the thread that enters next. Therefore the code
+ * that follows uses a `struct released` instead of a pointer to the lock. Only an entry (entries.h) can supply such a
+ * pointer, because a lock exists as long as a list contains an entry for it.
  *
- * A releasing thread is told how many threads sleep at the cell of the granted ticket. It wakes them, unless no thread
- * waits for the ticket. A ticket that a call abandoned, or that a task gave up, is passed on. If the ticket is a
- * task's, the task is due, and its callback is called. A thread that slept for its own turn also wakes the waiter
- * behind the next holder, so that this wake-up overlaps the next holder's critical section.
+ * The release returns to the releasing thread how many threads sleep on the cell of the granted ticket. The releasing
+ * thread wakes them, unless the ticket has an entry. If a call abandoned the ticket, or a task gave it up, the
+ * releasing thread passes the turn on. If the ticket belongs to a waiting task, the releasing thread marks the task as
+ * due and calls its callback. A thread that slept until its own turn also wakes the waiter behind the next holder, so
+ * that this wake-up overlaps the next holder's critical section.
  *
- * A thread that is told that the lock is shut passes its turn on. Destroying a lock tries to enter it, and succeeds if
- * there is no holder, no waiter, and no thread without a ticket in a call. */
+ * A thread whose turn comes when the lock is shut passes the turn on. Destroying a lock tries to enter it, and succeeds
+ * if the lock has no holder and no waiter, and no thread without a ticket is in a call. */
 #include "entries.h"
 
 #define likely(it) __builtin_expect(!!(it), 1)

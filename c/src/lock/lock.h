@@ -1,22 +1,22 @@
-/* The C code around the proved core of a lock (qolb_lock(3)): the layout of a lock's bytes, and the functions by which
- * the files of this folder call each other.
+/* The C code around the proved core of a lock (qolb_lock(3)): the layout of a lock's bytes, and the functions that the
+ * files of this folder offer each other.
  *
- * The decision logic is proved: each step on a shared word that grants, passes, withdraws, shuts or counts is a call of
- * core.h, with the lock and a ticket. The files of this folder find the ticket, spin, sleep and wake. A file calls only
- * files below it in this list:
+ * The decision logic is proved: each atomic step that grants, passes on, withdraws, shuts or counts is taken by a call
+ * of core.h, which gets the lock and a ticket. The files of this folder look up the ticket, spin, sleep and wake. A
+ * file calls only files that are below it in this list:
  *
- *   conditions.c   waiting at a condition, and telling all that wait there of a shut
- *   tasks.c        tasks, which enter and leave without a thread that waits
- *   enter.c        entering and trying, with the waits for a turn of the queue and for the lock word
- *   leave.c        leaving, shutting, destroying: passing a turn on, and whom to wake
- *   abandoned.c    the tickets of calls that timed out far from their turn
- *   entries.h      lists of tickets for which no thread waits, and their guards
+ *   conditions.c   waits on a condition, and notifies its waiters of a shut
+ *   tasks.c        tasks, which enter and leave without a waiting thread
+ *   enter.c        enters and tries; waits for a turn of the queue and for the lock word
+ *   leave.c        leaves, shuts and destroys; passes turns on, and decides which threads to wake
+ *   abandoned.c    tickets of calls that timed out far from their turn
+ *   entries.h      lists of the tickets for which no thread waits, and the guards of these lists
  *   turns.c        the thread's table of the locks that it holds
- *   opens.c        opening a lock in its own bytes, at its first use
- *   ../core.h      the proved calls; ../spin.h how long to spin; ../futex.h the clock, and sleep; ../guard.h guards;
- *                  ../callbacks.h calls of tasks' callbacks
+ *   opens.c        opens a lock in its own bytes, at its first use
+ *   ../core.h      the proved calls; ../spin.h how long to spin; ../futex.h the clock and sleeping; ../guard.h guards;
+ *                  ../callbacks.h the callbacks of tasks
  *
- * This code is tested and model-checked (tools/explore_lock.py), and not proved. */
+ * This code is tested and model-checked (tools/explore_lock.py), but not proved. */
 #ifndef QOLB_LOCK_H
 #define QOLB_LOCK_H
 

@@ -1,11 +1,11 @@
-/* Opening a lock in its own bytes, at its first use (lock.h). This file is tested and model-checked, and not proved.
+/* Opens a lock in its own bytes when it is first used (lock.h). This file is tested and model-checked, but not proved.
  *
  * The first thread that finds NULL in `core.at` stores OPENING there, opens the lock, and then stores the core's
  * address. A thread that finds OPENING stores AWAITED and sleeps on it. The opening thread wakes the sleepers if it
- * finds AWAITED. So the lock is opened once, and a thread that has to wait for this sleeps.
+ * finds AWAITED. So each lock is opened only once, and threads that must wait for the opening sleep.
  *
- * The blocks of the core are bytes of the lock: the proved part requests memory from heap.c, which gives it these
- * blocks one after the other. Therefore opening cannot fail, and nothing has to be freed. */
+ * The memory of the core is part of the lock: when the proved part requests its blocks from heap.c, heap.c returns
+ * parts of the lock's bytes, one after the other. Therefore opening cannot fail, and nothing has to be freed. */
 #include "lock.h"
 
 /* Opens the core, in the thread that has stored OPENING. */

@@ -1,19 +1,19 @@
-/* Tasks, which enter a lock without a thread that waits (qolb_task(3)). This file is tested and model-checked, and not
+/* Tasks, which enter a lock without a waiting thread (qolb_task(3)). This file is tested and model-checked, but not
  * proved.
  *
- * A task draws a ticket as a thread does. While the task waits, an entry has its ticket (entries.h). The thread that
- * grants this ticket, or that leaves the lock word, makes the task due and calls its callback (../callbacks.c). From
- * then on the task has the turn. Its poll looks whether the lock is open, and passes on what the task must not keep.
- * Therefore tasks are told of a shut one after the other. The entry is allocated before the ticket is drawn, so only
- * the call that enters can run out of memory.
+ * A task draws a ticket as a thread does. While the task waits, its ticket is in an entry (entries.h). The thread that
+ * grants this ticket, or that leaves the lock word to the task, marks the task as due and calls its callback
+ * (../callbacks.c). From then on the task has the turn. When the task polls, the library checks whether the lock is
+ * open, and passes the turn on if the task may not keep it. Therefore a shut reaches waiting tasks one after the other.
+ * The entry is allocated before the ticket is drawn, so only the call that enters can run out of memory.
  *
- * A task at its turn of the queue of a barging lock is the queue head, but it cannot watch the lock word. If the lock
- * word is held, the task's entry is put into the list of heads. Then the handoff is requested, so that no barging
- * thread follows the holder, and the head's sleep is announced. The leaving thread is told of the sleep, looks at the
- * list of heads, and takes the lock word for the task.
+ * When its turn comes, a task of a barging lock becomes the queue head, but it has no thread that could watch the lock
+ * word. If the lock word is held, the library puts the task's entry into the list of queue heads. Then it requests the
+ * hand-over, so that no barging thread follows the holder, and announces that the head sleeps. The leaving thread is
+ * told of the sleep, searches the list, and takes the lock word for the task.
  *
- * All tasks of a lock have one guard. No callback is called under it: a thread that passes a turn on or leaves calls
- * callbacks last, when everything else is done, because a callback may use any task and lock. */
+ * One guard protects all tasks of a lock. Callbacks are called without this guard. A thread that passes a turn on or
+ * leaves calls callbacks only after everything else is done, because a callback may use any task and any lock. */
 #include "entries.h"
 
 struct entries qolb_tasks_;
