@@ -1,15 +1,15 @@
-/* Callbacks, which the library calls instead of waking a thread. A node or a task that waits without a thread has a
- * callback in a list, that of its line or that of its task's row (callbacks.h). This file is tested and model-checked,
- * and not proved.
+/* Calls the callbacks of waiters that have no thread (callbacks.h). A node or a task that waits without a thread puts a
+ * callback into a list, which belongs to its line or, for tasks, to a row of a table. The releasing thread calls this
+ * callback instead of waking a thread. This file is tested and model-checked, but not proved.
  *
- * A waiter takes the list's guard, puts its callback into the list, counts it, and polls. The thread that releases the
- * line or lock loads the count after its release. If the count is 0, the waiter polls after the release, and needs no
- * call. Otherwise the releasing thread takes the guard, and finds the callback in the list exactly if the poll returned
- * WAITING.
+ * A waiter takes the guard of the list, puts its callback into the list, increments the list's count, and polls. The
+ * releasing thread reads the count after its release. If the count is 0, the waiter will poll after the release and
+ * find the grant without being called. Otherwise the releasing thread takes the guard and looks for the callback, which
+ * is in the list exactly if the waiter's poll returned WAITING.
  *
- * The releasing thread takes the callback out of the list, notes the call that it is about to make (the note is on its
- * stack), and makes the call without the guard. Once the call has begun, the thread does not touch the callback,
- * because its node may be freed, and its task may no longer exist. */
+ * The releasing thread removes the callback from the list, records on its own stack that it is about to call it, and
+ * calls it without holding the guard. Once the call has begun, the thread no longer touches the callback's memory,
+ * because the program may free the node or end the task in this call. */
 #define _GNU_SOURCE
 #include "callbacks.h"
 #include "qolb.h"

@@ -1,8 +1,9 @@
-/* Callbacks: functions of the program that the library calls, instead of waking a thread, when a node or a task is at
- * its turn (callbacks.c). calls.c uses them for nodes, and lock/tasks.c for tasks.
+/* Callbacks: functions that the program supplies. When the turn of a node or a task comes, the library calls its
+ * callback instead of waking a thread (callbacks.c). calls.c uses this header for nodes, and lock/tasks.c uses it for
+ * tasks.
  *
- * The callbacks of nodes are in their line (line.h). Those of tasks are here and not in their locks, because the memory
- * of a lock may be freed while a thread that left it is still in that call. */
+ * The callbacks of nodes are stored in their line (line.h). The callbacks of tasks are stored here and not in the lock,
+ * because the memory of a lock may be freed while a thread that has left the lock is still inside `qolb_lock_leave`. */
 #ifndef QOLB_CALLBACKS_H
 #define QOLB_CALLBACKS_H
 

@@ -1,9 +1,9 @@
-/* The calls on nodes, as the library exports them. Each makes the proved call of the same name. A call that releases
- * the line then wakes the next holder (line.h). This file also has the waits for a turn, and the requests for a
- * callback (callbacks.h).
+/* The library's calls on nodes. Each of them makes the proved call of the same name (proved.h); a call that releases
+ * the line then wakes the next holder (line.h). This file also contains the calls that wait for a node's turn, and
+ * those that register a callback (callbacks.h).
  *
- * line.c opens lines and frees nodes. Only these two calls write to a handle, so handles of different threads may lie
- * side by side. This file is tested and model-checked, and not proved. */
+ * line.c opens lines and frees nodes. Only these two calls write to a handle, so the handles of different threads may
+ * be adjacent in memory. This file is tested and model-checked, but not proved. */
 #define _GNU_SOURCE
 #include "hints.h"
 #include "line.h"

@@ -1,5 +1,5 @@
-/* Features of the compiler that all internal files of the library use: the visibility of names, thread-local data, and
- * the distance that keeps data apart. */
+/* Macros for compiler features that all internal files of the library use: the visibility of symbols, thread-local
+ * data, and the distance in bytes that keeps two objects out of one cache line. */
 #ifndef QOLB_COMMON_H
 #define QOLB_COMMON_H
 

@@ -1,6 +1,6 @@
-/* The clock, and the system calls by which threads sleep and wake (futex.h). On Linux these are futex calls, and those
- * for locks use a bit set of classes. On other systems a sleeper polls again after 200 us. This file is tested and not
- * proved. */
+/* Reads the clock, and puts threads to sleep and wakes them (futex.h). On Linux this file makes futex calls; the calls
+ * for locks pass a bit set, so that a wake-up reaches only one class of sleepers. On other systems a sleeping thread
+ * looks again every 200 us. This file is tested, but not proved. */
 #define _GNU_SOURCE
 #include "futex.h"
 #include <errno.h>

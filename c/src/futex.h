@@ -1,6 +1,6 @@
-/* The clock of timeouts, and sleeping at a word of memory until another thread wakes the sleepers of this word (a
- * futex). All files of the library that wait use it. Nodes sleep at a place of their line (line.h), and threads that
- * wait for a lock sleep at the lock's own words (lock/). */
+/* The clock that timeouts use, and sleeping on a word of memory until another thread wakes the word's sleepers (a
+ * futex). All files of the library that wait use this header. A thread that waits with a node sleeps on a word of its
+ * line (line.h), and a thread that waits for a lock sleeps on one of the lock's own words (lock/). */
 #ifndef QOLB_FUTEX_H
 #define QOLB_FUTEX_H
 

@@ -1,5 +1,5 @@
-/* Guards: small mutexes that the library takes for a moment, for its lists of callbacks (callbacks.c) and of entries
- * (lock/entries.h). */
+/* Guards: small mutexes that the library holds only briefly. They protect its lists of callbacks (callbacks.c) and of
+ * entries (lock/entries.h). */
 #ifndef QOLB_GUARD_H
 #define QOLB_GUARD_H
 

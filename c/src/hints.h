@@ -1,15 +1,15 @@
-/* Prefetches the cache lines that a node is about to read or write. Nothing depends on a prefetch: a wrong one only
- * costs time. calls.c uses this file for polls and releases.
+/* Prefetches the cache lines that a node is about to read or write, for the polls and releases in calls.c. The result
+ * of a call never depends on a prefetch; a wrong prefetch only costs time.
  *
- * A node of a ring or a ticket line that is granted the line reads the bytes from a slot, which its predecessor wrote
- * just before the grant. Therefore the node prefetches the slot with each poll. With the poll that finds the grant, the
- * slot arrives at the same time as the cell. A prefetch by an earlier poll costs the predecessor nothing, because its
- * store fetches the slot at the same time as the next node's cell.
+ * When a node of a ring or of a ticket line is granted the line, it reads the line's bytes from a slot that its
+ * predecessor wrote just before the grant. Therefore the node prefetches this slot whenever it polls. When a poll finds
+ * the grant, the slot arrives at the same time as the polled cell. An earlier prefetch does not delay the predecessor,
+ * because its write to the slot fetches the slot while it also fetches the next node's cell.
  *
- * A hand-over of a link line writes four cache lines that other threads wrote last: the line's bytes, the word of the
- * last request, the holder's entry, and its successor's entry (crates/link_line). Each step begins when the step before
- * it is done, so without prefetching the four cache lines arrive one after the other. With prefetching they arrive at
- * the same time. */
+ * A hand-over in a link line writes to four cache lines that other threads wrote last: the line's bytes, the word that
+ * names the last request, the holder's entry in the queue, and its successor's entry (crates/link_line). Each step of
+ * the hand-over starts when the previous step has ended, so without prefetching the four cache lines arrive one after
+ * the other. With prefetching they arrive at the same time. */
 #ifndef QOLB_HINTS_H
 #define QOLB_HINTS_H
 

@@ -1,5 +1,5 @@
-/* Opening a line and freeing its nodes: the memory that the C code keeps for a line (line.h). This file is tested and
- * model-checked, and not proved. */
+/* Opens lines and frees their nodes, and manages the memory that the C code needs for a line (line.h). This file is
+ * tested and model-checked, but not proved. */
 #include "line.h"
 #include "heap.h"
 #include <stdlib.h>

@@ -1,24 +1,24 @@
-/* What the C code keeps of a line: where its nodes sleep, who wakes them, and when its memory is freed (qolb_node(3)).
- * line.c opens lines, and calls.c waits and releases.
+/* What the C code stores for a line in order to wait: where nodes sleep, who wakes them, and when the memory of the
+ * line is freed (qolb_node(3)). line.c opens lines, and calls.c waits and releases.
  *
- * The line itself is proved: its words, its 64 bytes and the requests of its nodes are in blocks of the proved part,
- * which the calls of proved.h use. This file has what waiting needs besides.
+ * The line itself is proved: its words, its 64 bytes and the requests of its nodes are in memory of the proved part,
+ * which the calls of proved.h use. This header adds only what waiting needs.
  *
- * Where a node sleeps: a waiter sleeps at a place of its line, which belongs to the word on which the node waits. The
- * waiter adds 1 to the place's `sleepers` and to the line's `waiting`, reads the place's `word`, polls once more, and
- * sleeps while that word is unchanged. A node without a thread puts a callback into the line's list instead
- * (callbacks.h).
+ * Where a node sleeps: each word on which nodes wait has a place in the line, and the waiting thread sleeps there. It
+ * adds 1 to the place's `sleepers` and to the line's `waiting`, reads the place's `word`, polls once more, and sleeps
+ * while that word is unchanged. A node that has no thread puts a callback into the line's list instead (callbacks.h).
  *
- * Who wakes it: the thread that releases the line. After the release the thread loads `waiting`. If that is not 0, the
- * thread asks the proved part for the word of the next holder and for that of the waiter behind it, wakes the sleepers
- * of these two places, and makes the next holder's callback. Each step is sequentially consistent, so either the waiter
- * sees the release or the releasing thread sees the waiter: a Dekker handshake.
+ * Who wakes it: the thread that releases the line. After the release this thread reads `waiting`. If it is not 0, the
+ * thread asks the proved part on which words the next holder and the waiter behind it wait, wakes the sleepers of these
+ * two places, and calls the next holder's callback. All these steps are sequentially consistent, so either the waiter
+ * sees the release or the releasing thread sees the waiter (a Dekker handshake).
  *
- * When the memory is freed: the line, its nodes and its places are one block of memory. The block is freed once all
- * nodes are freed and no callback of the line is put off. A thread may use the block as long as it is in a call on one
- * of the nodes, also after it has released the line, because nobody may free that node meanwhile.
+ * When the memory is freed: the line, its nodes and its places are one block of memory, which is freed once all nodes
+ * are freed and no callback of the line is still deferred. A thread may use the block during any call on one of the
+ * nodes, even after it has released the line, because nobody may free that node during the call.
  *
- * tools/explore_nodes.py runs this code, as it is and with each step changed, on a model of the processor's memory. */
+ * tools/explore_nodes.py model-checks this code, as it is and with each of its steps changed, on a model of the
+ * processor's memory. */
 #ifndef QOLB_LINE_H
 #define QOLB_LINE_H
 

@@ -1,14 +1,15 @@
-/* Probes (USDT): places in the library at which bpftrace, perf and gdb can observe threads that wait. calls.c and
- * lock/enter.c have them.
+/* Static probes (USDT), with which bpftrace, perf and gdb can observe threads that wait. calls.c and lock/enter.c
+ * contain these probes.
  *
- * The provider of the probes is qolb. A thread that begins to wait for its turn passes `wait`, and passes `sleep` and
- * `wake` each time that it sleeps meanwhile. At the end it passes one of `granted`, `withdrawn` (it timed out, also if
- * it is told that the lock is shut) and `closed`. The arguments of a probe are the line's label, the number of the node
- * (0 while the thread has none), and a number that distinguishes lines of one label. A call that does not wait passes
- * no probe. While no tracer is attached, a probe is an instruction that does nothing.
+ * The provider of the probes is qolb. A thread that begins to wait for its turn passes `wait`, and each time that it
+ * sleeps during this wait it passes `sleep` and `wake`. When the wait ends, the thread passes `granted`, `withdrawn`
+ * (it timed out, even if it then learns that the lock is shut) or `closed`. The arguments of a probe are the line's
+ * label, the number of the node (0 while the thread has none), and a number that distinguishes lines with the same
+ * label. A call that does not wait passes no probe. While no tracer is attached, a probe is an instruction that does
+ * nothing.
  *
- * The library has the probes if it is built with <sys/sdt.h> (Debian's systemtap-sdt-dev) and without
- * -DQOLB_NO_PROBES. */
+ * The library contains the probes if <sys/sdt.h> (Debian's systemtap-sdt-dev) is installed when it is built, and
+ * -DQOLB_NO_PROBES is not given. */
 #ifndef QOLB_PROBES_H
 #define QOLB_PROBES_H
 

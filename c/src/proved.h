@@ -1,9 +1,10 @@
-/* The proved calls on nodes, as crates/qolb_c/src/lib.rt exports them. calls.c and line.c make them: a call of qolb.h
- * has the same name without _proved_. The proved calls on locks are in core.h.
+/* The proved calls on nodes, as crates/qolb_c/src/lib.rt exports them. calls.c and line.c make these calls. Without
+ * _proved_, the name of a proved call is the name of the call in qolb.h that makes it. core.h has the proved calls on
+ * locks.
  *
- * No call can check these rules, which the callers must keep (docs/PROVED.md): a handle consists of zeros, or is as its
- * last call left it. It is used by one call at a time, and is not copied, but it may be moved. Other arguments point to
- * what their types say, and overlap neither one another nor the handle. */
+ * No call can check the following rules, which its caller must keep (docs/PROVED.md). A handle consists of zeros, or is
+ * as its last call left it. At most one call uses a handle at a time. A handle may be moved, but it must not be copied.
+ * Each other argument points to a valid object of its type, which overlaps neither another argument nor the handle. */
 #ifndef QOLB_PROVED_H
 #define QOLB_PROVED_H
 

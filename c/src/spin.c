@@ -1,4 +1,5 @@
-/* The length of a pause, the number of processors, and yields (spin.h). Tested, not proved. */
+/* Measures the length of a pause, counts the processors, and decides when yields are worthwhile (spin.h). This file is
+ * tested, but not proved. */
 #define _GNU_SOURCE
 #include "spin.h"
 #include "futex.h"

@@ -1,33 +1,33 @@
-/* How a thread waits: how long it spins before it sleeps, how long it pauses between two looks, and when it yields. The
- * one policy of nodes and of locks (docs/DECISIONS.md, "Waiting", says what was tried). One of the library's internal
- * files.
+/* How a thread waits: how long it spins before it sleeps, how long it pauses between two polls, and when it yields.
+ * Nodes and locks share this policy; docs/DECISIONS.md, "Waiting", lists the alternatives that were tried. Only files
+ * of the library include this header.
  *
- * A waiter in a queue polls until its turn has come. A poll takes the cache line from the thread that passes the turn
- * on, so a waiter pauses longer the more threads are before it (Mellor-Crummey and Scott, TOCS 1991). How long it spins
- * follows from that number, too:
+ * A waiter in a queue polls until its turn has come. A poll takes the cache line away from the thread that is about to
+ * grant the turn, so the pauses of a waiter are longer the more threads are before it (Mellor-Crummey and Scott, TOCS
+ * 1991). The number of threads before the waiter also determines how long it spins:
  *
- *   fewer threads than processors     50 us, or 1 us for each of them: all may be running
+ *   fewer threads than processors     50 us, or 1 us for each thread if that is longer: all may be running
  *   fewer than twice the processors   50 us; in the queue of a barging lock 2 us
  *   more                              2 us
- *   it can't tell                     20 us
+ *   unknown                           20 us
  *
- * A waiter that has seen as many threads before it as there are processors knows that not all of them can run. Once
- * fewer than twice as many are before it, it yields in place of each pause, because a thread that is nearer to its turn
- * may want this processor.
+ * A waiter that has seen as many threads before it as there are processors knows that not all of them can run at once.
+ * Once fewer than twice as many threads as processors are before it, it yields instead of pausing, because a thread
+ * that is nearer to its turn may need this processor.
  *
- * Then it sleeps. Sleeping and waking cost about 50 us, so a wait takes at most about twice the best (Karlin and
- * others, SOSP 1991). A thread also learns how long spinning pays, because a spinning thread may keep the holder from
- * a processor that other programs want, too: a spin that ends with a sleep halves the thread's next one, and each spin
- * begins with an eighth more.
+ * After spinning, the waiter sleeps. Sleeping and waking cost about 50 us, so a wait takes at most about twice the time
+ * of the best possible choice (Karlin and others, SOSP 1991). Where other programs compete for the processors, a
+ * spinning thread may keep the holder from running. Therefore each thread adapts how long it spins: a spin that ends in
+ * sleep halves the limit for the thread's next spin, and each spin starts with a limit that is one eighth longer.
  *
- * A thread that finds a barging lock taken spins in another way before it queues: it looks at the lock word, and each
- * pause between two looks is twice the one before.
+ * A thread that finds a barging lock taken spins in another way before it joins the queue: it polls the lock word, and
+ * each pause is twice as long as the previous one.
  *
- * A yield gives the processor to another thread that wants it. If that is a thread of another program, a yield can last
- * a whole time slice for nothing. Then this process makes no yields for a while (spin.c).
+ * A yield gives the processor to another thread that can run. If that thread belongs to another program, the yield can
+ * waste a whole time slice. After several such yields, the process stops yielding for a while (spin.c).
  *
- * All lengths are of pauses: a yield, or the loss of the processor, makes a spin longer. With one processor nobody
- * spins. */
+ * A spin counts only its pauses, so yields and preemption make it longer than the given times. On a machine with one
+ * processor no thread spins. */
 #ifndef QOLB_SPIN_H
 #define QOLB_SPIN_H
 
