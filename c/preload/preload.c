@@ -1,33 +1,33 @@
-/* The preload library: it replaces the pthread mutexes of a program by qolb_locks, without compiling the program again.
+/* The preload library replaces the pthread mutexes of a program with qolb_locks, without compiling the program again.
  *
  *   make -C c && LD_PRELOAD=c/build/preload.so PROGRAM        (glibc, Linux 4.14); installed as LIBDIR/qolb/preload.so
  *
  * Each ordinary mutex that the program locks gets a qolb_lock of its own, which takes half a KB. Each condition
- * variable at which the program waits with such a mutex gets a qolb_cond. Recursive, error-checking, robust, shared and
- * priority mutexes stay with the C library, and so does a mutex for which there is no memory. Whether a mutex is
- * replaced is decided at its first use, and holds until the mutex is destroyed or initialised again.
+ * variable on which the program waits with such a mutex gets a qolb_cond. The C library still handles recursive,
+ * error-checking, robust, shared and priority mutexes, and any mutex for which no memory is left. The first use of a
+ * mutex decides whether it is replaced; this holds until the program destroys or initialises the mutex again.
  *
- * These are as in the C library:
+ * The replaced mutexes behave like those of the C library:
  *
- * - Any thread may unlock a mutex. To unlock a free mutex changes nothing.
- * - A thread that locks a mutex which it holds waits until another thread unlocks it.
- * - A thread may wait at a condition with a mutex that another thread holds, or that is free.
+ * - Any thread may unlock a mutex. Unlocking a free mutex changes nothing.
+ * - A thread that locks a mutex which it already holds waits until another thread unlocks it.
+ * - A thread may wait on a condition with a mutex that another thread holds, or with a free mutex.
  * - A mutex that a thread held when it forked is held in the child, which does not have the threads that waited.
  *
  * Limitations:
  *
- * - A program that never destroys its mutexes keeps half a KB for each address at which it locked a mutex. The child of
- *   a fork keeps what its parent had, and takes as much again for each mutex that it uses.
- * - A wait until a time of CLOCK_REALTIME does not notice that the clock is set meanwhile.
- * - A wait at a condition may return for no reason when a thread is cancelled.
- * - A signal handler must use no mutex. POSIX does not allow it either. Here, a handler that interrupts the first use
- *   of the mutex that it tries waits for ever.
+ * - A program that never destroys its mutexes keeps half a KB for each address at which it has locked a mutex. The
+ *   child of a fork keeps its parent's memory, and needs the same amount again for each mutex that it uses.
+ * - A wait until a time on CLOCK_REALTIME does not notice if the clock is set during the wait.
+ * - A wait on a condition may wake spuriously when a thread is cancelled.
+ * - A signal handler must not use a mutex, which POSIX forbids anyway. Here, a handler that interrupts the first use of
+ *   a mutex and locks the same mutex waits for ever.
  * - Code that does not call the C library's mutexes by their names is not affected: C11's mtx_t, Rust's
  *   std::sync::Mutex, and libraries that are opened with RTLD_DEEPBIND. Such a library must not share a mutex with
- *   others.
+ *   other code.
  *
- * QOLB_BARGING=LIMIT is the barging limit (man 3 qolb_lock). It is 1024 if the variable is not set, and 0 means strict
- * order. A lock that is opened in .preinit_array, where there is no environment yet, has the limit 1024. */
+ * The environment variable QOLB_BARGING sets the barging limit (man 3 qolb_lock). The default is 1024, and 0 means
+ * strict order. A lock that is opened in .preinit_array, before the environment is set up, has the limit 1024. */
 #define _GNU_SOURCE
 #include "preload_turns.h"
 #include <dlfcn.h>

@@ -1,5 +1,5 @@
-/* What the files of the preload library share: memory of its own, tables by address, and the number of the process.
- * preload_memory.c implements them for preload.c; preload_report.c counts. */
+/* Declarations that the files of the preload library share: its own memory, its tables that map addresses to locks, and
+ * the number of the process. preload_memory.c implements them for preload.c; preload_report.c adds counters. */
 #ifndef QOLB_PRELOAD_H
 #define QOLB_PRELOAD_H
 

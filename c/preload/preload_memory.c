@@ -1,8 +1,8 @@
-/* The memory of the preload library: maps from the kernel, the tables by address, and the number of the process
- * (preload.h).
+/* The memory of the preload library: mappings from the kernel, the tables that map addresses to locks, and the number
+ * of the process (preload.h).
  *
- * Nothing here calls malloc, because the program's malloc may lock a mutex and would come back here. A few large maps
- * serve all locks, because the kernel limits the number of maps. */
+ * This file never calls malloc, because the program's malloc may lock a mutex and would call the preload library again.
+ * A few large mappings serve all locks, because the kernel limits the number of mappings. */
 #define _GNU_SOURCE
 #include "preload.h"
 #include <errno.h>

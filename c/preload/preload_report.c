@@ -1,15 +1,15 @@
-/* Counts what a process does with its mutexes, for tools and tests. Only the library of `make -C c preload-report` has
- * this file.
+/* Counts how a process uses its mutexes, for tools and tests. Only the library that `make -C c preload-report` builds
+ * contains this file.
  *
  * With QOLB_REPORT=/FOLDER/FILE, each process of the program appends a line to this file when it ends by exit. A
- * process that ends by _exit, quick_exit, exec or a signal appends nothing. The line says:
+ * process that ends by _exit, quick_exit, exec or a signal appends nothing. The line contains:
  *
  * - the barging limit;
- * - how many mutexes were replaced in all, and at most at a time;
- * - how often a mutex was granted, how often a call timed out, and how often a mutex was not free at once;
+ * - how many mutexes were replaced in total, and the largest number at one time;
+ * - how often a mutex was acquired, how often a call timed out, and how often a mutex was not immediately free;
  * - how often two threads held one mutex at the same time, which must be 0.
  *
- * The child of a fork counts from 0 on. */
+ * The child of a fork starts to count from 0. */
 #define _GNU_SOURCE
 #ifndef QOLB_REPORT
 #define QOLB_REPORT

@@ -1,6 +1,6 @@
-/* Entering and leaving the lock of a mutex, for preload.c. As with a pthread mutex, any thread may leave the lock, and
- * a thread that enters a lock which it holds waits until another thread leaves it. Therefore the turn of the holder is
- * kept beside the lock, and not in a thread's table (../src/lock/turns.c). */
+/* Enters and leaves the lock that replaces a mutex, for preload.c. As with a pthread mutex, any thread may unlock it,
+ * and a thread that locks a mutex which it already holds waits until another thread unlocks it. Therefore the holder's
+ * ticket is stored next to the lock, and not in the thread's table (../src/lock/turns.c). */
 #ifndef QOLB_PRELOAD_TURNS_H
 #define QOLB_PRELOAD_TURNS_H
 
