@@ -1,4 +1,4 @@
-/* For all benchmarks: the clock, and binding a thread to a processor. */
+/* The clock that all benchmarks use, and a function that pins a thread to one processor. */
 #ifndef CLOCK_H
 #define CLOCK_H
 

@@ -1,17 +1,18 @@
 /* Measures how long one thread takes to enter and leave a lock that no other thread wants. The locks are:
  *
- * - a strict qolb_lock, once alone and once while a thread waits at its condition, and a barging qolb_lock;
+ * - a strict qolb_lock, once alone and once while a thread waits on its condition, and a barging qolb_lock;
  * - a node of each kind of line (qolb_acquire and qolb_deqolb);
  * - a pthread_mutex;
  * - with -DMCS, Concurrency Kit's MCS lock, which needs Debian's package libck-dev.
  *
  *   cc -std=c11 -O2 -pthread -Ic/include c/bench/enter.c c/build/libqolb.a -o enter && ./enter [BATCHES]
  *
- * The program prints the nanoseconds of a round, also as a multiple of the mutex's: the least and the median of BATCHES
- * batches (101). The locks take turns, batch by batch. Use the least if the machine has other work. With a second
- * argument (./enter 1 strict) it makes 10,000 rounds with this lock alone, so that valgrind --tool=callgrind
- * --toggle-collect='rounds_of*' can count them. The program has a second thread, because with one thread a mutex is
- * cheaper. */
+ * A round enters and leaves a lock once. The program prints how many nanoseconds a round takes, and how many times as
+ * long as a round with the mutex that is. It prints the minimum and the median over BATCHES batches (101 by default).
+ * It measures one batch of each lock before the next batch of any lock. Use the minimum if other programs run on the
+ * machine. With a second argument (./enter 1 strict) the program makes 10,000 rounds with that lock alone, so that
+ * valgrind --tool=callgrind --toggle-collect='rounds_of*' can count the instructions. The program always has a second
+ * thread, because a mutex is cheaper in a process with only one thread. */
 #define _DEFAULT_SOURCE
 #include <pthread.h>
 #include <qolb.h>

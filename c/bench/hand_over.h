@@ -1,4 +1,4 @@
-/* Measures how long a cache line takes from one processor to another, for peers.c and phases.h. */
+/* Measures how long a cache line takes to move from one processor to another, for peers.c and phases.h. */
 #ifndef HAND_OVER_H
 #define HAND_OVER_H
 

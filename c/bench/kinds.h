@@ -1,4 +1,5 @@
-/* The kinds of lines and their names, which the header of an older library does not have. */
+/* The kinds of lines and their names. The benchmarks define them here, because the header of an older library lacks
+ * them. */
 #include <qolb.h>
 #ifndef QOLB_KINDS
 #define QOLB_KINDS 3

@@ -1,4 +1,4 @@
-"""For the benchmarks: describes the machine, and repeats a run during which the machine did other work."""
+"""Describes the machine for the benchmarks, and repeats a run during which the machine was busy with other work."""
 
 import contextlib
 import os

@@ -1,20 +1,21 @@
-/* Measures nodes of a line beside MCS locks and a mutex. Threads acquire a node by qolb_acquire, or by polls and pauses
- * of their own. All of these ways are in one program, in short phases that take turns (phases.h). c/bench/nodes builds
- * and runs it.
+/* Compares the speed of a line's nodes with that of MCS locks and a mutex. Threads acquire a node with qolb_acquire, or
+ * with a polling loop of their own. The program contains all these ways of acquiring and measures them in short
+ * alternating phases (phases.h). c/bench/nodes builds and runs it.
  *
  *   ./nodes THREADS MICROSECONDS PHASE_MS SECONDS at=0,2,1,3 KIND [loops] [polls] [acquire]
  *   ./nodes machine at=0,1,2,3
  *
- * Thread k stays at the k-th processor of the list. KIND is ring, link or ticket. MICROSECONDS is the length of a
- * critical section, in which the holder adds 1 to a lane of the line, or to a number beside the lock. With `loops`,
- * each processor also has a thread that loops all the time, and only qolb_acquire and MCS are measured. With `polls`,
- * loops of polls by hand are measured as well. With `acquire`, only qolb_acquire is measured.
+ * Thread k is pinned to the k-th processor of the list. KIND is ring, link or ticket. MICROSECONDS is the length of a
+ * critical section, in which the holder adds 1 to a lane of the line, or to a number next to the lock. With `loops`,
+ * each processor also runs a thread that is always busy, and only qolb_acquire and MCS are measured. With `polls`,
+ * hand-written polling loops are measured as well. With `acquire`, only qolb_acquire is measured.
  *
- * The program prints the time of a hand-over between each two of the processors, before and after. Then it prints a
- * line of tab-separated values for each way: its name; the number of phases; the nanoseconds of a critical section over
- * all threads, as the median and the quartiles of the phases and as the mean of all; and, of the waits that were timed,
- * the 99.9th percentile and the longest of a phase, in microseconds, each as the median of the phases. `machine` prints
- * the hand-overs and the time of a pause. */
+ * Before and after the phases the program measures and prints the time of a hand-over between each two of the
+ * processors. For each way of acquiring it then prints a line of tab-separated values, which begins with the name of
+ * the way and the number of phases. Three columns give the nanoseconds per critical section over all threads: the
+ * median and the quartiles of the phases, and the mean over all phases. The last columns are about the waits that were
+ * timed: the 99.9th percentile and the longest wait of a phase in microseconds, each as the median of the phases. With
+ * `machine` the program prints only the hand-overs and the length of a pause. */
 #define _GNU_SOURCE
 #include "kinds.h"
 

@@ -1,14 +1,14 @@
-/* Measures locks beside each other, in one program. README.md says what is measured. c/bench/peers builds this program
- * and runs it.
+/* Measures several types of lock in one program, so that their figures can be compared. README.md explains what is
+ * measured. c/bench/peers builds and runs this program.
  *
- *   peers hand-overs PROCESSORS    prints how long a cache line takes between each two of a list such as 0,1,2,3
+ *   peers hand-overs PROCESSORS    prints how long a cache line takes between each two processors of a list such as 0,1,2,3
  *   peers PROCESSORS THREADS WORKLOADS ROUNDS MILLISECONDS SEED [LOCK ..]
  *
- * The second form measures the named locks, or all locks. Thread k stays at the k-th processor of the list if there are
- * processors for all threads. THREADS is a list of numbers of threads, and WORKLOADS consists of letters of the
- * workloads below. ROUNDS and MILLISECONDS are two numbers each, for example 20,6: the first is used with at most as
- * many threads as processors, and the second with more. The program prints lines that begin with #, and rows of
- * tab-separated values. */
+ * The second form measures the named locks, or all locks. Thread k is pinned to the k-th processor of the list if there
+ * are at least as many processors as threads. THREADS is a list of thread counts, and WORKLOADS consists of letters of
+ * the workloads below. ROUNDS and MILLISECONDS are two numbers each, for example 20,6: the first applies when there are
+ * at most as many threads as processors, and the second when there are more. The program prints lines that begin with
+ * #, and rows of tab-separated values. */
 #define _GNU_SOURCE
 #include "hand_over.h"
 #include "locks/lock.h"

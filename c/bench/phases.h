@@ -1,8 +1,9 @@
-/* Measures several ways of acquiring a line or lock in one program, in short phases that take turns, and the hand-overs
- * between processors. nodes.c includes this file, and phases.py runs the program. nodes.c defines an enum way that ends
- * with WAYS, the names of the ways, and the functions that are declared here.
+/* Measures several ways of acquiring a line or lock in one program, in short alternating phases, and measures
+ * hand-overs between processors. nodes.c includes this file, and phases.py runs the program. nodes.c defines an enum
+ * of the ways, which ends with WAYS, the names of the ways, and the functions that are declared here.
  *
- * The place in memory matters for speed. Therefore each way has PLACES lines or locks, and uses one after the other. */
+ * The address of a lock affects its speed. Therefore each way has PLACES lines or locks, and uses one after the
+ * other. */
 #ifndef PHASES_H
 #define PHASES_H
 

@@ -1,9 +1,11 @@
-"""Runs programs that measure ways of acquiring a lock in phases (phases.h), and says which goals they reach. c/bench/nodes uses it.
+"""Runs programs that measure several ways of acquiring a lock in alternating phases (phases.h), and reports which goals they reach. c/bench/nodes uses this
+module.
 
-The time of a hand-over between each two processors is measured before and after each program. On a virtual machine two processors may be hyperthreads of one core: a pair
-below 60 ns is called quick. Threads stay at processors that are no quick pairs. A program that used a quick pair nevertheless is run again, at most AGAIN times. A program
-of a quiet part is also run again if other programs or other machines took more than 3 % of the processors meanwhile. Runs that are repeated are counted. A run that is kept
-although it does not meet these conditions says so in its column `kept`.
+Before and after each program, the time of a hand-over between each two processors is measured. On a virtual machine two processors may be hyperthreads of one
+core, so a pair whose hand-over takes less than 60 ns is called quick. Threads are pinned to processors that form no quick pair. A program that used a quick
+pair nevertheless is run again, at most AGAIN times. A program of a quiet part is also run again if other programs or other virtual machines used more than 3 %
+of the processor time during its run. The output contains the number of repeated runs. If a run is kept although it does not meet these conditions, its column
+`kept` says so.
 """
 
 import datetime

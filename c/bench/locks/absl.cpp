@@ -1,4 +1,5 @@
-/* The mutex of Abseil, without its deadlock detector, which is on in Debian's build and off in an optimised build. */
+/* Abseil's mutex, for peers.c. Its deadlock detector is turned off, because an optimised build does not have it but
+ * Debian's build does. */
 #include "lock.h"
 #include <absl/synchronization/mutex.h>
 #include <new>

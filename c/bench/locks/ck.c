@@ -1,5 +1,6 @@
-/* The queue locks and ticket locks of Concurrency Kit, unchanged. With -DYIELDS their waiters pause 256 times and then
- * yield. With more threads than processors, waiters that only spin make hardly any progress. */
+/* Concurrency Kit's queue locks and ticket locks, unchanged, for peers.c. With -DYIELDS their waiters pause 256 times
+ * and then yield, because waiters that only spin make hardly any progress when there are more threads than
+ * processors. */
 #include "lock.h"
 #include <ck_pr.h>
 #include <sched.h>

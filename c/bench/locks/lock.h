@@ -1,6 +1,8 @@
-/* A type of lock that peers.c measures. Each file of this folder describes the locks that it has by this struct.
+/* A description of a type of lock that peers.c measures. Each file of this folder fills in this struct for every lock
+ * that it contains.
  *
- * Every lock is called through these pointers, so that none is inlined into the loop that measures. */
+ * peers.c calls every lock through the pointers of this struct, so that the compiler inlines none of them into the
+ * measuring loop. */
 #ifndef LOCK_H
 #define LOCK_H
 

@@ -1,4 +1,4 @@
-/* The mutex of the C library, of the default type. */
+/* The C library's default mutex, for peers.c. */
 #include "lock.h"
 #include <pthread.h>
 

@@ -1,6 +1,7 @@
-/* The locks of this library: a strict and a barging lock, and lines of each kind, with a node for each thread.
+/* The locks of this library, for peers.c: a strict lock, a barging lock, and lines of each kind, with one node per
+ * thread.
  *
- * This file is compiled once for the current library and once for an older one (-DBEFORE). */
+ * c/bench/peers compiles this file once for the current library and once for an older one (-DBEFORE). */
 #include "lock.h"
 #include <qolb.h>
 #include <stdlib.h>

@@ -1,4 +1,4 @@
-/* The mutex of the C++ standard library. */
+/* The mutex of the C++ standard library, for peers.c. */
 #include "lock.h"
 #include <mutex>
 #include <new>

@@ -1,4 +1,4 @@
-/* The fair mutex of oneTBB, a queue lock whose waiters yield. */
+/* oneTBB's fair mutex for peers.c, a queue lock whose waiters yield. */
 #include "lock.h"
 #include <new>
 #include <oneapi/tbb/queuing_mutex.h>

@@ -1,4 +1,5 @@
-//! The mutex of Rust's standard library, and with the feature `parking_lot` also the mutex of that crate. A thread keeps its guard in its part of the lock.
+//! The mutex of Rust's standard library for peers.c, and with the feature `parking_lot` also that crate's mutex. Each thread stores the guard of a locked
+//! mutex in its own slot of the lock.
 #![allow(non_upper_case_globals)]
 
 use std::ffi::{c_char, c_int, c_void};
