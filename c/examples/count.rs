@@ -1,4 +1,5 @@
-//! Two threads count together, in Rust: the count is in a line, for which each thread has a node. Prints 2000.
+//! Two threads count together, in Rust. The count is stored in a line, on which each thread has a node. Prints
+//! 2000.
 #[path = "../rust/qolb.rs"]
 mod qolb;
 

@@ -1,4 +1,5 @@
-//! A small executor: `block_on` for one future, and a pool of threads for many. A program that has an executor uses that one instead.
+//! A small executor for the examples: `block_on` runs one future, and a pool of threads runs many. A program that already has an
+//! executor uses that executor instead.
 #![allow(dead_code)] // a program uses only the part that it needs
 
 use std::collections::VecDeque;

@@ -1,4 +1,4 @@
-// Coroutines of C++20 that enter a lock, over an event loop with one thread. It is meant to serve as a template.
+// C++20 coroutines that enter a lock and run on an event loop with one thread. This file is meant as a template.
 // Another thread enters the same lock. Prints 4000.
 #include <condition_variable>
 #include <coroutine>

@@ -1,16 +1,17 @@
-/* A server on 127.0.0.1 whose connections share a lock or a line, by epoll with one event loop and with four. It is
- * meant to serve as a template.
+/* A server on 127.0.0.1 whose connections share a lock or a line. It uses epoll, first with one event loop and then
+ * with four. This file is meant as a template.
  *
- * A client sends 'L', and its connection acquires the lock. Then the client receives a number of 8 bytes. It sends 'U',
- * which adds 1 to the number and releases the lock. A client may disconnect at any time. No loop ever waits for the
- * lock: beside the socket of each connection it watches an eventfd.
+ * When a client sends 'L', its connection acquires the lock, and the client receives a number of 8 bytes. When the
+ * client sends 'U', the connection adds 1 to the number and releases the lock. A client may disconnect at any time. No
+ * event loop ever blocks on the lock: besides the socket of each connection, the loop watches an eventfd that reports
+ * when the connection has the lock.
  *
  * With a line, each connection has a node of its own. With a lock, each connection has a task, and there may be any
- * number of them.
+ * number of connections.
  *
  *   build/server_c [CONNECTIONS [ROUNDS]]
  *
- * The clients are in the same program, which prints only errors. */
+ * The clients run in the same program, which prints only errors. */
 #define _GNU_SOURCE
 #include <qolb.h>
 #include <arpa/inet.h>

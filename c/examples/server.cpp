@@ -1,14 +1,14 @@
-// A server on 127.0.0.1 whose connections share a lock or a line, as C++20 coroutines over one event loop and over
-// four. It is meant to serve as a template.
+// A server on 127.0.0.1 whose connections share a lock or a line. The connections are C++20 coroutines, which run first
+// on one event loop and then on four. This file is meant as a template.
 //
-// A client sends 'L', and its connection acquires the lock. Then the client receives a number of 8 bytes. It sends 'U',
-// which adds 1 to the number and releases the lock. A client may disconnect at any time: its coroutine is then
-// destroyed, and this withdraws its request. No loop ever waits for the lock.
+// When a client sends 'L', its connection acquires the lock, and the client receives a number of 8 bytes. When the
+// client sends 'U', the connection adds 1 to the number and releases the lock. A client may disconnect at any time: its
+// coroutine is then destroyed, which withdraws its request. No event loop ever blocks on the lock.
 //
 //   build/server_cpp [CONNECTIONS [ROUNDS]]
 //
-// The clients are in the same program, which prints only errors. A program that has a loop and coroutines of its own
-// needs only by_lock or by_node, and post and unpost.
+// The clients run in the same program, which prints only errors. A program that already has a loop and coroutines needs
+// only by_lock or by_node, and post and unpost.
 #include <qolb.hpp>
 
 #include <arpa/inet.h>

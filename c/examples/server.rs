@@ -1,13 +1,13 @@
-//! A server on 127.0.0.1 whose connections share a mutex or a line, as futures over a small executor with one thread and with four. It is meant to serve as
-//! a template.
+//! A server on 127.0.0.1 whose connections share a mutex or a line. The connections are futures, which run on a small executor, first with one thread and
+//! then with four. This file is meant as a template.
 //!
-//! A client sends 'L', and its connection acquires the mutex. Then the client receives a number of 8 bytes. It sends 'U', which adds 1 to the number and
-//! releases the mutex. A client may disconnect at any time: the future that waits for it is then dropped, and this withdraws its request. No thread of the
-//! executor ever waits for the mutex.
+//! When a client sends 'L', its connection acquires the mutex, and the client receives a number of 8 bytes. When the client sends 'U', the connection adds
+//! 1 to the number and releases the mutex. A client may disconnect at any time: the future that waits for it is then dropped, which withdraws its request.
+//! No thread of the executor ever blocks on the mutex.
 //!
 //!   build/server_rs [CONNECTIONS [ROUNDS]]
 //!
-//! The clients are in the same program, which prints only errors. A program that has an executor and sockets of its own needs only `by_mutex` or `by_node`.
+//! The clients run in the same program, which prints only errors. A program that already has an executor and sockets needs only `by_mutex` or `by_node`.
 
 #[path = "../rust/qolb.rs"]
 mod qolb;

@@ -1,4 +1,4 @@
-/* A hash table that has a lock for each bucket. Threads that start and end all the time count numbers in it. Prints
+/* A hash table with one lock per bucket. Threads that constantly start and end count numbers in the table. Prints
  * 3200. */
 #include <pthread.h>
 #include <qolb.h>
