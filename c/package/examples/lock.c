@@ -1,4 +1,4 @@
-/* Threads that start and end add to a count that a lock protects. The last of them signals a condition at which main
+/* Threads that start and end increment a count that a lock protects. The last of them signals a condition on which main
  * waits. */
 #include <pthread.h>
 #include <qolb.h>

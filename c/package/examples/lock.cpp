@@ -1,4 +1,4 @@
-// Threads that start and end add to a count that a lock protects, and to a table that a barging lock protects.
+// Threads that start and end increment a count that a lock protects, and a table that a barging lock protects.
 #include <cstdio>
 #include <map>
 #include <mutex>

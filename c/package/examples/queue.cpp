@@ -1,6 +1,6 @@
-// A queue of at most eight jobs, which a lock with two conditions protects. A thread that waits for a job wakes every
-// millisecond. At the end the lock is shut, which ends all waits. The lock is barging because there may be few
-// processors: a strict lock would wait each time until the next thread runs. Prints 4000.
+// A queue of at most eight jobs, which is protected by a lock with two conditions. A thread that waits for a job wakes
+// every millisecond. At the end the lock is shut, which ends all waits. The lock is barging because the machine may
+// have few processors: a strict lock would wait each time until the next thread runs. Prints 4000.
 #include <chrono>
 #include <cstdio>
 #include <deque>

@@ -1,4 +1,4 @@
-//! Threads that start and end add to a count, and to a table that a barging mutex protects.
+//! Threads that start and end increment a count, and a table that a barging mutex protects.
 use qolb::{Mutex, Stopped};
 use std::collections::HashMap;
 use std::thread;

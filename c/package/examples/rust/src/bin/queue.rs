@@ -1,5 +1,6 @@
-//! A queue of at most eight jobs, which a mutex with two conditions protects. A thread that waits for a job wakes every millisecond. At the end the mutex is
-//! shut, which ends all waits. The mutex is barging because there may be few processors: a strict one would wait each time until the next thread runs.
+//! A queue of at most eight jobs, which is protected by a mutex with two conditions. A thread that waits for a job wakes every millisecond. At the end the
+//! mutex is shut, which ends all waits. The mutex is barging because the machine may have few processors: a strict mutex would wait each time until the next
+//! thread runs.
 use qolb::{Condition, Mutex, Stopped};
 use std::collections::VecDeque;
 use std::thread;
