@@ -1,7 +1,7 @@
 /* Measures several types of lock in one program, so that their figures can be compared. README.md explains what is
  * measured. c/bench/peers builds and runs this program.
  *
- *   peers hand-overs PROCESSORS    prints how long a cache line takes between each two processors of a list such as 0,1,2,3
+ *   peers hand-overs PROCESSORS    times a cache line between each two processors of a list, such as 0,1,2,3
  *   peers PROCESSORS THREADS WORKLOADS ROUNDS MILLISECONDS SEED [LOCK ..]
  *
  * The second form measures the named locks, or all locks. Thread k is pinned to the k-th processor of the list if there
