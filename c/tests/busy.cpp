@@ -1,6 +1,6 @@
-// Tests coroutines that are resumed inside a release, by qolb::Inline, in one thread. One of them gives a request up
-// there and requests again. Its node is busy until the node behind it, whose notification is put off, has released the
-// line. Prints only errors.
+// Tests coroutines that are resumed inside a release (qolb::Inline), in one thread. During such a release, one
+// coroutine gives up a request and requests the line again. Its node stays busy until the node behind it, whose
+// notification is deferred, has released the line. Prints only errors.
 #include <cstdio>
 #include <cstdlib>
 #include <qolb.hpp>

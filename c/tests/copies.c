@@ -1,6 +1,7 @@
-/* Tests two copies of the library in one program: the static copy of this program, and the shared library, which it
- * opens at run time as a plugin would. Each copy has locks and lines of its own, which threads use alternately and
- * nested. No call of one copy may touch what the other copy keeps of a thread or a line. Prints only errors. */
+/* Tests two copies of the library in one program: the static copy of this program, and the shared library, which the
+ * program opens at run time as it would open a plugin. Each copy has locks and lines of its own, which threads use
+ * alternately and nested. No call of one copy may touch the data that the other copy keeps for a thread or a line.
+ * Prints only errors. */
 #define _GNU_SOURCE
 #include <dlfcn.h>
 #include <qolb.h>

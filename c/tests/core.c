@@ -1,13 +1,18 @@
-/* Tests the proved core of a lock (src/core.h), strict and barging.
+/* Tests the proved core of a lock (src/core.h), strict and
+ * barging.
  *
- * Many threads use it at once. The sums are exact, no two threads are served at once, and tickets have their turns in
- * order. No more barging threads overtake than the bound allows. Nobody is served while the lock is shut. A thread that
- * sleeps at the announced address and value is woken.
+ * In the first part many threads use one lock. The sums must be
+ * exact, no two threads may hold the lock at once, and tickets
+ * must have their turns in order. Barging threads may overtake
+ * only as often as the bound allows. No thread may get the lock
+ * while it is shut. A thread that sleeps on the announced
+ * address and value must be woken.
  *
- * One thread checks that each call which a ticket's state does not allow is misuse and changes nothing, and that a core
- * lies in the memory in which it is opened.
+ * The second part has one thread. Every call that the ticket's
+ * state does not allow must return MISUSE and change nothing,
+ * and a core must lie in the memory in which it is opened.
  *
- *   build/core_c [ROUNDS [THREADS]]       400 rounds with two threads; with more, up to 64, as many rounds in all */
+ *   build/core_c [ROUNDS [THREADS]]       400 rounds with two threads; with more threads, up to 64, the same total number of rounds */
 #define _GNU_SOURCE
 #include "../src/core.h"
 #include "../src/heap.h"

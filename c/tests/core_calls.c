@@ -1,13 +1,13 @@
-/* Compares the proved core of a lock (src/core.h) with the stand-in over which the C code of the lock is model-checked
- * (tools/explorer/core.c), by random calls of one thread. After each call it compares the result, the ticket, and each
- * word of the lock.
+/* Compares the proved core of a lock (src/core.h) with the C stand-in (tools/explorer/core.c) that replaces the core
+ * when the C code of the lock is model-checked. One thread makes random calls to both. After each call the test
+ * compares the results, the tickets, and every word of the lock.
  *
  *   build/core_calls_c [SCHEDULES [SEED]]        1,000,000 schedules, seed 1
  *
- * A schedule consists of some calls on a new lock with some tickets. Most calls are such that the ticket's state allows
- * them. Sometimes another ticket's call is made in the course of a call, as another thread could make it: once before
- * each access of the first call to the lock's words. Then the accesses are compared, too, except with the thread
- * sanitizer, which makes accesses of its own. At the end, each call must have returned each of its results 1,000
+ * A schedule consists of a few calls on a new lock with a few tickets. The state of the ticket allows most of these
+ * calls. Sometimes the test makes a call with another ticket in the middle of a call, as another thread could: once
+ * before each access of the first call to the lock's words. In this case it also compares the accesses, except with the
+ * thread sanitizer, which makes accesses of its own. At the end, each call must have returned each of its results 1,000
  * times. */
 #include "accesses.h"
 

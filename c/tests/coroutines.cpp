@@ -1,10 +1,11 @@
-// Tests ten thousand coroutines over four loops with a thread each. They share lines and a lock, and some are destroyed
-// while they wait. It also tests coroutines without a loop, which run in the releasing thread, and what a coroutine is
-// told whose node may not request the line, that gives up, or that finds its line closed. Prints only errors.
+// Tests ten thousand coroutines on four event loops, each of which has one thread. The coroutines share lines and a
+// lock, and some are destroyed while they wait. The test also covers coroutines without a loop, which run in the
+// releasing thread. It checks the results of a coroutine whose node may not request the line, of one that gives up, and
+// of one that finds its line closed. Prints only errors.
 //
 //   build/coroutines_cpp [COROUTINES [ROUNDS [SEED [SECONDS]]]]
 //
-// Until SECONDS have passed, the test is repeated with other seeds.
+// The test is repeated with other seeds until SECONDS have passed.
 #include <qolb.hpp>
 
 #include <algorithm>

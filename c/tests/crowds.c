@@ -1,8 +1,9 @@
-/* Tests locks with large numbers of calls that give up, of tasks and threads that wait, and of locks on the stack.
+/* Tests locks with large numbers of calls that time out, with large numbers of waiting tasks and threads, and with many
+ * locks on the stack.
  *
- *   build/crowds [SECONDS [THREADS [LOCKS]]]     1 second of calls that give up at once, 1,000 threads, 20,000 locks
+ *   build/crowds [SECONDS [THREADS [LOCKS]]]     1 second of calls that time out at once, 1,000 threads, 20,000 locks
  *
- * Prints only errors; with arguments, it also prints what it measured. */
+ * Prints only errors; if arguments are given, it also prints its measurements. */
 #define _GNU_SOURCE
 #include <malloc.h>
 #include <qolb.h>

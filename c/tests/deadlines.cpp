@@ -1,5 +1,5 @@
-// Tests timeouts and deadlines at the ends of their types, for a node, a lock and a condition. Each call times out at
-// once, or waits until it is granted. Prints only errors.
+// Tests the smallest and largest timeouts and deadlines that their types allow, for a node, a lock and a condition.
+// Each call must time out at once, or wait until it is granted. Prints only errors.
 #include <qolb.hpp>
 
 #include <chrono>

@@ -1,6 +1,6 @@
-// Tests each call of a node in each of its states, over a line of each kind: its result or exception, and the state
-// after it. Linked with --wrap for clock_gettime and syscall, so that time passes only in sleeps with a timeout. Prints
-// only errors.
+// Tests each call on a node in each state of the node, for every kind of line: the result or exception, and the state
+// after the call. The program is linked with --wrap for clock_gettime and syscall, so that time passes only during
+// sleeps with a timeout. Prints only errors.
 #include <qolb.hpp>
 
 #include <chrono>

@@ -1,5 +1,5 @@
-//! Tests each call of a node in each of its states, over a line of each kind: its result, and the state after it. It also tests each future of a mutex that is
-//! free, held or shut, the text of nodes and results, and that a thread which is cancelled while it waits goes on. Prints only errors.
+//! Tests each call on a node in each state of the node, for every kind of line: the result, and the state after the call. It also tests the futures of a mutex
+//! that is free, held or shut, the text form of nodes and results, and that a thread which is cancelled while it waits completes the wait. Prints only errors.
 #[path = "../rust/qolb.rs"]
 mod qolb;
 

@@ -1,13 +1,14 @@
-/* Tests real-time threads at a lock. A thread of SCHED_FIFO must not spin while it waits for a thread of SCHED_OTHER on
- * the same processor, because that thread would not run meanwhile. At a strict and at a barging lock:
+/* Tests real-time threads that use a lock. A SCHED_FIFO thread must not spin while it waits for a SCHED_OTHER thread on
+ * the same processor, because the other thread could not run during the spin. The following is tested with a strict and
+ * with a barging lock:
  *
- * - Threads leave, and are preempted in this call by the thread that they wake. While that thread has the lock, it
- *   wakes another thread of a higher priority, which enters.
- * - A thread that was woken acquires, leaves and destroys the lock, while the thread that woke it is still in its call.
+ * - A thread leaves the lock, and the thread that it wakes preempts it during this call. While the woken thread holds
+ *   the lock, it wakes a third thread with a higher priority, which then enters.
+ * - A woken thread acquires, leaves and destroys the lock while the thread that woke it is still in its call.
  *
- * No wait may take a tenth of a second of processor time. With the argument `mutex` the first part uses a mutex of the
- * C library, to test the preload library. If the system does not allow such priorities, nothing is tested. Prints only
- * errors. */
+ * No wait may use a tenth of a second of processor time. With the argument `mutex` the first part uses a mutex of the C
+ * library, which tests the preload library. If the system does not allow real-time priorities, the program tests
+ * nothing. Prints only errors. */
 #define _GNU_SOURCE
 #include <qolb.h>
 #include <semaphore.h>

@@ -1,5 +1,5 @@
-/* Tests that after a fork the parent and the child have a line each, both in the same state, and that neither sees what
- * the other does. The same is tested with a lock. Prints only errors. */
+/* Tests that after a fork the parent and the child each have a line of their own, both in the same state, and that
+ * neither sees what the other does. The same is tested for a lock. Prints only errors. */
 #define _POSIX_C_SOURCE 200809L
 #include "want.h"
 #include <qolb.h>

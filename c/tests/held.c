@@ -1,6 +1,5 @@
-/* A program for held.gdb, which asks for each of its locks which thread holds it. The locks are held by threads, by a
- * task, or by nobody. In the debugger the thread that ends has number 2, and the others are numbered in the order in
- * which they begin. */
+/* A program for held.gdb, which asks gdb which thread holds each of its locks. Each lock is held by a thread, by a
+ * task, or by nobody. gdb numbers the threads in the order in which they begin; the thread that ends is number 2. */
 #define _GNU_SOURCE
 #include "want.h"
 #include <pthread.h>

@@ -1,4 +1,5 @@
-# Asks which thread holds each lock of held.c, with the command of ../package/qolb.gdb. `make -C c check` compares the output.
+# Asks which thread holds each lock of held.c, with the command that ../package/qolb.gdb defines. `make -C c check` compares
+# the output with the expected one.
 set pagination off
 set debuginfod enabled off
 break is_stuck

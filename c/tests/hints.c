@@ -1,4 +1,4 @@
-/* Tests that a node prefetches the words and slots that a hand-over reads and writes (../src/hints.h). Prints only
+/* Tests that a node prefetches the words and slots that the hand-over will read and write (../src/hints.h). Prints only
  * errors. */
 #define _GNU_SOURCE
 #include <hints.h>

@@ -1,6 +1,6 @@
-/* Tests that no call on a lock, a condition or a node changes errno, also if it sleeps, wakes or times out, and if
- * there is no memory. With the argument `mutex` it tests the calls on mutexes of the C library, for the preload
- * library. Linked with --wrap for malloc. Prints only errors. */
+/* Tests that no call on a lock, a condition or a node changes errno, even if the call sleeps, wakes a thread, times out
+ * or runs out of memory. With the argument `mutex` it tests the calls on mutexes of the C library, for the preload
+ * library. The program is linked with --wrap for malloc. Prints only errors. */
 #define _GNU_SOURCE
 #include <errno.h>
 #include <qolb.h>

@@ -1,8 +1,9 @@
-/* Tests timeouts of nodes: threads share a line that protects data of the program, and give up if a wait takes too
- * long. Then it tests what happens when a line is closed, and what the calls that wait return. Prints only errors.
+/* Tests calls on nodes with timeouts: threads share a line that protects data of the program, and give up when a wait
+ * takes too long. The program also tests what happens when a line is closed, and what the waiting calls return. Prints
+ * only errors.
  *
- * The thread sanitizer observes the data, and must report nothing. Built with -DUNGUARDED, each thread has a line of
- * its own, so that nothing protects the data, and then it must report a race. */
+ * The thread sanitizer observes the protected data, and must report nothing. If the program is built with -DUNGUARDED,
+ * each thread has a line of its own, so that nothing protects the data, and the sanitizer must report a race. */
 #define _POSIX_C_SOURCE 200809L
 #include "want.h"
 #include <pthread.h>

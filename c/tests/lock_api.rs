@@ -1,4 +1,4 @@
-//! Tests a mutex of the crate `lock_api` over the lock of qolb.rs. Prints only errors.
+//! Tests a mutex that the crate `lock_api` builds from the lock of qolb.rs. Prints only errors.
 #[path = "../rust/qolb.rs"]
 mod qolb;
 use lock_api::{Mutex, MutexGuard};

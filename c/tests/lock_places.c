@@ -1,9 +1,9 @@
-/* Tests where locks lie and how many there can be:
+/* Tests where locks may lie in memory, and how many there can be:
  *
- * - A lock lies in its own bytes, at any multiple of 16, and takes no heap memory.
+ * - A lock lies in its own bytes, at any multiple of 16, and needs no heap memory.
  * - A thread can hold any number of locks.
- * - Many threads can open a lock at its first use.
- * - A call with a timeout can wait behind any number of other requests, and a lock is not destroyed meanwhile.
+ * - Many threads can try to open a lock when it is first used.
+ * - A call with a timeout can wait behind any number of other requests, and the lock is not destroyed while it waits.
  *
  * Prints only errors. */
 #define _GNU_SOURCE

@@ -1,8 +1,9 @@
-/* Tests how a thread waits for a lock and at a condition, with a clock that the program advances: how often it polls,
- * how long it sleeps, and when it times out. Also tested are what a call returns if the lock is granted or shut between
- * the last poll and the withdrawal, and which threads a leave wakes. One thread does what several would do, so it
- * enters a lock that it holds as preload.c does. Linked with --wrap for clock_gettime, nanosleep, sched_yield, syscall,
- * and the proved calls that poll and withdraw. Prints only errors. */
+/* Tests how a thread waits for a lock and on a condition: how often it polls, how long it sleeps, and when it times
+ * out. The program replaces the clock by one that it advances itself. It also tests what a call returns if the lock is
+ * granted or shut between the call's last poll and its withdrawal, and which threads wake up when a thread leaves. A
+ * single thread plays several threads, so it enters a lock that it already holds, as preload.c does. The program is
+ * linked with --wrap for clock_gettime, nanosleep, sched_yield, syscall, and the proved calls that poll and withdraw.
+ * Prints only errors. */
 #define _GNU_SOURCE
 #include "want.h"
 #include <lock/entries.h>

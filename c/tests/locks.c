@@ -1,9 +1,9 @@
-/* Tests locks with threads: what each call returns, the order in which threads are served, conditions, and heavy use by
- * many threads.
+/* Tests locks with several threads: what each call returns, the order in which threads get the lock, conditions, and
+ * heavy use by many threads.
  *
- *   build/locks [SECONDS]     1200: the program is ended then, because a thread whose grant is lost waits for ever
+ *   build/locks [SECONDS]     1200: after this time the program ends itself, because a thread whose grant is lost would wait for ever
  *
- * Prints only errors. The thread sanitizer observes the data, and must report nothing. */
+ * Prints only errors. The thread sanitizer observes the protected data, and must report nothing. */
 #define _GNU_SOURCE
 #include <qolb.h>
 #include <signal.h>

@@ -1,8 +1,9 @@
-// Tests the lock, the condition and the guarded value of qolb.hpp: with the guards and the condition of the standard
-// library, with threads that start and end, with timeouts, shut, and misused. Prints only errors.
+// Tests the lock, the condition and the guarded value of qolb.hpp: with the guards and the condition variable of the
+// standard library, with threads that start and end, with timeouts, with a shut lock, and with misuse. Prints only
+// errors.
 //
-// The thread sanitizer observes the data, and must report nothing. Built with -DUNGUARDED, some data are used while the
-// lock of the guarded value is not held, and then it must report a race.
+// The thread sanitizer observes the protected data, and must report nothing. If the program is built with -DUNGUARDED,
+// it uses some data without holding the lock of the guarded value, and the sanitizer must report a race.
 #include <qolb.hpp>
 
 #include <atomic>

@@ -1,4 +1,5 @@
-//! Tests the locks of qolb.rs with threads that start and end: a mutex, a condition, values of any size, timeouts, shuts, and panics. Prints only errors.
+//! Tests the locks of qolb.rs with threads that start and end: a mutex, a condition, values of any size, timeouts, shut mutexes, and panics. Prints only
+//! errors.
 #[path = "../rust/qolb.rs"]
 mod qolb;
 

@@ -1,9 +1,9 @@
-/* Tests ten thousand tasks on four threads. Half of them have a node each, and the others enter a lock, which threads
- * enter as well. They are woken for no reason at times, and give up at random. Prints only errors.
+/* Tests ten thousand tasks on four threads. Half of the tasks have a node each, and the others enter a lock, which
+ * threads enter as well. The tasks are sometimes woken spuriously, and give up at random. Prints only errors.
  *
  *   build/many_tasks_c [TASKS [ROUNDS [SEED [BARGING_LIMIT [SECONDS]]]]]
  *
- * Until SECONDS have passed, the test is repeated with other seeds. */
+ * The test is repeated with other seeds until SECONDS have passed. */
 #define _GNU_SOURCE
 #include <qolb.h>
 #include <pthread.h>

@@ -1,12 +1,12 @@
-/* Tests the heap memory of a line, by kind and number of nodes:
+/* Tests how much heap memory a line of each kind and number of nodes uses:
  *
- * - qolb_memory returns the bytes that opening has allocated and keeps. Opening never has more than three times this
- *   number of bytes allocated.
- * - The data of two nodes are in no two cache lines that are fetched together. Each block of the proved part of 128
- *   bytes or more begins at a multiple of 128 bytes.
+ * - qolb_memory returns the number of bytes that opening a line allocates and keeps. While it runs, the call that opens
+ *   a line never has more than three times this number of bytes allocated.
+ * - Data of two nodes never lie in one cache line, or in two cache lines that the processor fetches together. Each
+ *   block of the proved part that has 128 bytes or more begins at a multiple of 128 bytes.
  * - 100,000 ticket lines of two nodes take less than 260 MB, as malloc_usable_size counts them.
  *
- * With the argument `table` it prints the table of memory of qolb.h. */
+ * With the argument `table` it prints the table of memory in qolb.h. */
 #include <line.h>
 #include <malloc.h>
 #include <qolb.h>

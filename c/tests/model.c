@@ -1,9 +1,9 @@
-/* Compares random calls on lines and locks, made by one thread, with a model of the calls in plain C: every result,
- * state, byte, count and name.
+/* Makes random calls on lines and locks with one thread, and compares every result, state, byte, count and name with
+ * those of a model in plain C.
  *
  *   build/model [CALLS [SEED]]        300,000 calls, seed 1
  *
- * Prints only the first difference. The model is written from qolb.h: it is a queue of requests, of which the first
+ * Prints only the first difference. The model is written from qolb.h: it is a queue of requests, and the first request
  * that is not withdrawn has the turn. The line is with the first request, or at home if there is no request. In a link
  * line it stays with the last request that ended until the successor has linked itself. */
 #include <qolb.h>

@@ -1,6 +1,6 @@
 /* Tests the mutexes and condition variables of the C library, as a program may use them. `make check` runs this program
- * alone and with the preload library (../preload/preload.c). Both runs must have the same results. Prints only errors.
- */
+ * both alone and with the preload library (../preload/preload.c). Both runs must have the same results. Prints only
+ * errors. */
 #define _GNU_SOURCE
 #include "mutexes.h"
 #include <limits.h>

@@ -1,5 +1,5 @@
-/* What the programs share that are run alone and with the preload library: mutexes, mutexes_many, mutexes_forked and
- * mutexes_cancelled. */
+/* Helper functions for the programs that `make check` runs both alone and with the preload library: mutexes,
+ * mutexes_many, mutexes_forked and mutexes_cancelled. */
 #include <errno.h>
 #include <pthread.h>
 #include <stdio.h>

@@ -1,9 +1,9 @@
-/* Tests a thread that is cancelled when it begins to wait at a condition, and is signalled before it sleeps: another
- * waiter must get the signal. `make check` runs this program alone and with the preload library (../preload/preload.c).
- * Prints only errors.
+/* Tests a thread that is cancelled when it begins to wait on a condition, and is signalled before it sleeps: another
+ * waiter must get the signal. `make check` runs this program both alone and with the preload library
+ * (../preload/preload.c). Prints only errors.
  *
- * This program delays two calls that preload.c makes in the wait. The C library makes neither of them by its name, so
- * without preload.c the thread is cancelled while it sleeps. */
+ * This program delays two calls that preload.c makes during the wait. The C library makes neither of them by its name,
+ * so in the run without preload.c the thread is cancelled while it sleeps. */
 #define _GNU_SOURCE
 #include "mutexes.h"
 #include <dlfcn.h>

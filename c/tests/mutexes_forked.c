@@ -1,6 +1,6 @@
 /* Tests mutexes and conditions in the child of a fork, which has none of the parent's other threads. `make check` runs
- * this program alone and with the preload library (../preload/preload.c). Both runs must have the same results. Prints
- * only errors. */
+ * this program both alone and with the preload library (../preload/preload.c). Both runs must have the same results.
+ * Prints only errors. */
 #define _GNU_SOURCE
 #include "mutexes.h"
 #include <sched.h>

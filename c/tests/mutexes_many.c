@@ -1,6 +1,6 @@
-/* Tests how much memory, and how many of the kernel's maps, are taken by many mutexes and conditions. It also tests a
- * malloc that locks a mutex. `make check` runs this program alone and with the preload library (../preload/preload.c),
- * which takes half a KB for each mutex. Prints only errors. */
+/* Tests how much memory, and how many of the kernel's mappings, many mutexes and conditions need. It also tests a
+ * malloc that locks a mutex. `make check` runs this program both alone and with the preload library
+ * (../preload/preload.c), which needs half a KB for each mutex. Prints only errors. */
 #define _GNU_SOURCE
 #include "mutexes.h"
 #include <limits.h>

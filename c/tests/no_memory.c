@@ -1,7 +1,7 @@
-/* Tests calls without memory. Each allocation of an opening is refused in turn. Then the opening is refused, the
- * handles stay empty, and all memory is freed. Only qolb_open and qolb_node_free allocate, free, or write to a handle:
- * the proved calls put the same node back. A lock allocates nothing, whatever its first use is. Linked with --wrap for
- * malloc, realloc and free. Prints only errors. */
+/* Tests calls that run out of memory. Each allocation of the call that opens a line fails in turn. Then that call must
+ * fail, leave the handles empty, and free all memory. Only qolb_open and qolb_node_free allocate, free, or write to a
+ * handle; the proved calls must leave the same node in the handle. A lock must never allocate memory, whichever call
+ * uses it first. The program is linked with --wrap for malloc, realloc and free. Prints only errors. */
 #define _DEFAULT_SOURCE
 #include <proved.h>
 #include <stdio.h>

@@ -1,5 +1,5 @@
-//! Tests calls without memory. Each allocation of the opening of a line is refused in turn, and the result is `NoMemory`. A mutex allocates one box, and no
-//! call on it allocates more. Linked with --wrap for malloc. Prints only errors.
+//! Tests calls that run out of memory. When a line is opened, each allocation fails in turn, and the result must be `NoMemory`. A mutex allocates one box,
+//! and no call on it allocates more. The program is linked with --wrap for malloc. Prints only errors.
 #[path = "../rust/qolb.rs"]
 mod qolb;
 

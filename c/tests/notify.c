@@ -1,4 +1,4 @@
-/* Tests what each call on notifications of nodes returns and does, with one thread and with two. Prints only errors. */
+/* Tests what each call that notifies nodes returns and does, with one thread and with two. Prints only errors. */
 #define _GNU_SOURCE
 #include <qolb.h>
 #include <errno.h>

@@ -1,5 +1,5 @@
-/* Tests the numbers of threads. If a thread holds more locks than its table has room for, the other locks note its
- * number as their holder. No two threads of a process have the same number, and neither have those of the child of a
+/* Tests thread numbers. If a thread holds more locks than its table can hold, each further lock stores the number of
+ * this thread as its holder. No two threads of a process may have the same number. The same holds in the child of a
  * fork, whose first thread keeps the number that it had in the parent. Prints only errors. */
 #define _POSIX_C_SOURCE 200809L
 #include "want.h"

@@ -1,6 +1,7 @@
 /* Tests a program whose malloc and free enter a lock of the program. A call with a timeout on another lock allocates
  * memory while it waits, and both locks have the same place in a thread's table. A thread that ends while it holds a
- * lock allocates no memory for it. Linked with --wrap for malloc and free. Prints only errors. */
+ * lock must allocate no memory for this lock. The program is linked with --wrap for malloc and free. Prints only
+ * errors. */
 #define _GNU_SOURCE
 #include <qolb.h>
 #include <string.h>

@@ -1,4 +1,4 @@
-# Prints each probe of the library that a program passes. For a line it prints the label and the number of the node. For a lock it prints 0 in place of the
+# Prints each probe of the library that a program passes. For a line it prints the label and the number of the node. For a lock it prints 0 instead of the
 # address, and the number of the ticket.
 set pagination off
 break -probe-stap qolb:wait

@@ -1,10 +1,11 @@
-/* A program for the thread sanitizer, and for helgrind and drd of valgrind. In some ways it uses data correctly: a lock
- * protects them for threads and for a task, or a line does, whose waiter is notified by an eventfd or whose nodes give
- * up. Then the tools must report nothing. In the other ways it uses data wrongly, and the tools must report a race.
+/* A program for the thread sanitizer, and for helgrind and drd of valgrind. Its argument selects one of several ways of
+ * using shared data. In the correct ways, the data are protected by a lock for threads and for a task, or by a line
+ * whose waiter is notified through an eventfd or whose nodes give up; then the tools must report nothing. In the
+ * incorrect ways the tools must report a race.
  *
  *   build/races WAY     WAY is one of the numbers below
  *
- * The second thread uses the data after the first. Only the lock or the condition tells the tools so. */
+ * The second thread uses the data after the first, and only the lock or the condition shows this order to the tools. */
 #define _GNU_SOURCE
 #include <qolb.h>
 #include <stdlib.h>

@@ -1,14 +1,15 @@
-/* Tests a real-time thread that waits for an ordinary thread on the same processor. Each has a node of a line. The
- * ordinary thread acquires the line and then starts the real-time thread, which preempts it and acquires, too. The
- * real-time thread must sleep so that the ordinary thread can go on, and must be woken by the release.
+/* Tests a real-time thread that waits for an ordinary thread on the same processor. Each thread has a node of a line.
+ * The ordinary thread acquires the line and then starts the real-time thread, which preempts it and requests the line,
+ * too. The real-time thread must sleep so that the ordinary thread can run, and the release must wake it.
  *
- * A real-time thread that spins, or yields again and again, keeps the processor until the system throttles it, after
- * most of a second. Therefore the test measures the processor time of each wait, which other programs do not lengthen.
+ * A real-time thread that spins, or yields repeatedly, keeps the processor until the system throttles it, after most of
+ * a second. The test therefore measures the processor time of each wait rather than its elapsed time, because other
+ * programs cannot lengthen the processor time.
  *
  *   realtime [TURNS]
  *
- * It makes TURNS acquisitions of each kind of line: first with threads that are kept at one processor, and then with
- * the whole process kept there, which does not spin at all. */
+ * The program makes TURNS acquisitions of each kind of line: first with only the threads pinned to one processor, and
+ * then with the whole process pinned there, in which case no thread spins at all. */
 #define _GNU_SOURCE
 #include <errno.h>
 #include <pthread.h>

@@ -1,8 +1,8 @@
-/* Tests how a thread waits with a node, with a clock that the program advances: how often it requests and polls, how
- * long it sleeps, and when it times out. Also tested are what a call returns if the line is granted or closed between
- * the last poll and the withdrawal, and which calls wake which sleepers. One thread does what several would do. Linked
- * with --wrap for clock_gettime, nanosleep, sched_yield, syscall, and the proved calls that request, poll, withdraw and
- * name the next holder. Prints only errors. */
+/* Tests how a thread waits with a node: how often it requests and polls, how long it sleeps, and when it times out. The
+ * program replaces the clock by one that it advances itself. It also tests what a call returns if the line is granted
+ * or closed between the call's last poll and its withdrawal, and which calls wake which sleepers. A single thread plays
+ * several threads. The program is linked with --wrap for clock_gettime, nanosleep, sched_yield, syscall, and the proved
+ * calls that request, poll, withdraw and name the next holder. Prints only errors. */
 #define _GNU_SOURCE
 #include "want.h"
 #include <proved.h>

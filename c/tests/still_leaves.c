@@ -1,7 +1,8 @@
-/* Tests a thread that leaves a lock and is stopped in this call while it wakes the next holder. All other threads can
- * enter, by whichever call the thread left. The lock can be destroyed, and its memory may be freed. A thread that shuts
- * a lock is stopped while it wakes a thread that waits at a condition. That thread is told CLOSED once the lock is shut
- * for all. Linked with --wrap for syscall. Prints only errors. */
+/* Tests a thread that is stopped inside the call with which it leaves a lock, while it wakes the next holder. During
+ * this stop all other threads can enter, whichever call was stopped. The lock can be destroyed, and its memory may be
+ * freed. The program also stops a thread that shuts a lock, while it wakes a thread that waits on a condition. The
+ * woken thread gets the result CLOSED once the lock is shut for all threads. The program is linked with --wrap for
+ * syscall. Prints only errors. */
 #define _GNU_SOURCE
 #include <qolb.h>
 #include <stdarg.h>

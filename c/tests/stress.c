@@ -1,11 +1,11 @@
-/* Tests one lock with 200 threads. Each of them enters, enters with a timeout, tries, enters by a task, and waits at a
+/* Tests one lock with 200 threads. Each thread enters, enters with a timeout, tries, enters with a task, and waits on a
  * condition, in a random order. No addition may be lost, no two threads may hold the lock at once, and each thread must
  * make progress.
  *
  *   build/stress SECONDS BARGING_LIMIT [SEED]
  *
- * The program ends with an error if a thread is not granted the lock within ten times SECONDS. It prints the number of
- * acquisitions of all threads, and the least and the most of one thread. */
+ * The program ends with an error if a thread is not granted the lock within ten times SECONDS. It prints the total
+ * number of acquisitions, and the smallest and the largest number of one thread. */
 #define _GNU_SOURCE
 #include <qolb.h>
 

@@ -1,4 +1,4 @@
-/* Tests what each call of a task at a lock returns and does, with one thread and beside other threads. Prints only
+/* Tests what each call on a task of a lock returns and does, with one thread and alongside other threads. Prints only
  * errors. */
 #define _GNU_SOURCE
 #include <lock/lock.h>

@@ -1,9 +1,9 @@
-//! Tests futures of a node and of a `Mutex`, over a small executor: what each returns, which threads may have the guards, and 10,000 tasks on four threads that
-//! give up or are dropped at any time. Prints only errors.
+//! Tests the futures of a node and of a `Mutex`, on a small executor: what each future returns, which threads may have the guards, and 10,000 tasks on four
+//! threads that give up or are dropped at any time. Prints only errors.
 //!
 //!   build/tasks_rs [TASKS [ROUNDS [SEED [SECONDS]]]]
 //!
-//! Until SECONDS have passed, the test is repeated with other seeds.
+//! The test is repeated with other seeds until SECONDS have passed.
 
 #[path = "../rust/qolb.rs"]
 mod qolb;

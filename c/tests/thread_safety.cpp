@@ -1,5 +1,5 @@
-// Tests what Clang's -Wthread-safety knows of the locks. It has no warning for this file as it is, and warns of each of
-// five faults, which -DFAULT=1 to 5 compiles in.
+// Tests that Clang's -Wthread-safety understands the locks of qolb.hpp. Clang must not warn about this file as it is,
+// and must warn about each of five errors, which -DFAULT=1 to -DFAULT=5 compile in.
 #include <qolb.hpp>
 #include <mutex>
 

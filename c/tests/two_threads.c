@@ -1,5 +1,6 @@
 /* Tests lines of each kind. Two threads add to one lane. Then the test makes every mistake that the library must
- * refuse, opens a line of each number of nodes, and frees a node that has closed its line. Prints only errors. */
+ * refuse, opens a line with each possible number of nodes, and frees a node that has closed its line. Prints only
+ * errors. */
 #define _POSIX_C_SOURCE 200809L
 #include "want.h"
 #include <pthread.h>

@@ -1,5 +1,5 @@
-// Tests nodes in C++: two threads move a token to and fro between two counts of one line, and a third node sees their
-// sum. Prints only errors.
+// Tests nodes in C++: two threads move a token back and forth between two counts of one line, and a third node reads
+// their sum. Prints only errors.
 #include <qolb.hpp>
 
 #include <chrono>

@@ -1,4 +1,5 @@
-// Tests both headers as header units, beside headers of the standard library that are included. It is only compiled.
+// Tests that both headers compile as header units, together with ordinary includes of the standard library. This file
+// is only compiled.
 import <qolb.h>;
 import <qolb.hpp>;
 #include <chrono>

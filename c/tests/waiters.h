@@ -1,4 +1,4 @@
-/* For tests of threads that wait: checks, the time, and waiting until a thread sleeps. */
+/* Helper functions for tests with waiting threads: checks, the time, and waiting until another thread sleeps. */
 #ifndef WAITERS_H
 #define WAITERS_H
 

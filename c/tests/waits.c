@@ -1,9 +1,10 @@
 /* Tests that threads which wait with nodes sleep, and that each call which releases their line wakes them: releases,
- * shuts, and calls that are told of a shut. There are few and many threads, with withdrawals and timeouts.
+ * shuts, and calls that are notified of a shut. The test runs with few and with many threads, and with withdrawals and
+ * timeouts.
  *
- *   build/waits [SECONDS]     1200: the program is ended then, because a thread whose grant is lost waits for ever
+ *   build/waits [SECONDS]     1200: after this time the program ends itself, because a thread whose grant is lost would wait for ever
  *
- * Prints only errors. The thread sanitizer observes the data, and must report nothing. */
+ * Prints only errors. The thread sanitizer observes the protected data, and must report nothing. */
 #define _GNU_SOURCE
 #include <qolb.h>
 #include <string.h>

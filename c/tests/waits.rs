@@ -1,5 +1,5 @@
-//! Tests lines that Rust and C code share: a waiter in one language sleeps, and a release in the other wakes it. The calls in C are those of waits_in_c.c.
-//! Prints only errors.
+//! Tests lines that Rust and C code share: a waiter in one language sleeps, and a release in the other wakes it. The C code is in waits_in_c.c. Prints
+//! only errors.
 #[path = "../rust/qolb.rs"]
 mod qolb;
 

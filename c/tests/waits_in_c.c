@@ -1,4 +1,4 @@
-/* C code that waits and releases with the nodes of a program in Rust (waits.rs). */
+/* C functions that wait and release with the nodes of a Rust program (waits.rs). */
 #include <qolb.h>
 
 struct calls {

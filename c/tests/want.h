@@ -1,4 +1,4 @@
-/* For tests in C: checks that a call returns what is wanted. */
+/* Macros for tests in C, which check that a call returns the expected result, or that a bound holds. */
 #ifndef WANT_H
 #define WANT_H
 
