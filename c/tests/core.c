@@ -12,7 +12,7 @@
  * state does not allow must return MISUSE and change nothing,
  * and a core must lie in the memory in which it is opened.
  *
- *   build/core_c [ROUNDS [THREADS]]       400 rounds with two threads; with more threads, up to 64, the same total number of rounds */
+ *   build/core_c [ROUNDS [THREADS]]       400 rounds with 2 threads; with up to 64 threads, as many in total */
 #define _GNU_SOURCE
 #include "../src/core.h"
 #include "../src/heap.h"

@@ -1,7 +1,7 @@
 /* Tests locks with several threads: what each call returns, the order in which threads get the lock, conditions, and
  * heavy use by many threads.
  *
- *   build/locks [SECONDS]     1200: after this time the program ends itself, because a thread whose grant is lost would wait for ever
+ *   build/locks [SECONDS]     1200: the limit, because a thread whose grant is lost would wait for ever
  *
  * Prints only errors. The thread sanitizer observes the protected data, and must report nothing. */
 #define _GNU_SOURCE

@@ -2,7 +2,7 @@
  * shuts, and calls that are notified of a shut. The test runs with few and with many threads, and with withdrawals and
  * timeouts.
  *
- *   build/waits [SECONDS]     1200: after this time the program ends itself, because a thread whose grant is lost would wait for ever
+ *   build/waits [SECONDS]     1200: the limit, because a thread whose grant is lost would wait for ever
  *
  * Prints only errors. The thread sanitizer observes the protected data, and must report nothing. */
 #define _GNU_SOURCE
