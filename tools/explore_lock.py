@@ -1,20 +1,21 @@
 #!/usr/bin/env python3
-"""Explores runs of the lock (c/src/lock), with two and three threads, over the stand-in for its proved calls (tools/explorer/core.c), on the model
-of the processor's memory that tools/explore_nodes.py says.
+"""Model-checks the C code of the lock (c/src/lock) with two and three threads. A C stand-in (tools/explorer/core.c) replaces the proved calls, and the memory of
+the processor is the model that tools/explore_nodes.py describes.
 
-tools/explore_lock.py [MOST] [--scene BEGINNING ..] [--fault WORDS | --no-faults] [--seconds S] [--jobs 2] | --anchors
-    all runs of at most MOST turns of the schedule, 2, of the library as it is, where four tickets and where one ticket are in a round; and of each library
-    with a fault those of few turns first, up to as many as it says. With --seconds each scene takes at most so long a time of the processor, and those that
-    did not end by then are named. It needs GCC
+    tools/explore_lock.py [MOST] [--scene BEGINNING ..] [--fault WORDS | --no-faults] [--seconds S] [--jobs 2] | --anchors
 
-In no run may a thread sleep without being woken, two threads have the lock at once, freed memory be touched, two accesses race, an answer be wrong, a shut lock
-be entered, an entry stay, or a thread that has a ticket be overtaken by a call that began later; with barging, by more of them than they allow, or by any once
-a task sleeps as the first of those that wait. Each library with a fault must fail in some run, and after each change that is harmless none may fail. It ends with 1 if this
-is not so, or if a scene did not end. Each invariant of the library (INVARIANT in c/src/lock) holds in each run, and is seen to be broken by a fault of its own; the
-other faults are found without the invariants, by what the scenes check.
+The program makes all runs with at most MOST (2) turns of the schedule. First it uses the library as it is, with four tickets and with one ticket in a round.
+Then it uses each library with a planted fault, beginning with the runs of few turns, up to the number that the fault names. With --seconds each scene takes at
+most S seconds of processor time, and the program names the scenes that did not end by then. The program needs GCC.
 
-A fault is a change of one function, or of a file's other text, which tools/mutants.py finds. With --anchors nothing is explored: the program names each
-change that can't be made, and where its text is now.
+In no run may a thread sleep without being woken, two threads hold the lock at once, freed memory be accessed, two accesses race, a call return a wrong result,
+a thread enter a shut lock, or an entry stay in its list. No thread with a ticket may be overtaken by a call that began later; in a barging lock, by no more
+such calls than the limit allows, and by none once a task sleeps as the first waiter. Each library with a planted fault must fail in some run, and no library
+with a harmless change may fail. The program ends with status 1 if this is not so, or if a scene did not end. Each invariant of the library (INVARIANT in
+c/src/lock) must hold in each run, and a planted fault of its own must break it. The other faults are found by the checks of the scenes, without the invariants.
+
+A planted fault replaces text in one function, or elsewhere in a file; tools/mutants.py finds the text. With --anchors nothing is explored: the program names
+each change whose text it does not find, and the place where the text is now.
 """
 
 import argparse

@@ -1,21 +1,24 @@
 #!/usr/bin/env python3
-"""Explores runs of the C library's files of nodes (c/src/calls.c, line.c, callbacks.c and futex.c), with two and three threads that have a node each, on a
+"""Model-checks the C library's files for nodes (c/src/calls.c, line.c, callbacks.c and futex.c) with two and three threads, each with a node of its own, on a
 model of the processor's memory (tools/explorer).
 
-tools/explore_nodes.py [MOST] [--scene BEGINNING ..] [--fault WORDS | --no-faults] [--jobs 2] | --anchors
-    runs of at most MOST turns of the schedule, 2, of the library as it is; and of each library with a fault, as many as it takes. It needs GCC.
-    With --anchors nothing is run: it names each change that can't be made, and where its text is now
+    tools/explore_nodes.py [MOST] [--scene BEGINNING ..] [--fault WORDS | --no-faults] [--jobs 2] | --anchors
 
-A turn of the schedule is one of these: another thread goes on although this one could; a thread's time ends; a plain store stays in its thread's
-buffer, unseen by the others, or is seen from there before it must be. All runs with at most MOST turns are made. Stores are seen as x86-64 has them: in
-their order, and at the latest before the thread's next read-modify-write step or system call. What else a memory of C11 may do with
-sequentially consistent, releasing and acquiring steps is not tried. But two accesses race as C11 says, if neither happens before the other and one
-is plain. The line is a model, each of whose calls takes one step, or two; that it does so is proved elsewhere. No scene has requests in halves, reads or writes
-of the line, or leases; and there are no hints, as these change nothing that a run shows.
+The program makes all runs of the library as it is that have at most MOST (2) turns of the schedule. Of each library with a planted fault it makes as many runs
+as it needs to find the fault. With --anchors nothing is run: the program names each change whose text it does not find, and the place where the text is now.
+The program needs GCC.
 
-In no run may a thread sleep without being woken, two threads have the line at once, two threads call a node or one call it out of its order,
-freed memory be touched, a line stay whose nodes are closed, or an answer be wrong. Each library with one fault must fail in some run, or this program does not see
-what it is for; and after each change that is harmless none may fail. It ends with 1 if this is not so. tools/explore_lock.py does the same of locks.
+A turn of the schedule is one of these: another thread runs although the current thread could continue; a timeout expires; a plain store stays in its thread's
+store buffer, where the other threads do not see it, or leaves the buffer before it must. Stores become visible as on x86-64: in their order, and at the latest
+before the thread's next read-modify-write step or system call. Other behaviours that C11 allows for sequentially consistent, releasing and acquiring steps are
+not explored. However, races are defined as in C11: two accesses race if neither happens before the other and one of them is plain. A model replaces the line.
+Each call on this model takes one step, or two; that the real calls behave in this way is proved elsewhere. No scene contains the halves of a request
+(qolb_prepend and qolb_link), reads or writes of the line, or leases. Prefetches are left out, because no run can observe them.
+
+In no run may a thread sleep without being woken, two threads hold the line at once, two threads call one node at the same time or make its calls in a wrong
+order, freed memory be accessed, the memory of a line remain whose nodes are closed, or a call return a wrong result. Each library with a planted fault must
+fail in some run, because otherwise this program does not find the errors that it exists for, and no library with a harmless change may fail. The program ends
+with status 1 if this is not so. tools/explore_lock.py does the same for locks.
 """
 
 import argparse

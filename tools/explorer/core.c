@@ -1,10 +1,11 @@
-/* A stand-in in C for the proved lock: it answers as the calls of c/src/core.h do, which crates/qolb_c exports, by the
- * same atomic steps on the same words. Nothing of it is in the library: ../explore_lock.py explores the lock's C over
- * it, and c/tests/core_calls.c compares the two.
+/* A stand-in in C for the proved core of a lock. It returns the results of the calls in c/src/core.h, which
+ * crates/qolb_c exports, and takes the same atomic steps on the same words. The library does not contain this file:
+ * ../explore_lock.py model-checks the C code of the lock with it, and c/tests/core_calls.c compares it with the proved
+ * core.
  *
- * Words of 8 bytes: 0 the lock word, 16 the tail, 17 to 20 the cells; the others are never written. A cell: sixteen
- * bits of withdrawn tickets, from bit 16 the count of sleepers, from bit 34 the granted rounds modulo 2^30. The lock
- * word: as at the end of core.h. */
+ * The core has 8-byte words: word 0 is the lock word, word 16 is the tail, words 17 to 20 are the cells, and no other
+ * word is ever written. A cell contains sixteen bits for withdrawn tickets, from bit 16 on the number of sleepers, and
+ * from bit 34 on the number of granted rounds modulo 2^30. The end of core.h describes the lock word. */
 #include "core.h"
 #include <stdatomic.h>
 #include <stdbool.h>

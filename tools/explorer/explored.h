@@ -1,7 +1,8 @@
-/* What the model checker's build of the lock has in place of the numbers of c/src/lock/lock.h (../explore_lock.py,
- * which includes this file before each of the library's and sets WIDTH). There is less room, and there are fewer looks
- * before the same decisions. What limits tickets is by scenes, and so is the memory for entries. All tasks have one
- * key. Each thread's data are where lock_scenes.c has them, as the model has several threads in one. */
+/* Replaces the constants of c/src/lock/lock.h when the lock is model-checked. ../explore_lock.py includes this file
+ * before each file of the library, and sets WIDTH. The numbers are smaller: there is less room in tables, and a thread
+ * polls fewer times before it makes the same decision. Each scene sets the limits on tickets and the memory for
+ * entries. All tasks have the same key. lock_scenes.c stores the data of each thread, because one thread of the system
+ * runs all threads of the model. */
 #ifndef EXPLORED_H
 #define EXPLORED_H
 

@@ -1,3 +1,5 @@
+/* Declarations that the model checker (explorer.c) and its scenes share: scenes, clocks, and the functions by which a
+ * scene takes steps and checks results. */
 #include <stddef.h>
 #include <stdint.h>
 #include <string.h>

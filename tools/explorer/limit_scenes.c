@@ -1,4 +1,5 @@
-/* Scenes of limits that run out while another stays in, and of whom a signal reaches (lock_scenes.c). */
+/* Scenes of the lock in which a timeout expires while another thread stays inside, and scenes that check which waiters
+ * a signal reaches (lock_scenes.c). */
 #include "lock_scenes.h"
 
 /* ---- Limits ---- */

@@ -1,4 +1,6 @@
-"""Edits of the lock, for ../explore_lock.py: file, function (empty: the file's other text), its text, and what replaces it."""
+"""The edits of the lock's C code that ../explore_lock.py tries. Each names a file, a function (or nothing, for text outside
+functions), the text in it, and the text that replaces it.
+"""
 
 ENTER, LEAVE, TURNS, OPENS, CONDITIONS, ABANDONED, TASKS, HEADER, ENTRIES = (
     f"lock/{name}" for name in ("enter.c", "leave.c", "turns.c", "opens.c", "conditions.c", "abandoned.c", "tasks.c", "lock.h", "entries.h")

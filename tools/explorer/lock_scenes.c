@@ -1,6 +1,7 @@
-/* The actions of threads with a lock, in the runs that explorer.c makes (../explore_lock.py). The lock's own
- * files, or those that differ by a fault, and the stand-in for the proved calls are built with -fsanitize=thread, by
- * which the compiler reports each access to memory by a call, and explorer.c answers those calls. */
+/* The actions of threads that use a lock, for the runs that explorer.c makes (../explore_lock.py). The lock's files (or
+ * copies into which a fault has been planted) and the stand-in for the proved calls are compiled with
+ * -fsanitize=thread. The compiler then inserts a function call at each memory access, and explorer.c implements the
+ * functions that are called. */
 #include "lock_scenes.h"
 #include <errno.h>
 

@@ -1,4 +1,4 @@
-/* What the scenes of the lock share (lock_scenes.c, task_scenes.c). */
+/* Declarations that the scenes of the lock share (lock_scenes.c, limit_scenes.c, task_scenes.c). */
 #ifndef CORE_SCENES_H
 #define CORE_SCENES_H
 

@@ -1,6 +1,6 @@
-/* The actions of threads with a node each, in the runs that explorer.c makes. The library's files, or those that differ
- * by a fault, are built with -fsanitize=thread, by which the compiler reports each access to memory by a call, and
- * explorer.c answers those calls. */
+/* The actions of threads that have a node each, for the runs that explorer.c makes (../explore_nodes.py). The library's
+ * files (or copies into which a fault has been planted) are compiled with -fsanitize=thread. The compiler then inserts
+ * a function call at each memory access, and explorer.c implements the functions that are called. */
 #include <errno.h>
 #include <line.h>
 #include <sched.h>

@@ -1,5 +1,5 @@
-/* What tasks do in the runs of the lock (lock_scenes.c). A task is its thread's, which makes its calls, but
- * for those that other threads make for it. */
+/* The actions of tasks in the runs of the lock (lock_scenes.c). Each task belongs to a thread, which makes the task's
+ * calls, except for those that other threads make on the task's behalf. */
 #include "lock_scenes.h"
 
 /* ---- A task's calls ---- */
