@@ -1,15 +1,16 @@
 #!/usr/bin/env python3
-"""Runs the built program with closed, full or broken streams, on scripts of the largest size, and with 200 workers on one and on two processors.
+"""Tests the built program with closed, full or broken streams, on scripts of the largest size, and with 200 workers on one and on two processors.
 
     tools/at_work.py [PROGRAM]
 
-A failed read must end with status 4, `read fault` and nothing on standard output; a failed write with 4 and `write fault`; a refused script
-or command line with its own status, whatever happens to standard output and error; no run by a signal. Arguments that are not UTF-8 are refused, and
-so is one command too many, which is explained.
-Scripts of 100,000 commands, events and jobs are answered whole, and so are pictures of 20 million letters, by a run of the link line as
-definitions.py has it. The pictures of the pages are what the program draws. Waiting workers sleep if `--sleep` is given, and else not: counted by
-how often they give up their processor voluntarily. If no worker sleeps, a release wakes none: by the system calls that strace shows, if it is
-installed. The program prints its progress if `--progress` is given. Needs Linux.
+A failed read must end with status 4, `read fault` and nothing on standard output, and a failed write with status 4 and `write fault`. A refused
+script or command line must end with its own status, whatever happens to standard output and standard error. No run may end by a signal. Arguments
+that are not UTF-8 must be refused, and so must a command line with one argument too many, for which the program must print an explanation.
+
+Scripts of 100,000 commands, events and jobs must be answered completely, and so must pictures of 20 million letters; the expected answers are those
+of definitions.py for a link line. The pictures in the pages must be those that the program draws. Waiting workers must sleep if `--sleep` is given,
+and must not sleep otherwise; the test counts how often they give up their processor voluntarily. If no worker sleeps, no release may wake a thread;
+strace counts the system calls, if it is installed. The program must print its progress if `--progress` is given. The test needs Linux.
 """
 
 import os

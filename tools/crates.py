@@ -1,4 +1,6 @@
-"""The crates of the repository, and work on them side by side."""
+"""Reads the list of the repository's crates and their dependencies, and runs work on several crates in parallel.
+Most tools import this module.
+"""
 
 import os
 import pathlib

@@ -1,4 +1,4 @@
-"""The answer that each script must have: the definitions once more, in Python, from docs/SCRIPTS.md and not from the program.
+"""Computes the answer that each script must have. The definitions are written here a second time, in Python, from docs/SCRIPTS.md and not from the program.
 
 A script is bytes. `answer_to` returns what a run must end with: a reply, `bad line N`, or a check of the report of workers. `run` runs the built program.
 """

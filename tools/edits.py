@@ -1,18 +1,20 @@
 #!/usr/bin/env python3
-"""Tries each mutant of the named crates (of all, if none is named), and prints what refused it.
+"""Tries each mutant of the named crates (or of all crates, if none is named), and prints what refused it. A mutant is a deliberately wrong edit of a crate,
+which the prover or a test must refuse.
 
-A mutant changes a crate. Those in its must-fail/, which the gate tries too, and in its mutants.edits name the text that they change, and the text in
-its place; `tools/mutants.py` describes both forms.
+The mutants in a crate's must-fail/, which the gate tries too, and those in its mutants.edits consist of the text that they replace and the new text;
+`tools/mutants.py` describes both forms.
 
-A mutant without a test shows something only if the prover refuses it by a goal: what the changed function promises, what a call in it requires, or
-what a caller of it relies on. One that only renames goals is refused because answers name goals that no longer exist, and a harmless change of the
-same place would be refused, too: it shows nothing. A mutant is for a test to refuse most often because no clause can state what it breaks (for example
-that threads run at the same time). Only that test is run, without a proof, by `rt try --test`. A test that takes all memory fails there for any body,
-so such a mutant is judged by `rt test`, and only with --proved: that proves all crates from the changed one on.
+A mutant without a test is evidence only if the prover refuses it because of a goal: a promise of the changed function, a requirement of a call in it, or
+something on which one of its callers relies. A mutant that only renames goals is no evidence: it is refused because answers name goals that no longer
+exist, and a harmless change of the same place would be refused, too. A mutant has a test mostly because no clause can state what the mutant breaks (for
+example, that threads run at the same time). Only that test is run, without a proof, by `rt try --test`. A test that takes all memory fails there whatever
+the code does, so its mutants are judged by `rt test`, and only with --proved, which proves all crates from the changed one upwards.
 
-Mutants without a test are tried over the work that `tools/prove` keeps, which is called first. Those that edit the bodies of different functions of a
-crate are tried in one check, and each is refused by the goals of its own function. A mutant that edits anything else (a type, a constant, a contract, a
-proof, a macro, two functions), or that no goal of its function refuses there, gets a check of its own; with --alone all do. Each gets a line:
+For mutants without a test, this program first calls `tools/prove` and then reuses the work that it keeps. Mutants that edit the bodies of different
+functions of a crate are tried in one check, and each is refused by the goals of its own function. A mutant gets a check of its own if it edits anything
+else (a type, a constant, a contract, a proof, a macro, two functions), or if no goal of its function refuses it in the common check; with --alone all
+mutants do. The program prints a line for each mutant:
 
   answer  CRATE/NAME  FUNCTION: GOAL    an answer that is written in proofs/ no longer proves the goal of that name
   search  CRATE/NAME  FUNCTION: GOAL    the tactics no longer prove a goal of that name, which they proved before
@@ -26,12 +28,12 @@ proof, a macro, two functions), or that no goal of its function refuses there, g
   BROKEN  ..          WHY               its text is not there, the compiler refuses it, or the check gave no verdict
   NOT JUDGED ..       TEST              it needs --proved
 
-The lines are kept in out/mutants.tsv, each with a sum of what it was tried on, and the day. A mutant that has a line there with the same sum is not
-tried again, unless it was BROKEN, or with --anew: `kept from` that day is printed behind its line. The program ends with 1 if a mutant is `new`,
-`shape`, `names`, ALIVE or BROKEN.
+The lines are stored in out/mutants.tsv, each with the date and a checksum of the sources that it depends on. A mutant that already has a line with the
+same checksum is not tried again, unless it was BROKEN or --anew is given; the program then prints its stored line, followed by `kept from` and the date.
+The program ends with status 1 if a mutant is `new`, `shape`, `names`, ALIVE or BROKEN.
 
-With --anchors it tries nothing. It names each mutant whose old text its function does not have exactly once, with the place where the text is now, and
-the files and lines of mutants that are not read. `.ci/run` calls it.
+With --anchors the program tries nothing. It names each mutant whose old text does not occur exactly once in its function, together with the place where
+the text is now, and it names the files and lines of mutants that are not read. `.ci/run` calls it with this option.
 
   tools/edits.py [--jobs N] [--only WORD] [--by goals|tests] [--anew] [--alone] [--proved] [--keep FOLDER] [CRATE ..]
   tools/edits.py --anchors

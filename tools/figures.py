@@ -1,4 +1,6 @@
-"""The tables of the pages that show figures of c/bench/figures."""
+"""Computes the tables in the pages that show figures from c/bench/figures. docs/compare compares these tables
+with the pages.
+"""
 
 import csv
 import functools

@@ -1,12 +1,12 @@
 #!/usr/bin/env python3
-"""Runs the built program on random bytes, on random scripts, and on these with a few bytes changed.
+"""Tests the built program with random bytes, with random scripts, and with random scripts in which a few bytes have been changed.
 
     nice -n 19 tools/fuzz.py [--count 100000] [--seed 1] [--first 0] [--jobs 2] [--program PATH] [TASK..]
 
-TASK is replay, steps, board or bank; without one all four are run, each on that many scripts. Replay runs each script by the plain line, by
-rings, by link lines and by ticket lines, board and bank by the last three in turn. Every run must end by itself, within ten minutes, with the status and
-the exact bytes that definitions.py gives for the script; a run of workers, whose order is free, with a report that it allows. Script number n of a
-seed is the same in every run. The first script that is answered wrongly is printed, and ends the program.
+TASK is replay, steps, board or bank. If none is given, all four are tested, each with COUNT scripts. Replay runs each script with the plain line, with
+rings, with link lines and with ticket lines; board and bank use the last three in turn. Every run must end by itself within ten minutes, with exactly
+the status and the bytes that definitions.py computes for the script. A run of workers, whose order is not fixed, must end with a report that
+definitions.py accepts. Script number n of a seed is the same in every run. The program prints the first script that gets a wrong answer, and ends.
 """
 
 import argparse

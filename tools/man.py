@@ -1,17 +1,19 @@
 #!/usr/bin/env python3
 """Writes the manual pages: docs/man/qolb*.3 from the text of c/include/qolb.h, and docs/man/qolb.1 from the help of the program.
 
-tools/man.py [PROGRAM]      writes all; without a program, and none at crates/qolb/out/qolb, those of the header
-tools/man.py --check [PROGRAM]      compares them with the header and the program: writes nothing, and ends with 1 if one differs
+    tools/man.py [PROGRAM]              writes all pages; if no program is given and crates/qolb/out/qolb does not exist, only those of the header
+    tools/man.py --check [PROGRAM]      compares the pages with the header and the program: writes nothing, and ends with status 1 if one differs
 
-A part of the header's comment between two lines of `====` is a page, and a title in capitals begins a section. The pages have the form of the GNU C library's: NAME,
-SYNOPSIS, DESCRIPTION, RETURN VALUE and ERRORS with what each call returns, EXAMPLE, and NOTES. A page may have no line of more than 80 columns, no list that breaks a
-sentence, and no warning of man.
+Each part of the header's comment between two lines of `====` is a page, and a title in capitals begins a section. The pages have the sections of the GNU C
+library's pages: NAME, SYNOPSIS, DESCRIPTION, RETURN VALUE and ERRORS with the results of each call, EXAMPLE, and NOTES. No line of a page may have more than 80
+columns, no list may interrupt a sentence, and man may print no warning.
 
-The comment of a call has paragraphs, the first of which is one sentence about what the call does. Then it lists what the call returns: below a line `Returns:` each
-result with its meaning, or in a paragraph that begins with `Returns` what another value means. The results must be those of the header's table.
+The comment of a call consists of paragraphs, the first of which is one sentence about what the call does. Then it lists what the call returns: below a line
+`Returns:` each result with its meaning, or, in a paragraph that begins with `Returns`, the meaning of another kind of value. The results must be those of the
+header's table.
 
-The header's table of memory is the one that c/build/tests/memory counts, once it is built (make -C c/tests manual): it is written and compared, too.
+The header's table of memory must be the one that c/build/tests/memory prints, once that program is built (make -C c/tests manual). The table is written and
+compared as well.
 """
 
 import os

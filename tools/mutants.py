@@ -1,6 +1,7 @@
-"""The mutants of crates: how they are written, where a mutant's text stands in its crate, and what the mutant makes of the crate's files.
+"""Reads the mutants of crates: how they are written, where a mutant's text is in its crate, and how the mutant changes the crate's files. A mutant is a
+deliberately wrong edit of a crate, which the prover or a test must refuse.
 
-A mutant of a crate's mutants.edits names a function, a text in it, and the text in its place:
+A mutant in a crate's mutants.edits names a function, a text in it, and the text that replaces it:
 
   == NAME                   above each mutant
   in: PATH FUNCTION         a file in the folder of the crate, and a function of that file; `Type::name` is one in an `impl` whose line has that type.
@@ -11,15 +12,17 @@ A mutant of a crate's mutants.edits names a function, a text in it, and the text
   shows: WHAT               for a test to refuse: what it shows, and the test that must not pass
   test: CRATE::PATH::NAME
 
-Only the words and signs of `old` count: the file may have other spaces and line breaks, comments between the words, and a comma before a closing
-bracket. `$name` in `old` stands for a local variable, whatever its name is now, and `$name` in `new` and `harmless` for the variable that was found.
-A `$name` that `old` does not have is the variable of exactly this name, and the function must have one. The text that is written gets the indentation of
-the one that it replaces.
+Only the words and signs of `old` are compared. The file may have other spaces and line breaks, comments between the words, and a comma before a closing
+bracket. `$name` in `old` stands for a local variable, whatever its name is now, and `$name` in `new` and `harmless` stands for the variable that was
+found. A `$name` that `old` does not contain stands for the variable with exactly this name, and the function must have such a variable. The new text
+gets the indentation of the text that it replaces.
 
-A mutant of must-fail/ is a file in the form of the gate: `file: PATH` stands in place of `in:`, and the file has `old` exactly once, to the letter.
+A mutant of must-fail/ is a file in the format of the gate: it has `file: PATH` instead of `in:`, and the file at PATH contains `old` exactly once,
+character by character.
 
-The faults that the explorers plant in the C library (tools/explore_lock.py, tools/explore_nodes.py) are changes of the same kind, each of a function of
-C: a text that its function has once to the letter is that one, and else its words and signs count, with `$name` for a local variable.
+The faults that the model checkers plant in the C library (tools/explore_lock.py, tools/explore_nodes.py) are changes of the same kind, each in a
+function of C. If the function contains the old text exactly once, character by character, that text is replaced. Otherwise words and signs are compared,
+with `$name` for a local variable.
 """
 
 import collections

@@ -1,15 +1,17 @@
 #!/usr/bin/env python3
-"""Runs tests of locks that others wrote: those of Concurrency Kit with the library's nodes and locks, and the Open POSIX suite with preloaded mutexes.
+"""Runs tests of locks that others wrote: Concurrency Kit's tests with the library's nodes and locks, and the Open POSIX test suite with the preload library.
 
     tools/of_others.py [--seconds N] [--part ck|posix] [--write] [FOLDER]
 
-It fetches Debian's sources of ck and posixtestsuite by apt into FOLDER (else a temporary one), which must lie outside the repository, as they have
-links. Of ck it builds the tests of validation, throughput and latency, with a header for each kind of node and lock beside those of ck's own locks. Of the
-suite it runs each test of pthread_mutex_* and pthread_cond_*, alone and with c/preload/preload.c, and compares how they end. A test that others
-end differently is run again, so that one that ends now so, now so, is not held against the library. A test is ended after N seconds, 120.
+The program fetches Debian's sources of ck and posixtestsuite with apt into FOLDER (by default a temporary folder). FOLDER must lie outside the repository,
+because the sources contain symbolic links. From ck it builds the tests of validation, throughput and latency, with a header for each kind of node and lock
+in addition to ck's own locks. From the suite it runs each test of pthread_mutex_* and pthread_cond_*, with and without c/preload/preload.c, and compares
+how the two runs end. If they end differently, the test is run again, so that a test with varying results does not count against the library. A test is
+stopped after N seconds (120).
 
-It prints a table, and ends with 1 if a test of ck failed with our locks, or one of the suite ended differently. --part runs one of the two. --write puts
-the table into c/bench/figures/of_others.tsv, where a part that was not run stays as it was. It wants `make -C c check` and dpkg-dev; a quarter of an hour.
+The program prints a table, and ends with status 1 if a test of ck failed with our locks, or a test of the suite ended differently. --part runs only one of
+the two. --write puts the table into c/bench/figures/of_others.tsv, where the rows of a part that was not run stay as they were. It needs `make -C c check`
+and dpkg-dev, and takes a quarter of an hour.
 """
 
 import argparse

@@ -1,21 +1,25 @@
 #!/usr/bin/env python3
-"""Runs programs of other authors with their mutexes as locks (c/preload/preload.c), and compares output, time and memory with runs of their own.
+"""Runs programs of other authors with the preload library (c/preload/preload.c), which replaces their mutexes with locks, and compares output, time and memory
+with runs without the preload library.
 
     tools/preloaded.py [--runs 5] [--megabytes 16] [--barging TURNS] [--only NAME ..] [--limit 120] [--keep]
 
-It takes some five minutes on a machine that does nothing else. The packers' input has that many megabytes, and redis-benchmark makes 500 requests for each of
-them. LIMIT is the time in seconds after which a program is taken to hang.
+It takes about five minutes on an otherwise idle machine. MEGABYTES is the size of the input of the compression programs, and redis-benchmark makes 500 requests
+for each megabyte. A program that takes more than LIMIT seconds is considered to hang.
 
 The programs are Debian's: redis-server with four threads that read and write, under redis-benchmark; memcached, under clients that check each value; mariadbd,
-under clients that add to rows and check the sums; CPython, with threads that fork; pigz, pbzip2, zstd and xz with four threads; sysbench's tests of mutexes. One
-that is not installed is named and left out. Servers listen on 127.0.0.1 or on a socket in a temporary folder, for one load each, and are ended.
+under clients that add to rows and check the sums; CPython, with threads that fork; pigz, pbzip2, zstd and xz with four threads; and sysbench's tests of
+mutexes. A program that is not installed is named and left out. Servers listen on 127.0.0.1 or on a socket in a temporary folder, serve one load each, and are
+then stopped.
 
-Runs alone and preloaded take turns, RUNS of each. Each must end well, with the same output, within LIMIT. One run more, with the library that counts, counts the turns: in it no two
-threads may be in one mutex at the same time. If one of these fails, this program says so and ends with 1. Seconds, those of processors, and kilobytes are medians; of a server,
-those of its load. At most 1.25 times the seconds are said to be within, and at most 3 KB for each mutex at once, and 1,024 KB for the library, above the most
-that a run alone took; if one program is not, this one ends with 2. Seconds mean something on a machine that does nothing else: the load is said.
+Runs with and without the preload library alternate, RUNS of each. Each run must end successfully within LIMIT, with the same output. One more run uses a
+preload library that counts acquisitions; in this run no two threads may hold one mutex at the same time. If one of these checks fails, this program prints it
+and ends with status 1. The elapsed time, the processor time and the memory in kilobytes are medians; for a server they cover only its load. A program is within
+bounds if it takes at most 1.25 times the elapsed time, and at most 3 KB for each mutex that exists at once plus 1,024 KB for the library above the maximum of
+the runs without the preload library. If a program is not within bounds, this program ends with status 2. Times are meaningful only on an otherwise idle
+machine, so the output contains the load of the machine.
 
-The table is printed as tab-separated values; with --keep it also goes to c/bench/figures/preloaded.tsv. It needs the C library (make -C c).
+The table is printed as tab-separated values; with --keep it is also written to c/bench/figures/preloaded.tsv. The program needs the C library (make -C c).
 """
 
 import argparse

@@ -1,14 +1,16 @@
 #!/usr/bin/env python3
-"""Explores all cores of the link line that events reach, with each number of nodes, and checks them against the laws of progress.
+"""Explores all states of a link line's core that events can reach, for several numbers of nodes, and checks them against the theorems about progress.
 
-tools/ranks.py [NODES ..]     (1, 2 and 3 nodes if none is given; 3 take some 10 seconds)
+    tools/ranks.py [NODES ..]     (1, 2 and 3 nodes if none is given; 3 nodes take about 10 seconds)
 
-Of each core: a productive event lowers the rank (a ranking function) by at least one; no event except an ask raises it, and an ask by at most 5. For
-each open request no event raises the request's rank while it is open, and a productive event of a node that does not ask behind it lowers it by one.
-If a request is open, the node that the line names has a productive event. With k pending nodes the rank is at most 5k - 3. And the longest
-sequence of productive events is exactly as long as the rank says. The last is proved nowhere else. It ends with 1 at the first core that differs.
+In each state the following must hold. A productive event lowers the rank (a ranking function) by at least one. No event raises the rank except a
+request, which raises it by at most 5. For each open request, no event raises the request's rank while the request is open, and a productive event of
+a node that does not ask behind the request lowers this rank by one. If a request is open, the node that the line names has a productive event. With
+k pending nodes the rank is at most 5k - 3. The longest sequence of productive events is exactly as long as the rank; only this last statement is
+proved nowhere else. The program ends with status 1 at the first state that violates a statement.
 
-The events are written here once more, from the table of docs/SCRIPTS.md. Leases and bytes are left out: they change no point.
+The events are implemented here a second time, from the table in docs/SCRIPTS.md. Leases and bytes are left out, because they do not affect the
+ranks.
 """
 import sys
 from functools import lru_cache

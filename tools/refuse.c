@@ -1,10 +1,12 @@
-/* A library to preload that makes one call of a program fail. REFUSE names the kind and number of the call, as
- * memory:3, thread:1, read:2 or write:5; with SHORT set each read and write of several bytes moves one, and with
- * INTERRUPT set each read and write is interrupted once before it is done. If a call was made to fail, a byte is
- * written to the file descriptor REFUSE_TELL. At the program's end the bytes of memory that it asked for in all are
- * written to TAKEN_TELL. ROOM is how many kilobytes of address space the program may take beside those that it has
- * when it starts, and beside a stack of a megabyte: a stack that can't grow ends any program by a signal. For Linux
- * with glibc. */
+/* A preload library that makes one call of a program fail. The environment variable REFUSE names the kind and the
+ * number of this call, for example memory:3, thread:1, read:2 or write:5. If SHORT is set, each read and write of
+ * several bytes transfers only one byte. If INTERRUPT is set, each read and write is interrupted once before it
+ * succeeds.
+ *
+ * If a call was made to fail, the library writes a byte to the file descriptor REFUSE_TELL. When the program ends, the
+ * library writes the total number of bytes of memory that the program requested to TAKEN_TELL. ROOM is the number of
+ * kilobytes of address space that the program may use beyond what it has when it starts. A stack of a megabyte is not
+ * counted, because a stack that cannot grow ends any program with a signal. The library needs Linux with glibc. */
 #define _GNU_SOURCE
 #include <dlfcn.h>
 #include <errno.h>

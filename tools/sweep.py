@@ -3,11 +3,12 @@
 
     tools/sweep.py [PROGRAM]
 
-A refused allocation or thread must end with status 3, `out of memory` and nothing on standard output; a failed read with 4, `read fault`
-and nothing on standard output; a failed write with 4, `write fault` and a prefix of the answer. With reads and writes of one byte, and
-with each of them interrupted once, the answer must be whole. With little address space beside what it starts with a run must report that memory is
-lacking or answer whole. The expected answers are from definitions.py. And the lines of work are of the named
-kind: by the memory that it asks for, which differs between the kinds. Needs Linux with glibc and cc.
+If an allocation or the start of a thread fails, the program must end with status 3, `out of memory` and nothing on standard output. If a read
+fails, it must end with status 4, `read fault` and nothing on standard output; if a write fails, with status 4, `write fault` and a prefix of the
+answer. With reads and writes of one byte, and with each of them interrupted once, the answer must be complete. If the program has little address
+space beyond what it starts with, it must report that memory is lacking, or give the complete answer. The expected answers come from
+definitions.py. The program must use lines of the named kind; this is checked by the amount of memory that it requests, which differs between the
+kinds. The test needs Linux with glibc and cc.
 """
 
 import itertools

@@ -1,15 +1,16 @@
 #!/usr/bin/env python3
-"""Runs all tests of the named crates, or of all, without a proof: `./qolb --test`.
+"""Runs all tests of the named crates, or of all crates, without proving anything: `./qolb --test`.
 
     tools/tests.py [NAME ..]
 
-`rt try --test` builds and runs the tests of each crate, side by side with others, in a copy of the repository. Tests that take longest are tried apart
-from the others of their crate (`APART`). Tests that take all memory (by the crate test_support) are left out: `rt try` builds programs with
-another allocator, over which they fail whatever the code does; the gate runs them. For each crate it prints how many tests passed and how long they
-took; if some failed, also their output. Each half minute it prints what is at work.
+`rt try --test` builds and runs the tests of each crate in a copy of the repository, in parallel with those of other crates. The tests that take longest are
+run separately from the others of their crate (`APART`). Tests that take all memory (with the crate test_support) are left out, because `rt try` builds
+programs with another allocator, with which these tests fail whatever the code does; the gate runs them. For each crate the program prints how many tests
+passed and how long they took; if some failed, it also prints their output. Every half minute it prints which crates it is working on.
 
-A test's limit is processor time, so that it ends the same on a busy machine. It ends with 1 if a test fails, or if those that passed and those that were
-left out are not all tests of the sources; else with 3 if a test was out of time, which is said apart: it hangs, as after a lost wake, or the machine is slow.
+The limit of a test is processor time, so that the test has the same result on a busy machine. The program ends with status 1 if a test fails, or if the tests
+that passed and those that were left out are not together all tests of the sources. Otherwise it ends with status 3 if a test exceeded its limit. Such a test
+is reported separately: it hangs, for example after a lost wake-up, or the machine is slow.
 """
 
 import argparse

@@ -1,4 +1,6 @@
-"""The diagrams of the pages: the five layers between a program and an atomic word, and the states of a node."""
+"""Draws two diagrams for the pages: the five layers between a program and an atomic word, and the states of a
+node.
+"""
 
 from svg import Picture
 

@@ -1,10 +1,11 @@
 #!/usr/bin/env python3
-"""Writes the pictures of the pages that the program does not draw, docs/figures/*.svg.
+"""Writes docs/figures/*.svg, the pictures in the pages that the program qolb does not draw.
 
     tools/pictures/draw.py            writes them
-    tools/pictures/draw.py --check    writes nothing, and ends with 1 if one differs from what would be written
+    tools/pictures/draw.py --check    writes nothing, and ends with status 1 if a picture differs from what would be written
 
-To see one as an image: rsvg-convert --background-color white docs/figures/layers.svg > layers.png (Debian's package librsvg2-bin).
+To convert a picture to PNG: rsvg-convert --background-color white docs/figures/layers.svg > layers.png (Debian's package
+librsvg2-bin).
 """
 
 import pathlib

@@ -1,4 +1,6 @@
-"""Plots of figures in c/bench/figures: locks beside those that people use, a line's bytes, and what a simulation says of larger machines."""
+"""Plots figures from c/bench/figures: the speed of our locks compared with other locks, the memory of a line, and a simulation of larger
+machines.
+"""
 
 import math
 import pathlib

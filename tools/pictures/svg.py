@@ -1,6 +1,7 @@
-"""Drawing a picture in SVG that can be read on a light page and on a dark one.
+"""Draws pictures in SVG that are readable on a light and on a dark page.
 
-A node's bar and a hand-over have the colours of the program's pictures (`qolb draw --svg`), whose style is read from the source: one key for all.
+Nodes and hand-overs have the same colours as in the program's pictures (`qolb draw --svg`), so one key explains all pictures. The colours are
+read from the program's source.
 """
 
 import pathlib
