@@ -4,8 +4,8 @@
     tools/at_work.py [PROGRAM]
 
 A failed read must end with status 4, `read fault` and nothing on standard output, and a failed write with status 4 and `write fault`. A refused
-script or command line must end with its own status, whatever happens to standard output and standard error. No run may end by a signal. Arguments
-that are not UTF-8 must be refused, and so must a command line with one argument too many, for which the program must print an explanation.
+script or command line must end with its own status, whatever happens to standard output and standard error. No run may end by a signal. The program
+must refuse arguments that are not UTF-8. It must also refuse a command line with one argument too many, and print an explanation.
 
 Scripts of 100,000 commands, events and jobs must be answered completely, and so must pictures of 20 million letters; the expected answers are those
 of definitions.py for a link line. The pictures in the pages must be those that the program draws. Waiting workers must sleep if `--sleep` is given,

@@ -28,9 +28,9 @@ mutants do. The program prints a line for each mutant:
   BROKEN  ..          WHY               its text is not there, the compiler refuses it, or the check gave no verdict
   NOT JUDGED ..       TEST              it needs --proved
 
-The lines are stored in out/mutants.tsv, each with the date and a checksum of the sources that it depends on. A mutant that already has a line with the
-same checksum is not tried again, unless it was BROKEN or --anew is given; the program then prints its stored line, followed by `kept from` and the date.
-The program ends with status 1 if a mutant is `new`, `shape`, `names`, ALIVE or BROKEN.
+These output lines are stored in out/mutants.tsv, each with the date and a checksum of the sources that it depends on. A mutant that already has a line
+with the same checksum is not tried again, unless it was BROKEN or --anew is given; the program then prints its stored line, followed by `kept from` and
+the date. The program ends with status 1 if a mutant is `new`, `shape`, `names`, ALIVE or BROKEN.
 
 With --anchors the program tries nothing. It names each mutant whose old text does not occur exactly once in its function, together with the place where
 the text is now, and it names the files and lines of mutants that are not read. `.ci/run` calls it with this option.

@@ -12,8 +12,8 @@ The comment of a call consists of paragraphs, the first of which is one sentence
 `Returns:` each result with its meaning, or, in a paragraph that begins with `Returns`, the meaning of another kind of value. The results must be those of the
 header's table.
 
-The header's table of memory must be the one that c/build/tests/memory prints, once that program is built (make -C c/tests manual). The table is written and
-compared as well.
+If the program c/build/tests/memory has been built (make -C c/tests manual), the header's table of memory must be the one that it prints. This table is written
+and compared as well.
 """
 
 import os

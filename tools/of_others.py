@@ -7,11 +7,11 @@ The program fetches Debian's sources of ck and posixtestsuite with apt into FOLD
 because the sources contain symbolic links. From ck it builds the tests of validation, throughput and latency, with a header for each kind of node and lock
 in addition to ck's own locks. From the suite it runs each test of pthread_mutex_* and pthread_cond_*, with and without c/preload/preload.c, and compares
 how the two runs end. If they end differently, the test is run again, so that a test with varying results does not count against the library. A test is
-stopped after N seconds (120).
+stopped after N seconds (120 by default).
 
 The program prints a table, and ends with status 1 if a test of ck failed with our locks, or a test of the suite ended differently. --part runs only one of
-the two. --write puts the table into c/bench/figures/of_others.tsv, where the rows of a part that was not run stay as they were. It needs `make -C c check`
-and dpkg-dev, and takes a quarter of an hour.
+the two. --write puts the table into c/bench/figures/of_others.tsv, where the rows of a part that was not run stay as they were. Before it runs, `make -C c
+check` must have been run and dpkg-dev must be installed. It takes a quarter of an hour.
 """
 
 import argparse

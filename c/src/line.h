@@ -2,7 +2,7 @@
  * line is freed (qolb_node(3)). line.c opens lines, and calls.c waits and releases.
  *
  * The line itself is proved: its words, its 64 bytes and the requests of its nodes are in memory of the proved part,
- * which the calls of proved.h use. This header adds only what waiting needs.
+ * which the calls of proved.h use. This header declares the further data that waiting needs.
  *
  * Where a node sleeps: each word on which nodes wait has a place in the line, and the waiting thread sleeps there. It
  * adds 1 to the place's `sleepers` and to the line's `waiting`, reads the place's `word`, polls once more, and sleeps

@@ -2,9 +2,10 @@
  * _proved_, the name of a proved call is the name of the call in qolb.h that makes it. core.h has the proved calls on
  * locks.
  *
- * No call can check the following rules, which its caller must keep (docs/PROVED.md). A handle consists of zeros, or is
- * as its last call left it. At most one call uses a handle at a time. A handle may be moved, but it must not be copied.
- * Each other argument points to a valid object of its type, which overlaps neither another argument nor the handle. */
+ * No call can check the following rules, which the callers must keep (docs/PROVED.md). A handle consists of zeros, or
+ * is as its last call left it. At most one call uses a handle at a time. A handle may be moved, but it must not be
+ * copied. Each other argument points to a valid object of its type, which overlaps neither another argument nor the
+ * handle. */
 #ifndef QOLB_PROVED_H
 #define QOLB_PROVED_H
 

@@ -1,5 +1,5 @@
 // Tests a program that is written for std::mutex and std::condition_variable. The program is compiled twice: with these
-// types, and with the types of the library. It uses a queue of bounded length, waits with deadlines, accounts under two
+// two types, and with those of the library. It uses a queue of bounded length, waits with deadlines, accounts under two
 // locks at once, and guards that are moved. Both versions must print the numbers that the comments below derive.
 #ifdef STD
 #include <condition_variable>

@@ -1,9 +1,9 @@
 /* Entries: lists of the tickets for which no thread waits. The lists are searched by the lock's address and the
  * ticket's number. abandoned.c has the entries of calls that timed out, and tasks.c has the entries of tasks.
  *
- * A ticket's entry is put into its list before the proved call announces the ticket's sleep. So a thread that grants
- * the ticket is told of a sleeper, searches the list, and finds the entry. If the ticket's turn has come before the
- * announcement, the entry is removed again.
+ * A ticket's entry is put into its list before the proved call announces the ticket's sleep. So the call that grants
+ * the ticket reports a sleeper to its thread, which searches the list and finds the entry. If the ticket's turn has
+ * come before the announcement, the entry is removed again.
  *
  * The granting thread knows only the lock's address and label, because the lock may no longer exist. A lock exists as
  * long as a list contains an entry for it. If the memory now contains another lock, the entries of that lock have
@@ -12,8 +12,8 @@
  * lock may no longer exist.
  *
  * The library counts the entries of a lock, from before an entry is put into a list until after it is removed. While
- * this count is zero, a thread that is told of a sleeper searches no list. The count is not stored in the lock, because
- * the lock may no longer exist when the count is read. */
+ * this count is zero, a thread whose release reports a sleeper searches no list. The count is not stored in the lock,
+ * because the lock may no longer exist when the count is read. */
 #ifndef QOLB_ENTRIES_H
 #define QOLB_ENTRIES_H
 

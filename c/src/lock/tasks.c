@@ -9,8 +9,8 @@
  *
  * When its turn comes, a task of a barging lock becomes the queue head, but it has no thread that could watch the lock
  * word. If the lock word is held, the library puts the task's entry into the list of queue heads. Then it requests the
- * hand-over, so that no barging thread follows the holder, and announces that the head sleeps. The leaving thread is
- * told of the sleep, searches the list, and takes the lock word for the task.
+ * hand-over, so that no barging thread follows the holder, and announces that the head sleeps. The call that leaves the
+ * lock word reports the sleeper to the leaving thread, which searches the list and takes the lock word for the task.
  *
  * One guard protects all tasks of a lock. Callbacks are called without this guard. A thread that passes a turn on or
  * leaves calls callbacks only after everything else is done, because a callback may use any task and any lock. */
