@@ -226,8 +226,8 @@
  *
  * A thread that times out gives up its ticket, which still counts as an open request until a holder passes it. If more
  * than 60 requests are before this ticket, the thread allocates memory to give it up. If no memory is left, the thread
- * waits until fewer requests are before its ticket. While more than 12,280 requests of a lock are open, a call with a
- * timeout draws no ticket, so it may be overtaken.
+ * waits until fewer requests are before its ticket. While more than about 12,280 requests of a lock are open, a call
+ * with a timeout draws no ticket, so it may be overtaken.
  *
  * FORK
  *
@@ -243,7 +243,8 @@
  *
  * - If fewer threads are before it than there are processors, it polls for 50 us, or for 1 us for each of these threads
  *   if that is longer.
- * - If fewer than twice as many threads are before it, it polls for 50 us.
+ * - If fewer than twice as many threads are before it, it polls for 50 us in a strict lock, and for 2 us in the queue
+ *   of a barging lock.
  * - If more threads are before it, it polls for 2 us.
  *
  * Once a thread in a strict lock has seen as many threads before it as there are processors, it yields instead of
@@ -497,9 +498,9 @@
  * - Every call by which a thread or a task enters, leaves, gives up or destroys a lock may make notifications of tasks.
  * - While the first waiter of a barging lock is a task, no barging thread follows the holder.
  * - No call for a task waits for a turn. A task that would have to wait is answered QOLB_NO_MEMORY if memory is short,
- *   or while more than 12,280 requests of the lock are open. The request of a task that gave up stays open until the
- *   critical section before it ends, so while one thread holds a strict lock, tasks can enter and cancel at most 12,280
- *   times.
+ *   or while more than about 12,280 requests of the lock are open. The request of a task that gave up stays open until
+ *   the critical section before it ends, so while one thread holds a strict lock, tasks can enter and cancel at most
+ *   about 12,280 times.
  * - A lock that a task holds is not held by the thread that works for the task. In this thread, qolb_lock_enter waits,
  *   and waits for ever if the thread would have to leave for the task. qolb_lock_enter_within times out, and
  *   qolb_lock_try returns QOLB_BUSY. Calls that leave, shut, or wait at a condition return QOLB_MISUSE. In an event
