@@ -593,7 +593,8 @@ enum qolb_result {
     QOLB_BAD_KIND = 12,  /* there is no such kind of line */
     QOLB_TOO_FEW = 13,   /* there are fewer handles than nodes */
     QOLB_OCCUPIED = 14,  /* a handle that the call would fill has a node, or the lock is already open */
-    QOLB_TIMEDOUT = 15   /* the timeout expired; the request is withdrawn, but a thread at a condition holds the lock */
+    QOLB_TIMEDOUT = 15   /* the timeout expired, and the request is withdrawn. After a wait at a condition the thread
+                            holds the lock */
 };
 
 /* The states of a node. In the states IDLE, LEFT, ROLLED and SHUT a node may request the line. */
@@ -739,7 +740,7 @@ enum qolb_result qolb_link(qolb_node *node) QOLB_LOOK;
  * - QOLB_MISUSE: The node does not hold the line, and `out` is unchanged. */
 enum qolb_result qolb_read(qolb_node *node, qolb_bytes *out);
 
-/* Writes those bytes of the line whose bit is set in `mask`: byte k of `bytes` if bit k is set.
+/* Writes byte k of `bytes` to the line, for each bit k that is set in `mask`.
  *
  * Returns:
  * - QOLB_DONE: The bytes are written.
