@@ -181,7 +181,9 @@ def told_of(said):
     results = {}
     if runs[-1][0] == "Returns:":
         results = dict(item[2:].split(": ", 1) for item in items(runs.pop()[1:], "- "))
-    value = " ".join(runs.pop()) if runs[-1][0].startswith("Returns ") else ""
+    value = " ".join(runs.pop()) if runs and runs[-1][0].startswith("Returns ") else ""
+    if not runs:
+        sys.exit(f"man.py: a comment of a call does not say what the call does: {' '.join(said)}")
     return runs, value, results
 
 

@@ -12,6 +12,23 @@
  *     cc -pthread prog.c $(pkg-config --cflags --libs qolb)
  *     cc -pthread -I PREFIX/include prog.c PREFIX/lib/libqolb.a
  *
+ * EXAMPLE
+ *
+ *     #include <qolb.h>
+ *     #include <stdio.h>
+ *
+ *     static qolb_lock lock = QOLB_LOCK_INIT;
+ *
+ *     int main(void) {
+ *         enum qolb_result got = qolb_lock_enter(&lock);
+ *         if (!qolb_ok(got)) {
+ *             fprintf(stderr, "%s\n", qolb_result_name(got));
+ *             return 1;
+ *         }
+ *         qolb_lock_leave(&lock);
+ *         return 0;
+ *     }
+ *
  * RETURN VALUE
  *
  * Most calls return an enum qolb_result. The table lists the results that each call may return, without the prefix

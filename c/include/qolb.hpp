@@ -2,7 +2,7 @@
 // qolb_lock(3), qolb_node(3) and qolb_task(3) say what each call returns, and which rules its callers must keep.
 //
 //     qolb::lock lock;                             // a timed mutex, for the guards of the standard library
-//     qolb::lock often(qolb::barging{1024});       // arriving threads may overtake the queue, but not without end
+//     qolb::lock often(qolb::barging{1024});       // arriving threads may overtake, a bounded number of times
 //     qolb::Condition some;                        // is used like a std::condition_variable
 //     std::unique_lock<qolb::lock> held(lock);     // throws Closed after a shut, Deadlock if the thread holds it
 //     some.wait_for(held, std::chrono::milliseconds(1), [&] { return jobs > 0; });
