@@ -120,17 +120,17 @@
  *
  * SANITIZERS AND DEBUGGERS
  *
- * The library tells the thread sanitizer (-fsanitize=thread) about each grant and each release. The sanitizer regards
+ * The header tells the thread sanitizer (-fsanitize=thread) about each grant and each release. The sanitizer regards
  * every lock as a separate object. It regards lines that have the same label as one object, and also some lines that
  * have different labels. Therefore the sanitizer may miss a race between such lines.
  *
- * If source files are compiled with -DQOLB_HELGRIND or -DQOLB_DRD, the library tells helgrind or drd, two tools of
+ * If source files are compiled with -DQOLB_HELGRIND or -DQOLB_DRD, the header tells helgrind or drd, two tools of
  * valgrind, about grants and releases. Make these tools suppress reports about the library's own accesses to memory:
  * valgrind --tool=helgrind --suppressions=PREFIX/share/qolb/valgrind.supp.
  *
  * The proved part of the library has no unwind tables, so a backtrace that begins there may be incomplete.
  *
- * In a stopped program or in a core dump, gdb can show which thread holds a lock. Enter `source
+ * In a stopped program or in a core dump, gdb can show which thread holds a lock. For this, enter `source
  * PREFIX/share/qolb/qolb.gdb` and then `qolb-holder &lock`. The file that contains the library must not be stripped,
  * because gdb needs the library's symbols.
  *
@@ -163,7 +163,7 @@
  *     QOLB_LOCK_INIT_BARGING(limit)   barging   2 to 65,535     320
  *     QOLB_COND_INIT                  strict                      8
  *
- * A lock whose bytes are all zero is a strict lock, and a condition may consist of zeros as well. Therefore memory from
+ * If all bytes of a lock or a condition are zero, it is initialised, and the lock is strict. Therefore memory from
  * calloc needs no initialiser.
  *
  * EXAMPLE
@@ -200,7 +200,7 @@
  * ORDER AND BARGING
  *
  * A thread that enters a strict lock draws a ticket with one atomic step, and the lock serves tickets in order. No call
- * that begins after this step is served before this thread while the thread waits.
+ * that begins after this step is served before the waiting thread.
  *
  * A barging lock becomes free when its holder leaves, even if other threads wait for the lock. The next thread that
  * enters then takes the lock. A thread that takes the lock without a ticket is called a barging thread. If a thread
@@ -241,9 +241,8 @@
  *
  * A thread with a ticket first polls. The first thread in the queue polls every 90 ns. A thread farther back pauses
  * longer between two polls: 150 ns longer for each waiter before it. Once the thread has seen how long a hand-over
- * takes, it pauses longer by three quarters of that time instead, but by at most 500 ns, for each waiter before it. How
- * long the thread polls depends on the number of threads before it, and on the number of processors that the process
- * may use:
+ * takes, it uses three quarters of that time in place of the 150 ns, but at most 500 ns. How long the thread polls
+ * depends on the number of threads before it, and on the number of processors that the process may use:
  *
  * - If fewer threads are before it than there are processors, the thread polls for 50 us, or for 1 us per thread before
  *   it if that is longer.
@@ -956,8 +955,9 @@ enum qolb_result qolb_lock_leave(qolb_lock *lock);
 
 /* Leaves the lock and shuts it, which takes the lock out of service.
  *
- * All threads and tasks that wait, all threads that wait on a condition, and all later callers are told that the lock
- * is shut. The waiters are told one after the other, each of them once the waiter before it has polled.
+ * All threads and tasks that wait for the lock, all threads that wait on a condition with this lock, and all later
+ * callers are told that the lock is shut. The waiters are told one after the other, each of them once the waiter before
+ * it has polled.
  *
  * Returns:
  * - QOLB_DONE: The lock is shut, and the calling thread has left it.
