@@ -163,8 +163,8 @@
  *     QOLB_LOCK_INIT_BARGING(limit)   barging   2 to 65,535     320
  *     QOLB_COND_INIT                  strict                      8
  *
- * If all bytes of a lock or a condition are zero, it is initialised, and the lock is strict. Therefore memory from
- * calloc needs no initialiser.
+ * If all bytes of a lock or a condition are zero, the lock or condition is initialised, and the lock is strict.
+ * Therefore memory from calloc needs no initialiser.
  *
  * EXAMPLE
  *
@@ -223,9 +223,9 @@
  *
  * TIMEOUTS
  *
- * A timeout is a duration in nanoseconds, which begins with the call. UINT64_MAX means that there is no timeout. Only
- * qolb_lock_enter_until takes an absolute time, measured on CLOCK_MONOTONIC. To bound the total time of a loop of
- * waits, pass each wait the time that remains.
+ * A timeout is a duration in nanoseconds, counted from the beginning of the call. UINT64_MAX means that there is no
+ * timeout. Only qolb_lock_enter_until takes an absolute time, measured on CLOCK_MONOTONIC. To bound the total time of a
+ * loop of waits, pass each wait the time that remains.
  *
  * A thread that times out gives up its ticket, which still counts as an open request until a holder skips it. If more
  * than 60 requests are before this ticket, the thread allocates memory in order to give the ticket up. If the
@@ -250,9 +250,9 @@
  *   for 50 us.
  * - If more threads are before it, the thread polls for 2 us.
  *
- * Once a thread in a strict lock has seen as many threads before it as there are processors, it yields before each poll
- * instead of pausing, as long as fewer than twice as many threads are before it as there are processors. Each yield
- * counts as 500 ns of polling, so the thread yields at most a hundred times before it sleeps.
+ * A waiter of a strict lock may yield before each poll instead of pausing. It does so once it has seen as many threads
+ * before it as there are processors, and as long as fewer than twice as many are before it. Each yield counts as 500 ns
+ * of polling, so the thread yields at most a hundred times before it sleeps.
  *
  * After polling, the thread sleeps on a futex until its turn has come. A thread that had to sleep polls for a shorter
  * time when it next waits. A thread that waits on a condition sleeps at once, and so does every thread of a process
@@ -308,7 +308,7 @@
  *   stays held, as a mutex does, and all other threads that enter it wait.
  * - Destroy a lock only if no thread is about to use it.
  * - Free the memory of a lock only once the lock is destroyed, or once nobody holds it, waits for it or is about to use
- *   it. You may free the memory even if a thread that left the lock has not yet returned from its call to leave.
+ *   it. You may free the memory even if a thread that left the lock has not yet returned from the call that left it.
  * - Free the memory of a condition only while no thread is in a call on this condition.
  * - Do not call the library in a signal handler, or in the forked child of a process with several threads.
  * - All threads that use a lock must use the same loaded copy of the library. Do not mix a copy that is linked
@@ -318,9 +318,9 @@
  *
  * If a lock does not allow a call for any other reason, the call returns QOLB_MISUSE and changes nothing.
  *
- * The next holder of a lock sees everything that a thread wrote before it left the lock. So does a thread whose call
- * returns QOLB_CLOSED. Align data that many threads change to a multiple of 64 bytes, because data directly behind a
- * lock may share the lock's last cache line.
+ * The next holder of a lock sees everything that a thread wrote before that thread left the lock. A thread whose call
+ * returns QOLB_CLOSED sees the same writes. Align data that many threads change to a multiple of 64 bytes, because data
+ * directly behind a lock may share the lock's last cache line.
  *
  * ==== qolb_node(3): nodes, which share the 64 bytes of a line ====
  *
@@ -932,14 +932,14 @@ enum qolb_result qolb_lock_try(qolb_lock *lock) QOLB_LOOK;
  * - QOLB_MISUSE: The calling thread already holds the lock. The call returns at once. */
 enum qolb_result qolb_lock_enter_within(qolb_lock *lock, uint64_t nanoseconds) QOLB_LOOK;
 
-/* Enters the lock, and waits until the calling thread holds it, but not after `time`.
+/* Enters the lock, and waits until the calling thread holds it, but at most until `time`.
  *
  * `time` is an absolute time in nanoseconds, measured on CLOCK_MONOTONIC. UINT64_MAX means that there is no timeout
  * (TIMEOUTS).
  *
  * Returns:
  * - QOLB_GRANTED: The calling thread holds the lock.
- * - QOLB_TIMEDOUT: The time `time` was reached. The calling thread does not hold the lock.
+ * - QOLB_TIMEDOUT: `time` passed before the lock was granted. The calling thread does not hold the lock.
  * - QOLB_CLOSED: The lock is shut.
  * - QOLB_MISUSE: The calling thread already holds the lock. The call returns at once. */
 enum qolb_result qolb_lock_enter_until(qolb_lock *lock, uint64_t time) QOLB_LOOK;
@@ -966,9 +966,9 @@ enum qolb_result qolb_lock_shut(qolb_lock *lock);
 
 /* Destroys the lock, so that its memory may be freed.
  *
- * Afterwards the lock is in the state in which an initialiser leaves it. Its next use opens the lock with the same
+ * Afterwards the lock is in the state that its initialiser gave it. The next use of the lock opens it with the same
  * limit, and then the lock is not shut. The thread that was granted the lock last, and has left the lock, may destroy
- * it even if another thread has not yet returned from its call to leave.
+ * it even if another thread has not yet returned from the call that left it.
  *
  * Returns:
  * - QOLB_DONE: The lock is destroyed, or was not open.
