@@ -308,7 +308,8 @@
  *   stays held, as a mutex does, and all other threads that enter it wait.
  * - Destroy a lock only if no thread is about to use it.
  * - Free the memory of a lock only once the lock is destroyed, or once nobody holds it, waits for it or is about to use
- *   it. You may free the memory even if a thread that left the lock has not yet returned from the call that left it.
+ *   it. You may free the memory even if a thread that left the lock has not yet returned from the call by which it left
+ *   the lock.
  * - Free the memory of a condition only while no thread is in a call on this condition.
  * - Do not call the library in a signal handler, or in the forked child of a process with several threads.
  * - All threads that use a lock must use the same loaded copy of the library. Do not mix a copy that is linked
@@ -968,7 +969,7 @@ enum qolb_result qolb_lock_shut(qolb_lock *lock);
  *
  * Afterwards the lock is in the state that its initialiser gave it. The next use of the lock opens it with the same
  * limit, and then the lock is not shut. The thread that was granted the lock last, and has left the lock, may destroy
- * it even if another thread has not yet returned from the call that left it.
+ * it even if another thread has not yet returned from the call by which it left the lock.
  *
  * Returns:
  * - QOLB_DONE: The lock is destroyed, or was not open.
