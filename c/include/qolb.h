@@ -229,8 +229,8 @@
  *
  * A thread that times out gives up its ticket, which still counts as an open request until a holder skips it. If more
  * than 60 requests are before this ticket, the thread allocates memory in order to give the ticket up. If the
- * allocation fails, the thread waits until fewer requests are before its ticket. While a lock has more than 12,280 open
- * requests, a call with a timeout draws no ticket, so the thread may be overtaken.
+ * allocation fails, the thread waits until fewer requests are before its ticket. While a lock has more than about
+ * 12,280 open requests, a call with a timeout draws no ticket, so the thread may be overtaken.
  *
  * FORK
  *
@@ -247,7 +247,7 @@
  * - If fewer threads are before it than there are processors, the thread polls for 50 us, or for 1 us per thread before
  *   it if that is longer.
  * - If at least as many threads are before it as there are processors, but fewer than twice as many, the thread polls
- *   for 50 us.
+ *   for 50 us in a strict lock, and for 2 us in the queue of a barging lock.
  * - If more threads are before it, the thread polls for 2 us.
  *
  * A waiter of a strict lock may yield before each poll instead of pausing. It does so once it has seen as many threads
@@ -514,9 +514,9 @@
  *   tasks.
  * - While the first waiter of a barging lock is a task, no barging thread takes the lock after the holder.
  * - No call for a task waits for the task's turn. If a task would have to wait, the call returns QOLB_NO_MEMORY when
- *   memory is short, or when more than 12,280 requests of the lock are open. The request of a task that gave up stays
- *   open until the critical section before it ends. Therefore, while one thread holds a strict lock, tasks can enter
- *   and cancel at most 12,280 times.
+ *   memory is short, or when more than about 12,280 requests of the lock are open. The request of a task that gave up
+ *   stays open until the critical section before it ends. Therefore, while one thread holds a strict lock, tasks can
+ *   enter and cancel at most about 12,280 times.
  * - If a task holds a lock, the thread that works for the task does not hold it. In this thread, qolb_lock_enter waits,
  *   and it waits for ever if the same thread would have to leave the lock for the task. qolb_lock_enter_within times
  *   out, and qolb_lock_try returns QOLB_BUSY. Calls that leave the lock, shut it, or wait on a condition return

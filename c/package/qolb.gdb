@@ -6,12 +6,16 @@
 # It needs the library's symbol qolb_own_, the thread's table of locks (c/src/lock/turns.c), so the file that contains the
 # library must not be stripped. The program must have only one copy of the library.
 define qolb-holder
-  set $qolb_lock = (unsigned long *) ($arg0)
-  set $qolb_table = *(unsigned long *) &qolb_own_
-  set $qolb_found = 0
-  thread apply all -q qolb-holds
-  if !$qolb_found
-    echo no thread holds it: the lock is free, or is held by a task, or by a thread that has ended\n
+  if sizeof($arg0) != sizeof(void *)
+    echo qolb-holder takes the address of a lock: qolb-holder &lock\n
+  else
+    set $qolb_lock = (unsigned long *) ($arg0)
+    set $qolb_table = *(unsigned long *) &qolb_own_
+    set $qolb_found = 0
+    thread apply all -q qolb-holds
+    if !$qolb_found
+      echo no thread holds it: the lock is free, or is held by a task, or by a thread that has ended\n
+    end
   end
 end
 

@@ -7,7 +7,7 @@
  * follows from that number, too:
  *
  *   fewer threads than processors     50 us, or 1 us for each of them: all may be running
- *   fewer than twice the processors   50 us
+ *   fewer than twice the processors   50 us; in the queue of a barging lock 2 us
  *   more                              2 us
  *   it can't tell                     20 us
  *

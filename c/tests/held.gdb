@@ -19,4 +19,6 @@ echo of_task\n
 qolb-holder &of_task
 echo of_ended\n
 qolb-holder &of_ended
+echo not_an_address\n
+qolb-holder of_main
 kill
