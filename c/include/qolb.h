@@ -234,8 +234,9 @@
  *
  * FORK
  *
- * A lock or a line belongs to one process. After a fork, parent and child have separate copies of it, and these copies
- * protect nothing that the two processes share. The child of a process with one thread may continue to use its copy.
+ * A lock or a line belongs to one process. After a fork, parent and child have separate copies of the lock or line, and
+ * these copies protect nothing that the two processes share. The child of a process with one thread may continue to use
+ * its copy.
  *
  * WAITING
  *
@@ -267,8 +268,8 @@
  * took a millisecond each, no thread of the process yields for a quarter of a second.
  *
  * A thread that leaves a strict lock wakes the next holder, and a thread that leaves a barging lock wakes the first
- * waiter. If the leaving thread had to sleep for the lock itself, it may also wake the second waiter. A thread that
- * leaves a lock makes a system call only if it may have to wake a sleeper.
+ * waiter. If the leaving thread had to sleep before it was granted the lock, it may also wake the second waiter. A
+ * thread that leaves a lock makes a system call only if it may have to wake a sleeper.
  *
  * A strict lock always goes to the next thread in the queue. If this thread is not running, all threads behind it wait
  * until it runs. Therefore, if the runnable threads of all programs together outnumber the processors, short critical
@@ -947,7 +948,7 @@ enum qolb_result qolb_lock_enter_until(qolb_lock *lock, uint64_t time) QOLB_LOOK
 
 /* Leaves the lock. A strict lock goes to the first waiter, and a barging lock becomes free.
  *
- * The call does not wait for a turn, but it may make notifications of tasks (qolb_task(3)).
+ * The call does not wait for a turn, but it may make notifications for tasks (qolb_task(3)).
  *
  * Returns:
  * - QOLB_DONE: The calling thread has left the lock.
@@ -957,8 +958,7 @@ enum qolb_result qolb_lock_leave(qolb_lock *lock);
 /* Leaves the lock and shuts it, which takes the lock out of service.
  *
  * All threads and tasks that wait for the lock, all threads that wait on a condition with this lock, and all later
- * callers are told that the lock is shut. The waiters are told one after the other, each of them once the waiter before
- * it has polled.
+ * callers are told that the lock is shut. Each waiter is told only after the waiter before it has polled.
  *
  * Returns:
  * - QOLB_DONE: The lock is shut, and the calling thread has left it.
@@ -1296,7 +1296,7 @@ static inline const char *qolb_result_name(uint32_t result) {
     return result < sizeof names / sizeof names[0] ? names[result] : "?";
 }
 
-/* Gets the name of a kind of lines, as the program `qolb` takes it.
+/* Gets the name of a kind of line, as the program `qolb` uses it.
  *
  * Returns "ring", "link" or "ticket", and "?" for any other number. */
 static inline const char *qolb_kind_name(uint32_t kind) {
