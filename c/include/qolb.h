@@ -230,7 +230,8 @@
  * A thread that times out gives up its ticket, which still counts as an open request until a holder skips it. If more
  * than 60 requests are before this ticket, the thread allocates memory in order to give the ticket up. If the
  * allocation fails, the thread waits until fewer requests are before its ticket. While a lock has more than about
- * 12,280 open requests, a call with a timeout draws no ticket, so the thread may be overtaken.
+ * 12,280 open requests, a call with a timeout draws no ticket, so the thread may be overtaken. In a barging lock, a
+ * call draws no ticket either if its timeout expires during the 10 us for which it polls before it queues.
  *
  * FORK
  *
@@ -361,8 +362,10 @@
  * lane: A lane is one of the eight 64-bit numbers of a line. Lane k consists of bytes 8k to 8k + 7, the lowest byte
  *     first.
  * lease: The lease is the number of acquisitions after which a line closes.
- * closed: A closed line serves no later request: every such request returns QOLB_CLOSED. A line is closed by qolb_shut,
- *     or when its lease is used up.
+ * closed: A closed line serves no later request: every such request returns QOLB_CLOSED when its turn comes. A line is
+ *     closed by qolb_shut, or when its lease is used up. The turns of the waiters come one after the other, each once
+ *     the waiter before it has polled. Until the last one has polled, even a node that knows that the line is closed
+ *     may get QOLB_QUEUED from qolb_enqolb, QOLB_BUSY from qolb_try, and QOLB_TIMEDOUT from qolb_acquire_within.
  * label: The label of a line is a number that the caller chooses.
  *
  * KINDS
@@ -486,10 +489,10 @@
  * - The function passes the notification on: it sets a flag, makes a task ready, or writes to a descriptor. The
  *   function must not wait for another thread, throw an exception, jump out, or end the thread. The thread is not
  *   cancelled while it runs the function.
- * - The function may make calls that do not wait, for any node that its thread may use. If the function releases a line
- *   or a lock, the notifications of this release are postponed until the function has returned. They are made earlier
- *   if the function makes a call for a node that returns QOLB_BUSY, and at once if 32 notifications are already
- *   postponed.
+ * - The function may make calls that do not wait, for any node, lock or task that its thread may use. If the function
+ *   releases a line or a lock, the notifications of this release are postponed until the function has returned. They are
+ *   made earlier if the function makes a call for a node that returns QOLB_BUSY, and at once if 32 notifications are
+ *   already postponed.
  * - While another thread runs the function of a notification for the same node or task, the calls qolb_notify,
  *   qolb_notify_fd, qolb_notify_off, qolb_node_free, qolb_task_poll and qolb_task_cancel wait until the function has
  *   returned or has called qolb_notify_done. The function must call qolb_notify_done before it takes a lock under which
@@ -926,7 +929,8 @@ enum qolb_result qolb_lock_try(qolb_lock *lock) QOLB_LOOK;
 
 /* Enters the lock, and waits until the calling thread holds it, but for at most `nanoseconds`.
  *
- * The timeout begins with the call. UINT64_MAX means that there is no timeout (TIMEOUTS).
+ * The timeout begins with the call. UINT64_MAX means that there is no timeout (TIMEOUTS). With a timeout of 0 the call
+ * enters the lock if the lock is free.
  *
  * Returns:
  * - QOLB_GRANTED: The calling thread holds the lock.
@@ -959,7 +963,8 @@ enum qolb_result qolb_lock_leave(qolb_lock *lock);
 /* Leaves the lock and shuts it, which takes the lock out of service.
  *
  * All threads and tasks that wait for the lock, all threads that wait on a condition with this lock, and all later
- * callers are told that the lock is shut. Each waiter is told only after the waiter before it has polled.
+ * callers are told that the lock is shut. Later callers are told at once. Each waiter is told only after the waiter
+ * before it has polled; until the last one has polled, qolb_lock_is_held returns 1.
  *
  * Returns:
  * - QOLB_DONE: The lock is shut, and the calling thread has left it.
