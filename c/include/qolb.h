@@ -490,9 +490,9 @@
  *   function must not wait for another thread, throw an exception, jump out, or end the thread. The thread is not
  *   cancelled while it runs the function.
  * - The function may make calls that do not wait, for any node, lock or task that its thread may use. If the function
- *   releases a line or a lock, the notifications of this release are postponed until the function has returned. They are
- *   made earlier if the function makes a call for a node that returns QOLB_BUSY, and at once if 32 notifications are
- *   already postponed.
+ *   releases a line or a lock, the notifications of this release are postponed until the function has returned. They
+ *   are made earlier if the function makes a call for a node that returns QOLB_BUSY, and at once if 32 notifications
+ *   are already postponed.
  * - While another thread runs the function of a notification for the same node or task, the calls qolb_notify,
  *   qolb_notify_fd, qolb_notify_off, qolb_node_free, qolb_task_poll and qolb_task_cancel wait until the function has
  *   returned or has called qolb_notify_done. The function must call qolb_notify_done before it takes a lock under which
