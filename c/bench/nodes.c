@@ -11,10 +11,15 @@
  * loops of polls by hand are measured as well. With `acquire`, only qolb_acquire is measured.
  *
  * The program prints the time of a hand-over between each two of the processors, before and after. Then it prints a
- * line of tab-separated values for each way: its name; the number of phases; the nanoseconds of a critical section over
- * all threads, as the median and the quartiles of the phases and as the mean of all; and, of the waits that were timed,
- * the 99.9th percentile and the longest of a phase, in microseconds, each as the median of the phases. `machine` prints
- * the hand-overs and the time of a pause. */
+ * line of tab-separated values for each way:
+ *
+ * - its name, and the number of phases;
+ * - the nanoseconds of a critical section over all threads: the median of the phases, their quartiles, and the mean of
+ *   all;
+ * - for the waits that were timed, the 99.9th percentile and the longest of a phase, in microseconds, each as the
+ *   median of the phases.
+ *
+ * `machine` prints the hand-overs and the time of a pause. */
 #define _GNU_SOURCE
 #include "kinds.h"
 

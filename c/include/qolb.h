@@ -611,7 +611,8 @@ enum qolb_result {
     QOLB_BAD_KIND = 12,  /* there is no such kind of line */
     QOLB_TOO_FEW = 13,   /* there are fewer handles than nodes */
     QOLB_OCCUPIED = 14,  /* a handle that the call would fill has a node, or the lock is already open */
-    QOLB_TIMEDOUT = 15   /* the timeout expired: the request is withdrawn, except after a wait on a condition */
+    QOLB_TIMEDOUT = 15   /* the timeout expired, and the request is withdrawn. After a wait on a condition, the thread
+                            holds the lock */
 };
 
 /* The states of a node. In the states IDLE, LEFT, ROLLED and SHUT a node may request the line. */

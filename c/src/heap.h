@@ -1,5 +1,5 @@
 /* The memory of the proved part of the library: where its blocks begin, and how many bytes of the heap they take.
- * heap.c allocates them. line.c counts them for qolb_memory, and lock/opens.c provides those of a lock's core. */
+ * heap.c allocates them. line.c counts them for qolb_memory, and lock/opens.c provides the blocks of a lock's core. */
 #ifndef QOLB_HEAP_H
 #define QOLB_HEAP_H
 
