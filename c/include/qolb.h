@@ -252,9 +252,9 @@
  *   for 50 us in a strict lock, and for 2 us in the queue of a barging lock.
  * - If more threads are before it, the thread polls for 2 us.
  *
- * A waiter of a strict lock may yield before each poll instead of pausing. It does so once it has seen as many threads
- * before it as there are processors, and as long as fewer than twice as many are before it. Each yield counts as 500 ns
- * of polling, so the thread yields at most a hundred times before it sleeps.
+ * A waiter of a strict lock may yield before each poll instead of pausing. The waiter does so once it has seen as many
+ * threads before it as there are processors, and only while fewer than twice that number are before it. Each yield
+ * counts as 500 ns of polling, so the thread yields at most a hundred times before it sleeps.
  *
  * After polling, the thread sleeps on a futex until its turn has come. A thread that had to sleep polls for a shorter
  * time when it next waits. A thread that waits on a condition sleeps at once, and so does every thread of a process
@@ -307,7 +307,7 @@
  * - Initialise a lock or a condition with an initialiser or with zeros. Do not move or copy a lock or a condition that
  *   has been used.
  * - A thread that entered a lock must leave it before the thread ends. If a thread ends while it holds a lock, the lock
- *   stays held, as a mutex does, and all other threads that enter it wait.
+ *   stays held, as a mutex does, and all other threads that enter the lock wait.
  * - Destroy a lock only if no thread is about to use it.
  * - Free the memory of a lock only once the lock is destroyed, or once nobody holds it, waits for it or is about to use
  *   it. You may free the memory even if a thread that left the lock has not yet returned from the call by which it left
@@ -614,7 +614,7 @@ enum qolb_result {
     QOLB_BAD_KIND = 12,  /* there is no such kind of line */
     QOLB_TOO_FEW = 13,   /* there are fewer handles than nodes */
     QOLB_OCCUPIED = 14,  /* a handle that the call would fill has a node, or the lock is already open */
-    QOLB_TIMEDOUT = 15   /* the timeout expired, and the request is withdrawn. After a wait on a condition the thread
+    QOLB_TIMEDOUT = 15   /* the timeout expired, and the request is withdrawn. After a wait on a condition, the thread
                             holds the lock */
 };
 
@@ -880,8 +880,8 @@ uint32_t qolb_state(qolb_node *node);
 
 /* clang-format off */
 
-/* A lock and its initialisers, one for a strict lock and one for a barging lock with this limit. A program must not
- * read or change the contents of a lock. */
+/* A lock and its initialisers, one for a strict lock and one for a barging lock with the given limit. A program must
+ * not read or change the contents of a lock. */
 typedef struct __attribute__((aligned(16))) qolb_lock {
     void *own;
     uint64_t limit, more[38];
