@@ -11,11 +11,15 @@
  * hand-written polling loops are measured as well. With `acquire`, only qolb_acquire is measured.
  *
  * Before and after the phases the program measures and prints the time of a hand-over between each two of the
- * processors. For each way of acquiring it then prints a line of tab-separated values, which begins with the name of
- * the way and the number of phases. Three columns give the nanoseconds per critical section over all threads: the
- * median and the quartiles of the phases, and the mean over all phases. The last columns are about the waits that were
- * timed: the 99.9th percentile and the longest wait of a phase in microseconds, each as the median of the phases. With
- * `machine` the program prints only the hand-overs and the length of a pause. */
+ * processors. For each way of acquiring it then prints a line of tab-separated values:
+ *
+ * - the name of the way, and the number of phases;
+ * - the nanoseconds per critical section over all threads: the median of the phases, their quartiles, and the mean of
+ *   all phases;
+ * - for the waits that were timed, the 99.9th percentile and the longest wait of a phase, in microseconds, each as the
+ *   median of the phases.
+ *
+ * With `machine` the program prints only the hand-overs and the length of a pause. */
 #define _GNU_SOURCE
 #include "kinds.h"
 

@@ -1,11 +1,11 @@
 /* QOLB for C and C++: queue locks, strict or barging, and lines, which hand over 64 bytes together with the lock.
  *
- * The library has three kinds of objects:
+ * The library provides three kinds of objects:
  *
- * - A lock (qolb_lock) protects data of any size for any number of threads, as a mutex does: qolb_lock(3).
- * - A line is a lock that hands over 64 bytes together with the lock. It is shared by 1 to 200 users, which are called
- *   nodes (qolb_node): qolb_node(3).
- * - A task (qolb_task) enters a lock for an event loop, which must not wait: qolb_task(3).
+ * - A lock (qolb_lock) protects data of any size for any number of threads, as a mutex does. See qolb_lock(3).
+ * - A line is a lock that hands over 64 bytes together with the lock. Its users, of which there are 1 to 200, are
+ *   called nodes (qolb_node). See qolb_node(3).
+ * - A task (qolb_task) enters a lock for an event loop, which must not wait. See qolb_task(3).
  *
  * Either of these commands compiles and links a program:
  *
@@ -32,7 +32,7 @@
  * RETURN VALUE
  *
  * Most calls return an enum qolb_result. The table lists the results that each call may return, without the prefix
- * QOLB_. The page of a call says when it returns which result.
+ * QOLB_. The manual page of a call states when the call returns which result.
  *
  *     call                          may return
  *     qolb_lock_open                DONE OCCUPIED
@@ -77,82 +77,84 @@
  *
  * These results are not errors:
  *
- * - QOLB_DONE, QOLB_GRANTED and QOLB_WITHDRAWN mean that the call succeeded. For these, qolb_ok returns 1.
+ * - QOLB_DONE, QOLB_GRANTED and QOLB_WITHDRAWN mean that the call succeeded. For these results, qolb_ok returns 1.
  * - QOLB_QUEUED, QOLB_WAITING and QOLB_LINKING mean that the request is still open.
- * - QOLB_BUSY and QOLB_TIMEDOUT mean that the call did not succeed this time. After QOLB_TIMEDOUT from a wait at a
- *   condition the thread holds the lock.
- * - QOLB_CLOSED means that the lock is shut or the line is closed. Later requests are answered in the same way, unless
+ * - QOLB_BUSY and QOLB_TIMEDOUT mean that the call did not succeed this time. If a wait on a condition returns
+ *   QOLB_TIMEDOUT, the thread holds the lock.
+ * - QOLB_CLOSED means that the lock is shut or the line is closed. Later requests return QOLB_CLOSED as well, unless
  *   the lock is destroyed and used again.
  *
  * ERRORS
  *
  * All other results are errors. A call that returns one of them has changed nothing.
  *
- * - QOLB_MISUSE means that the program is wrong: the lock, node or task does not allow the call.
- * - QOLB_NO_MEMORY means that the library could not allocate memory, or that too many requests of a lock are open.
- * - QOLB_BAD_KIND, QOLB_BAD_NODES, QOLB_BAD_LEASE, QOLB_TOO_FEW and QOLB_OCCUPIED mean that an argument of a call that
- *   opens is wrong.
+ * - QOLB_MISUSE means that the program has an error: the lock, node or task does not allow the call.
+ * - QOLB_NO_MEMORY means that the library could not allocate memory, or that a lock has too many open requests.
+ * - QOLB_BAD_KIND, QOLB_BAD_NODES, QOLB_BAD_LEASE, QOLB_TOO_FEW and QOLB_OCCUPIED mean that an argument of qolb_open or
+ *   qolb_lock_open is wrong.
  *
  * PROOFS
  *
- * What is proved of a lock is proved of its core, the part that decides which thread is next:
+ * The proofs about a lock cover its core, the part that decides which thread is next:
  *
  * - The core has at most one holder.
- * - It serves tickets in order. A ticket is a number that a thread draws when it enters. In a barging lock a thread
- *   draws one only if it has to wait.
- * - With a barging limit of B it counts at most B - 1 acquisitions of barging threads, which enter without a ticket,
- *   between two consecutive grants to waiting threads.
- * - It tells a leaving thread whether the next waiter has announced that it is about to sleep. In a barging lock this
- *   covers announcements that were made while the leaving thread held the lock.
+ * - The core serves tickets in order. A ticket is a number that a thread draws when it enters the lock. In a barging
+ *   lock, a thread draws a ticket only if it has to wait.
+ * - With a barging limit of B, the core counts at most B - 1 acquisitions of barging threads, which enter without a
+ *   ticket, between two consecutive grants to waiting threads.
+ * - The core tells a leaving thread whether the next waiter has announced that it is about to sleep. In a barging lock,
+ *   this guarantee covers only announcements that were made while the leaving thread held the lock.
  *
- * The code around the core is C code and, for C++, qolb.hpp. It waits and wakes, and implements timeouts, conditions
- * and tasks. This code is tested and not proved. The C code was also model-checked, at the commit that PROVED names, in
- * small scenes: two or three threads, at most one context switch, and a C stand-in for the core.
+ * The code around the core is written in C and, for qolb.hpp, in C++. This code implements waiting, waking, timeouts,
+ * conditions and tasks. It is tested, but not proved. The C code was also model-checked, at the commit that
+ * docs/PROVED.md names, in small scenarios: two or three threads, at most one context switch, and a C stand-in for the
+ * core.
  *
- * Two claims about locks are argued and not proved: how many critical sections of barging threads come before one
- * waiter, and that a holder sees what earlier holders wrote. No proof is about the data that a lock protects, and none
- * shows that a waiting thread is ever granted the lock.
+ * Two claims about locks are argued, but not proved. The first is the bound on how many critical sections of barging
+ * threads come before one waiter. The second is that a holder sees what earlier holders wrote. No proof covers the data
+ * that a lock protects, and no proof shows that a waiting thread is ever granted the lock.
  *
- * Of a line it is proved that it has at most one holder, that its requests end in the order in which they were made,
- * and which bytes each holder receives. The C code that waits for a line and notifies its nodes is tested. It was also
- * model-checked in small scenes, over a model of the line.
+ * The proofs about a line show that the line has at most one holder, that its requests end in the order in which they
+ * were made, and which bytes each holder receives. The C code that waits for a line and notifies its nodes is tested.
+ * This code was also model-checked in small scenarios, with a model of the line.
  *
  * SANITIZERS AND DEBUGGERS
  *
- * The library tells the thread sanitizer (-fsanitize=thread) of each grant and each release. The sanitizer sees every
- * lock as an object of its own. Lines that have the same label are one object to it, and so are some lines that have
- * different labels. Therefore it may miss a race between such lines.
+ * The header tells the thread sanitizer (-fsanitize=thread) about each grant and each release. The sanitizer regards
+ * every lock as a separate object. It regards lines that have the same label as one object, and also some lines that
+ * have different labels. Therefore the sanitizer may miss a race between such lines.
  *
- * Files that are compiled with -DQOLB_HELGRIND or -DQOLB_DRD tell the same to helgrind or drd, the tools of valgrind.
- * These tools must suppress reports about the library's own accesses to memory:
+ * If source files are compiled with -DQOLB_HELGRIND or -DQOLB_DRD, the header tells helgrind or drd, two tools of
+ * valgrind, about grants and releases. Make these tools suppress reports about the library's own accesses to memory:
  * valgrind --tool=helgrind --suppressions=PREFIX/share/qolb/valgrind.supp.
  *
  * The proved part of the library has no unwind tables, so a backtrace that begins there may be incomplete.
  *
- * gdb can tell which thread of a stopped program, or of its core dump, holds a lock. Enter
- * `source PREFIX/share/qolb/qolb.gdb` and then `qolb-holder &lock`. The file that contains the library must not be
- * stripped, because gdb needs its symbols.
+ * In a stopped program or in a core dump, gdb can show which thread holds a lock. For this, enter `source
+ * PREFIX/share/qolb/qolb.gdb` and then `qolb-holder &lock`. The file that contains the library must not be stripped,
+ * because gdb needs the library's symbols.
  *
- * bpftrace, perf and gdb can trace where a thread waits, if the library was built with <sys/sdt.h>. The provider of
- * these probes is qolb, and their names are wait, sleep, wake, granted, withdrawn and closed. For a line, the arguments
- * are its label, the node's number, and a number that distinguishes lines of one label. For a lock, they are the lock's
- * address, the number of the thread's ticket (from 1, or 0 while it has none), and the address again.
+ * If the library was built with <sys/sdt.h>, it contains probes with which bpftrace, perf and gdb can trace where a
+ * thread waits. The provider of these probes is qolb, and their names are wait, sleep, wake, granted, withdrawn and
+ * closed. For a line, the arguments of a probe are the label of the line, the number of the node, and a number that
+ * distinguishes lines with the same label. For a lock, the arguments are the address of the lock, the number of the
+ * thread's ticket (from 1, or 0 while the thread has no ticket), and the address again.
  *
  * PROCESSOR
  *
- * The library needs Linux on x86-64, and the instructions of x86-64-v2 (SSE4.2 and POPCNT among them), which processors
- * have had since 2009. On an older processor the first call that needs one of these instructions ends the program with
- * SIGILL. A program that may run on such a processor can check beforehand that
+ * The library requires Linux on x86-64, and the instructions of x86-64-v2 (among them SSE4.2 and POPCNT), which
+ * processors have had since 2009. On an older processor the first call that needs one of these instructions ends the
+ * program with SIGILL. A program that may run on such a processor can check beforehand that
  * __builtin_cpu_supports("sse4.2") && __builtin_cpu_supports("popcnt").
  *
  * ==== qolb_lock(3): locks for any number of threads, with conditions ====
  *
- * A thread enters a qolb_lock, uses the data that the lock protects, and leaves the lock. A lock lies in memory of the
- * program, for example in the struct that it protects, at an address that is a multiple of 16 bytes. It need not be
- * freed.
+ * A thread enters a qolb_lock, uses the data that the lock protects, and leaves the lock. The program provides the
+ * memory of a lock, for example in the struct that the lock protects. The address of a lock must be a multiple of 16
+ * bytes. A lock need not be freed.
  *
- * These calls do not allocate memory, with one exception: a call with a timeout allocates while more than 60 requests
- * are before its own. None of them returns QOLB_NO_MEMORY.
+ * The calls on this page do not allocate memory, with one exception: a call with a timeout allocates memory while more
+ * than 60 requests are before its own. None of these calls returns QOLB_NO_MEMORY.
  *
  * INITIALISERS
  *
@@ -161,7 +163,8 @@
  *     QOLB_LOCK_INIT_BARGING(limit)   barging   2 to 65,535     320
  *     QOLB_COND_INIT                  strict                      8
  *
- * Bytes that are all zero are a strict lock, or a condition, so memory from calloc needs no initialiser.
+ * If all bytes of a lock or a condition are zero, the lock or condition is initialised, and the lock is strict.
+ * Therefore memory from calloc needs no initialiser.
  *
  * EXAMPLE
  *
@@ -196,133 +199,140 @@
  *
  * ORDER AND BARGING
  *
- * A thread that enters a strict lock draws a ticket with one atomic step, and the lock serves tickets in order. While
- * the thread waits, no call that begins after this step is served before the thread.
+ * A thread that enters a strict lock draws a ticket with one atomic step, and the lock serves tickets in order. No call
+ * that begins after this step is served before the waiting thread.
  *
- * A barging lock becomes free when its holder leaves, even if other threads wait for it. The next thread that enters
- * takes it. A thread that takes the lock without a ticket is called a barging thread. If a thread finds the lock taken,
- * it first spins for a few microseconds, and may still take the lock without a ticket. Then it draws a ticket and
- * waits. Waiting threads keep their order among themselves. Once a thread has drawn its ticket, with p requests before
- * its own, barging threads overtake it at most
+ * A barging lock becomes free when its holder leaves, even if other threads wait for the lock. The next thread that
+ * enters then takes the lock. A thread that takes the lock without a ticket is called a barging thread. If a thread
+ * finds the lock taken, it first spins for a few microseconds, during which it may still take the lock without a
+ * ticket. After that, the thread draws a ticket and waits. The waiting threads keep their order among themselves. Once
+ * a thread has drawn its ticket, with p requests before its own, barging threads overtake it at most
  *
  *     (p + 1) * (limit - 1)
  *
- * times, where `limit` is the lock's barging limit. This bound counts calls that enter, calls that try, and waits at a
- * condition that end.
+ * times, where `limit` is the lock's barging limit. This bound counts the acquisitions of all barging threads, whether
+ * by a call that enters, by qolb_lock_try, or at the end of a wait on a condition.
  *
- * Usually a thread is overtaken less often, because the first waiter requests the lock. It does so once a barging
- * thread has overtaken it and it has found the lock taken for 2 us, or 1 ms after it fell asleep. Then the next thread
- * that leaves the lock hands it over to the first waiter. A limit above 65,535 counts as 65,535. A lock with a limit
- * of 0 or 1 is strict.
+ * Usually a thread is overtaken less often, because the first waiter requests a hand-over of the lock. The first waiter
+ * does so once a barging thread has overtaken it and it has found the lock taken for 2 us, or 1 ms after it fell
+ * asleep. The next thread that leaves the lock then hands the lock over to the first waiter. A limit above 65,535
+ * counts as 65,535. A lock with a limit of 0 or 1 is strict.
  *
- * Use a barging lock with a limit of 1,024 where you would use a mutex. Use a strict lock where threads have to be
- * served in the order in which they asked, or where the longest wait matters more than throughput.
+ * Use a barging lock with a limit of 1,024 where you would use a mutex. Use a strict lock if threads must be served in
+ * the order in which they asked, or if the longest wait matters more than throughput.
  *
  * TIMEOUTS
  *
- * A timeout is a length of time in nanoseconds, which begins with the call. UINT64_MAX means that there is no timeout.
- * Only qolb_lock_enter_until takes a point in time, of CLOCK_MONOTONIC. To limit a loop of waits, pass each wait the
- * time that is left.
+ * A timeout is a duration in nanoseconds, counted from the beginning of the call. UINT64_MAX means that there is no
+ * timeout. Only qolb_lock_enter_until takes an absolute time, measured on CLOCK_MONOTONIC. To bound the total time of a
+ * loop of waits, pass each wait the time that remains.
  *
- * A thread that times out gives up its ticket, which still counts as an open request until a holder passes it. If more
- * than 60 requests are before this ticket, the thread allocates memory to give it up. If no memory is left, the thread
- * waits until fewer requests are before its ticket. While more than about 12,280 requests of a lock are open, a call
- * with a timeout draws no ticket, so it may be overtaken.
+ * A thread that times out gives up its ticket, which still counts as an open request until a holder skips it. If more
+ * than 60 requests are before this ticket, the thread allocates memory in order to give the ticket up. If the
+ * allocation fails, the thread waits until fewer requests are before its ticket. While a lock has more than about
+ * 12,280 open requests, a call with a timeout draws no ticket, so the thread may be overtaken. In a barging lock, a
+ * call draws no ticket either if its timeout expires during the 10 us for which it polls before it queues.
  *
  * FORK
  *
- * A lock or a line belongs to one process. After a fork, parent and child have separate copies, which protect nothing
- * that both processes share. The child of a process with one thread may go on with its copy.
+ * A lock or a line belongs to one process. After a fork, parent and child have separate copies of the lock or line, and
+ * these copies protect nothing that the two processes share. The child of a process with one thread may continue to use
+ * its copy.
  *
  * WAITING
  *
- * A thread with a ticket polls first. If it is the next one, it polls every 90 ns. Each other thread before it makes
- * the pause between two polls 150 ns longer. Once the thread has seen how long a hand-over takes, each of them makes
- * the pause longer by three quarters of that time instead, up to 500 ns. How long the thread polls depends on the
- * number of threads before it, and on the number of processors that the process may use:
+ * A thread with a ticket first polls. The first thread in the queue polls every 90 ns. A thread farther back pauses
+ * longer between two polls: 150 ns longer for each waiter before it. Once the thread has seen how long a hand-over
+ * takes, it uses three quarters of that time in place of the 150 ns, but at most 500 ns. How long the thread polls
+ * depends on the number of threads before it, and on the number of processors that the process may use:
  *
- * - If fewer threads are before it than there are processors, it polls for 50 us, or for 1 us for each of these threads
- *   if that is longer.
- * - If fewer than twice as many threads are before it, it polls for 50 us in a strict lock, and for 2 us in the queue
- *   of a barging lock.
- * - If more threads are before it, it polls for 2 us.
+ * - If fewer threads are before it than there are processors, the thread polls for 50 us, or for 1 us per thread before
+ *   it if that is longer.
+ * - If at least as many threads are before it as there are processors, but fewer than twice as many, the thread polls
+ *   for 50 us in a strict lock, and for 2 us in the queue of a barging lock.
+ * - If more threads are before it, the thread polls for 2 us.
  *
- * Once a thread in a strict lock has seen as many threads before it as there are processors, it yields instead of
- * pausing before each poll, while fewer than twice as many threads are before it. Each yield counts as 500 ns of
- * polling, so the thread makes at most a hundred of them before it sleeps.
+ * A waiter of a strict lock may yield before each poll instead of pausing. The waiter does so once it has seen as many
+ * threads before it as there are processors, and only while fewer than twice that number are before it. Each yield
+ * counts as 500 ns of polling, so the thread yields at most a hundred times before it sleeps.
  *
- * Then the thread sleeps on a futex until its turn has come. A thread that had to sleep polls for a shorter time when
- * it next waits. At a condition a thread sleeps at once, and so does a thread of a process that could use only one
- * processor when it first waited. A thread that is woken before its turn yields once.
+ * After polling, the thread sleeps on a futex until its turn has come. A thread that had to sleep polls for a shorter
+ * time when it next waits. A thread that waits on a condition sleeps at once, and so does every thread of a process
+ * that could use only one processor when a thread of this process first waited. A thread that is woken before its turn
+ * yields once.
  *
- * A thread that finds a barging lock taken looks at it again after 200 ns, and then after pauses that double up to
- * 4 us, six times in 10 us. It yields before all of these looks except the first. A call whose timeout has expired does
- * not spin, and qolb_lock_try never does.
+ * A thread that finds a barging lock taken looks at the lock again after 200 ns, and then after pauses that double up
+ * to 4 us, in total six times within 10 us. The thread yields before each of these looks except the first. A call whose
+ * timeout has expired does not spin, and qolb_lock_try never spins.
  *
- * Where other programs compete for the processors, a yield can take as long as a time slice. When several yields have
- * taken a millisecond each, the process does not yield for a quarter of a second.
+ * If other programs compete for the processors, a yield can take as long as a time slice. After several yields that
+ * took a millisecond each, no thread of the process yields for a quarter of a second.
  *
  * A thread that leaves a strict lock wakes the next holder, and a thread that leaves a barging lock wakes the first
- * waiter. If the leaving thread had slept, it may also wake the waiter behind that one. It makes a system call only if
- * it may have to wake a sleeper.
+ * waiter. If the leaving thread had to sleep before it was granted the lock, it may also wake the second waiter. A
+ * thread that leaves a lock makes a system call only if it may have to wake a sleeper.
  *
- * A strict lock always goes to the next thread in the queue, even to one that is not running, and all threads behind
- * that one wait. Therefore, if more threads of any program want processors than there are processors, short critical
- * sections may take many times as long as in a barging lock.
+ * A strict lock always goes to the next thread in the queue. If this thread is not running, all threads behind it wait
+ * until it runs. Therefore, if the runnable threads of all programs together outnumber the processors, short critical
+ * sections may take many times as long as with a barging lock.
  *
- * No wait is a cancellation point. A thread that is cancelled while it waits is granted the lock or times out, and ends
- * at its next cancellation point. A thread that may be cancelled at any instruction (PTHREAD_CANCEL_ASYNCHRONOUS) must
- * not call the library.
+ * No wait is a cancellation point. If a thread is cancelled while it waits, it goes on waiting until it is granted the
+ * lock or times out, and then ends at its next cancellation point. A thread that may be cancelled at any instruction
+ * (PTHREAD_CANCEL_ASYNCHRONOUS) must not call the library.
  *
  * DIFFERENCES
  *
  * A qolb_lock and a qolb_cond differ from a pthread_mutex_t and a pthread_cond_t:
  *
- * - Calls return a qolb_result. QOLB_GRANTED is 1 and not 0; qolb_ok tells whether a call succeeded.
- * - A timeout is a length of time, except that of qolb_lock_enter_until.
+ * - Calls return an enum qolb_result. QOLB_GRANTED is 1 and not 0. Use qolb_ok to check whether a call succeeded.
+ * - A timeout is a duration, and not an absolute time, except in qolb_lock_enter_until.
  * - The compiler warns if a program ignores the result of a call that enters, opens or waits (warn_unused_result).
  * - There is no priority inheritance.
- * - A thread that enters a lock which it already holds is answered QOLB_MISUSE. No lock is recursive, robust, or shared
- *   by processes.
- * - A lock can be shut.
- * - A wait at a condition has no spurious wake-ups.
+ * - If a thread enters a lock that it already holds, the call returns QOLB_MISUSE. No lock is recursive, robust, or
+ *   shared between processes.
+ * - A lock can be shut, which takes it out of service.
+ * - A wait on a condition has no spurious wake-ups.
  *
  * In qolb.hpp, a qolb::lock and a qolb::Condition differ from a std::timed_mutex and a std::condition_variable:
  *
- * - A qolb::lock throws qolb::Closed after a shut, and qolb::Deadlock if the calling thread already holds it.
+ * - A qolb::lock throws qolb::Closed once it has been shut, and qolb::Deadlock if the calling thread already holds it.
  *
- * In the crate, a qolb::Mutex and a qolb::Condition differ from a std::sync::Mutex and a std::sync::Condvar:
+ * In the Rust crate, a qolb::Mutex and a qolb::Condition differ from a std::sync::Mutex and a std::sync::Condvar:
  *
- * - A qolb::Mutex is not poisoned. Its lock() fails with Stopped::Closed or Stopped::Misuse.
- * - Its lock is on the heap from its first use on, because a value in Rust may move.
+ * - A qolb::Mutex is never poisoned. Its lock() may fail with Stopped::Closed or Stopped::Misuse.
+ * - The first use of a qolb::Mutex allocates its lock on the heap, because a value in Rust may move.
  *
  * RULES FOR CALLERS
  *
- * - Initialise a lock or a condition by an initialiser or with zeros. Do not move or copy it once it has been used.
- * - The thread that entered a lock must leave it before the thread ends. If a thread ends while it holds a lock, the
- *   lock stays held, as a mutex does, and all other threads wait.
- * - Destroy a lock only if no thread is about to call it.
- * - Free the memory of a lock only once the lock is destroyed, or once nobody holds it, waits for it or is about to
- *   call it. You may free it even if a thread that left the lock has not returned from that call.
- * - Free the memory of a condition only while no thread is in a call on it.
- * - Do not call the library in a signal handler, nor in the forked child of a process with several threads.
- * - Use one copy of the library for a lock. Do not mix the static copy in a program with another copy in a library
- *   that the program opens at run time. A plugin that contains the static library should stay open, because glibc has
- *   room for the thread-local data of two such plugins and does not always get this room back.
+ * - Initialise a lock or a condition with an initialiser or with zeros. Do not move or copy a lock or a condition that
+ *   has been used.
+ * - A thread that entered a lock must leave it before the thread ends. If a thread ends while it holds a lock, the lock
+ *   stays held, as a mutex does, and all other threads that enter the lock wait.
+ * - Destroy a lock only if no thread is about to use it.
+ * - Free the memory of a lock only once the lock is destroyed, or once nobody holds it, waits for it or is about to use
+ *   it. You may free the memory even if a thread that left the lock has not yet returned from the call by which it left
+ *   the lock.
+ * - Free the memory of a condition only while no thread is in a call on this condition.
+ * - Do not call the library in a signal handler, or in the forked child of a process with several threads.
+ * - All threads that use a lock must use the same loaded copy of the library. Do not mix a copy that is linked
+ *   statically into a program with another copy in a shared library that the program opens at run time. A plugin that
+ *   contains the static library should stay open, because glibc has room for the thread-local data of only two such
+ *   plugins and does not always get this room back.
  *
  * If a lock does not allow a call for any other reason, the call returns QOLB_MISUSE and changes nothing.
  *
- * The next holder of a lock sees everything that a thread wrote before it left the lock. A thread that is answered
- * QOLB_CLOSED sees the same. Let data that many threads change begin at a multiple of 64 bytes, because data behind a
- * lock may share the lock's last cache line.
+ * The next holder of a lock sees everything that a thread wrote before that thread left the lock. A thread whose call
+ * returns QOLB_CLOSED sees the same writes. Align data that many threads change to a multiple of 64 bytes, because data
+ * directly behind a lock may share the lock's last cache line.
  *
  * ==== qolb_node(3): nodes, which share the 64 bytes of a line ====
  *
  * A line is a lock with 64 bytes of data, which 1 to 200 nodes share. A node requests the line, waits for its turn,
  * reads and writes the bytes, and releases the line. The release hands the lock and the bytes over to the node whose
- * request is the oldest. No request is overtaken, but a node can be busy and unable to make one (BUSY).
+ * request is the oldest. No request is overtaken, but a node can be busy, and then it cannot make a request (BUSY).
  *
- * Only qolb_open and qolb_node_free use the heap, and only qolb_acquire and qolb_acquire_within wait for a turn.
+ * Only qolb_open and qolb_node_free use the heap, and only qolb_acquire and qolb_acquire_within wait for the node's
+ * turn.
  *
  * EXAMPLE
  *
@@ -352,23 +362,25 @@
  * lane: A lane is one of the eight 64-bit numbers of a line. Lane k consists of bytes 8k to 8k + 7, the lowest byte
  *     first.
  * lease: The lease is the number of acquisitions after which a line closes.
- * closed: A closed line serves no later request, and answers QOLB_CLOSED to each. A line is closed by qolb_shut, or by
- *     the end of its lease.
+ * closed: A closed line serves no later request: every such request returns QOLB_CLOSED when its turn comes. A line is
+ *     closed by qolb_shut, or when its lease is used up. The turns of the waiters come one after the other, each once
+ *     the waiter before it has polled. Until the last one has polled, even a node that knows that the line is closed
+ *     may get QOLB_QUEUED from qolb_enqolb, QOLB_BUSY from qolb_try, and QOLB_TIMEDOUT from qolb_acquire_within.
  * label: The label of a line is a number that the caller chooses.
  *
  * KINDS
  *
  * A line is of one of three kinds:
  *
- * - QOLB_TICKET is a ticket line, whose nodes wait on numbered cells. Its release takes one atomic step on shared
- *   words, and that of a ring takes two. Use this kind, whose other name is QOLB_DEFAULT, unless memory is short or you
- *   want to make requests in two calls.
- * - QOLB_LINK is a link line, whose nodes link themselves to the node before them. Only this kind has requests in two
- *   calls, qolb_prepend and qolb_link.
+ * - QOLB_TICKET is a ticket line, whose nodes wait on numbered cells. A release of a ticket line takes one atomic step
+ *   on shared words, and a release of a ring takes two. Use this kind, whose other name is QOLB_DEFAULT, unless memory
+ *   is short or you want to make requests in two calls.
+ * - QOLB_LINK is a link line, whose nodes link themselves to the node before them. Only on a link line can a node make
+ *   its request in two calls, qolb_prepend and qolb_link.
  * - QOLB_RING is a ring, whose nodes draw a ticket and wait on a cell of their own.
  *
- * An open line keeps this many bytes of heap memory, as the library requests them from malloc (qolb_memory). malloc
- * takes some 16 bytes more for each block, and a line has four blocks more than nodes:
+ * The following table shows how many bytes the library requests from malloc for an open line (qolb_memory). malloc
+ * itself takes about 16 bytes more for each block, and a line has four more blocks than it has nodes:
  *
  *     nodes                 1         2         8        64       200
  *     ring             33,744    34,168    36,712    60,456   118,568
@@ -378,58 +390,62 @@
  * RULES FOR CALLERS
  *
  * - Initialise a handle with zeros: `qolb_node node = {0};`.
- * - Move a handle by qolb_move. Never copy it.
- * - Pass no null pointer, no pointer to freed memory, and no two arguments that overlap.
- * - Make one call at a time for a handle. Different threads may make calls for different handles at the same time, also
- *   for handles of one line.
- * - Hand a handle to another thread by a lock, by starting or joining a thread, or by a sequentially consistent atomic.
- * - The malloc, realloc and free of the program must belong to one allocator, which aligns as the C standard requires.
- * - qolb_lock(3) has the rules for signal handlers, for forks, and for several copies of the library.
+ * - Move a handle with qolb_move. Never copy a handle.
+ * - Do not pass a null pointer, a pointer to freed memory, or two arguments that overlap in memory.
+ * - Make only one call at a time for a handle. Different threads may make calls for different handles at the same time,
+ *   even for handles of the same line.
+ * - Hand a handle over to another thread under a lock, by starting or joining a thread, or through a sequentially
+ *   consistent atomic variable.
+ * - The malloc, realloc and free of the program must belong to the same allocator, which must align memory as the C
+ *   standard requires.
+ * - qolb_lock(3) lists the rules for signal handlers, for forks, and for several copies of the library.
  *
  * If a handle or its node does not allow a call for any other reason, the call returns QOLB_MISUSE, or the result that
  * its description names, and changes nothing.
  *
  * MEMORY ORDER
  *
- * A line also protects other data, as a lock does. This is argued and not proved: a release takes a sequentially
- * consistent step after everything that its holder wrote, and the next holder takes such a step on the same word before
- * it reads.
+ * A line also protects data outside its 64 bytes, as a lock does. This is argued, but not proved: a release takes a
+ * sequentially consistent atomic step after everything that the holder wrote, and the next holder takes such a step on
+ * the same word before it reads.
  *
  * WAITING
  *
- * Two calls wait for a turn: qolb_acquire and qolb_acquire_within. They poll every 60 ns. On a line that has at most
- * twice as many nodes as the process may use processors they poll for 50 us, and on other lines for 20 us. Then they
- * sleep on a futex until the line is released, and poll again.
+ * Two calls wait for the node's turn: qolb_acquire and qolb_acquire_within. They poll every 60 ns. If the line has at
+ * most twice as many nodes as there are processors that the process may use, the calls poll for 50 us, and otherwise
+ * for 20 us. Then they sleep on a futex until the line is released, and poll again.
  *
- * Both calls yield after a sleep. On a line that has more nodes than processors, but at most twice as many, they also
- * yield instead of pausing, once they have polled for 500 ns. What qolb_lock(3) says about waiting holds here, too.
+ * Both calls yield after a sleep. If the line has more nodes than there are processors, but at most twice as many, the
+ * calls also yield instead of pausing once they have polled for 500 ns. What qolb_lock(3) says about waiting also
+ * applies to nodes.
  *
- * A call that releases the line wakes the next holder, and also the waiter behind that one, ahead of its turn. These
- * calls are qolb_deqolb, qolb_shut, and every call that returns QOLB_CLOSED.
+ * A call that releases the line wakes the next holder and also the second waiter, which is thus woken before its turn.
+ * The calls that release a line are qolb_deqolb, qolb_shut, and every call that returns QOLB_CLOSED.
  *
- * Nothing wakes or notifies a thread whose node is busy. A thread that waits asks again repeatedly, at first for 20 us
- * without sleeping, and then every 200 us.
+ * Nothing wakes or notifies a thread whose node is busy. A call that waits repeats its request until the node is not
+ * busy: at first for 20 us without sleeping, and then every 200 us.
  *
  * BUSY
  *
- * A withdrawn request stays in the queue until another node's release passes it, and until then its node is busy. A
- * node of a link line may also be busy after its own release, until its successor has linked. A busy node can make no
- * request, so the caller has to ask again later. If a node before the withdrawn request never releases the line, the
- * node stays busy for ever.
+ * A withdrawn request stays in the queue until another node's release skips it. Until then, the node that withdrew the
+ * request is busy. A node of a link line may also be busy after its own release, until its successor has linked itself.
+ * A busy node cannot make a request, so the caller has to try again later. If a node before the withdrawn request never
+ * releases the line, the busy node stays busy for ever.
  *
- * While its node is busy, a thread is in no queue and may be overtaken. If you take a node from a pool, take one for
- * which qolb_settle_node returns QOLB_DONE.
+ * While its node is busy, a thread is not in the queue and may be overtaken. If you take a node from a pool, take one
+ * for which qolb_settle_node returns QOLB_DONE.
  *
  * THREADS THAT END
  *
- * If a thread ends while its node holds the line or waits for it, all nodes behind it wait. Any other thread to which
- * the handle was handed (RULES FOR CALLERS) may go on with it. qolb_state returns the state of the node.
+ * If a thread ends while its node holds the line or waits for it, all nodes behind it wait. If the handle was handed
+ * over to another thread (RULES FOR CALLERS), that thread may continue to use the node. qolb_state returns the state of
+ * the node.
  *
  * SPEED
  *
  * Handles of different threads may lie side by side, because only qolb_open, qolb_node_free and qolb_move write to
- * them. Other data that a thread writes beside the handle of another thread slow down the calls of that thread. Keep
- * such data QOLB_NODE_ALIGN bytes apart.
+ * handles. But if a thread writes other data beside the handle of a second thread, the calls of the second thread
+ * become slower. Keep such data QOLB_NODE_ALIGN bytes away from handles.
  *
  * Each of qolb_enqolb, qolb_poll, qolb_withdraw, qolb_prepend, qolb_link, qolb_deqolb and qolb_shut takes a bounded
  * number of atomic steps in the proved part of the library, whatever other threads do. On a line of N nodes, a release
@@ -437,12 +453,12 @@
  *
  * ==== qolb_task(3): event loops, which are notified and never wait ====
  *
- * An event loop must not wait while one of its tasks wants a lock. Therefore tasks can enter a lock beside threads, in
- * the same queue. qolb_task_enter requests the lock for a task, and a notification tells the program when the task has
- * the lock. The task and not a thread holds the lock: any thread may go on with the task, one call at a time, and leave
- * the lock for it.
+ * An event loop must not block while one of its tasks waits for a lock. Therefore not only threads but also tasks can
+ * enter a lock, in the same queue. qolb_task_enter requests the lock for a task, and a notification tells the program
+ * when the task has the lock. The lock is then held by the task and not by a thread: any thread may make calls for the
+ * task, one at a time, and leave the lock for it.
  *
- * A node of a line can wait without a thread, too: its notification is requested by qolb_notify or qolb_notify_fd.
+ * A node of a line can also wait without a thread: qolb_notify and qolb_notify_fd request a notification for a node.
  *
  * EXAMPLE
  *
@@ -461,54 +477,58 @@
  *     //     qolb_notify_fd again
  *     // QOLB_BUSY: ask again later
  *
- * To give up, call qolb_notify_off first, because a notification that stays requested may be made for a later request.
- * Then call qolb_withdraw, and if that returns QOLB_GRANTED, qolb_deqolb.
+ * To give up a node's request, first call qolb_notify_off, because otherwise the notification may be made for a later
+ * request. Then call qolb_withdraw. If qolb_withdraw returns QOLB_GRANTED, call qolb_deqolb.
  *
  * NOTIFICATIONS
  *
  * A notification is one call of a function of the program, `call(arg)`, for a node or a task. The releasing thread
- * makes it, inside the call that releases, after the release. Any other locks that this thread holds are still held
- * meanwhile. Therefore these rules apply:
+ * makes this call inside the library call that releases the line or lock, after the release. During the notification,
+ * the releasing thread still holds its other locks. Therefore these rules apply:
  *
- * - The function passes the notification on: it sets a flag, makes a task ready, or writes to a descriptor. It must not
- *   wait for another thread, throw an exception, jump out, or end the thread. The thread is not cancelled in it.
- * - The function may use any node that its thread may use, by calls that do not wait. If it releases a line or a lock,
- *   the notifications of this release are made after the function has returned. They are made earlier if a call for a
- *   node in it returns QOLB_BUSY, and at once if 32 notifications are already put off.
- * - The calls qolb_notify, qolb_notify_fd, qolb_notify_off, qolb_node_free, qolb_task_poll and qolb_task_cancel wait
- *   while another thread is in a notification of the same node or task, until the function has returned or has called
- *   qolb_notify_done. The function must call qolb_notify_done before it takes a lock under which one of these six calls
- *   is made, before it resumes a coroutine, and before it makes one of these calls itself.
- * - A notification may be made before the call that requested it has returned. Even then it may use the node or the
- *   task.
- * - A notification may be early, while the request still waits. Then call qolb_notify again, which polls and requests
- *   another notification in one step.
- * - Poll after a notification, because all requests behind this one wait for that. Do so after a shut as well, because
- *   each waiter is answered QOLB_CLOSED only once the one before it has polled.
- * - A notification may be late: it may still be made after an acquisition that qolb_poll granted, until
- *   qolb_notify_off. The object that `arg` points to must exist until then.
+ * - The function passes the notification on: it sets a flag, makes a task ready, or writes to a descriptor. The
+ *   function must not wait for another thread, throw an exception, jump out, or end the thread. The thread is not
+ *   cancelled while it runs the function.
+ * - The function may make calls that do not wait, for any node, lock or task that its thread may use. If the function
+ *   releases a line or a lock, the notifications of this release are postponed until the function has returned. They
+ *   are made earlier if the function makes a call for a node that returns QOLB_BUSY, and at once if 32 notifications
+ *   are already postponed.
+ * - While another thread runs the function of a notification for the same node or task, the calls qolb_notify,
+ *   qolb_notify_fd, qolb_notify_off, qolb_node_free, qolb_task_poll and qolb_task_cancel wait until the function has
+ *   returned or has called qolb_notify_done. The function must call qolb_notify_done before it takes a lock under which
+ *   one of these six calls is made, before it resumes a coroutine, and before it makes one of these calls itself.
+ * - A notification may be made before the call that requested it has returned. Even then, the function may use the node
+ *   or the task.
+ * - A notification may come too early, while the request still waits. In this case, call qolb_notify again, which polls
+ *   and requests another notification in one step.
+ * - Poll after a notification, because all requests behind the notified one wait for this poll. Poll even after a shut,
+ *   because each waiter is told of the shut only once the waiter before it has polled.
+ * - A notification may come too late: it may still be made after qolb_poll has returned QOLB_GRANTED, until
+ *   qolb_notify_off is called. The object that `arg` points to must exist until then.
  * - For a task, this object must exist until qolb_task_poll returns QOLB_GRANTED or QOLB_CLOSED, or qolb_task_cancel
  *   returns. After that no notification is made.
- * - Open an eventfd with EFD_NONBLOCK, because otherwise a full count makes the releasing thread wait. Before you close
- *   it, call qolb_notify_off. For a task, call qolb_task_cancel, or make sure that the task has had its turn. The
- *   eventfd may be readable even then. After a fork, a release in the child also writes to the parent's eventfd.
+ * - Open an eventfd with EFD_NONBLOCK, because otherwise the releasing thread waits if the count of the eventfd is
+ *   full. Before you close the eventfd of a node, call qolb_notify_off. For a task, call qolb_task_cancel, or make sure
+ *   that the task has had its turn. The eventfd may be readable even then. After a fork, a release in the child also
+ *   writes to the parent's eventfd.
  *
  * TASKS
  *
- * - Every call by which a thread or a task enters, leaves, gives up or destroys a lock may make notifications of tasks.
- * - While the first waiter of a barging lock is a task, no barging thread follows the holder.
- * - No call for a task waits for a turn. A task that would have to wait is answered QOLB_NO_MEMORY if memory is short,
- *   or while more than about 12,280 requests of the lock are open. The request of a task that gave up stays open until
- *   the critical section before it ends, so while one thread holds a strict lock, tasks can enter and cancel at most
- *   about 12,280 times.
- * - A lock that a task holds is not held by the thread that works for the task. In this thread, qolb_lock_enter waits,
- *   and waits for ever if the thread would have to leave for the task. qolb_lock_enter_within times out, and
- *   qolb_lock_try returns QOLB_BUSY. Calls that leave, shut, or wait at a condition return QOLB_MISUSE. In an event
- *   loop let only tasks enter.
- * - Only threads can call qolb_cond_wait. A task may signal.
+ * - Every call by which a thread or a task enters, leaves, gives up or destroys a lock may make notifications for
+ *   tasks.
+ * - While the first waiter of a barging lock is a task, no barging thread takes the lock after the holder.
+ * - No call for a task waits for the task's turn. If a task would have to wait, the call returns QOLB_NO_MEMORY when
+ *   memory is short, or when more than about 12,280 requests of the lock are open. The request of a task that gave up
+ *   stays open until the critical section before it ends. Therefore, while one thread holds a strict lock, tasks can
+ *   enter and cancel at most about 12,280 times.
+ * - If a task holds a lock, the thread that works for the task does not hold it. In this thread, qolb_lock_enter waits,
+ *   and it waits for ever if the same thread would have to leave the lock for the task. qolb_lock_enter_within times
+ *   out, and qolb_lock_try returns QOLB_BUSY. Calls that leave the lock, shut it, or wait on a condition return
+ *   QOLB_MISUSE. In an event loop, let only tasks enter locks.
+ * - Only threads can wait on a condition. A task may signal a condition.
  *
- * The thread sanitizer is told that what precedes qolb_notify happens before the notification, and that the
- * notification happens before what follows qolb_notify_off. */
+ * The library tells the thread sanitizer that everything before qolb_notify happens before the notification, and that
+ * the notification happens before everything after qolb_notify_off. */
 #ifndef QOLB_H
 #define QOLB_H
 
@@ -533,10 +553,11 @@
  * together. */
 #define QOLB_NODE_ALIGN 128
 
-/* The lease of a line that no number of acquisitions closes. */
+/* The lease of a line that does not close after any number of acquisitions. */
 #define QOLB_NO_LEASE UINT64_MAX
 
-/* Marks calls whose result must be used: a caller that ignores it cannot know who holds the lock or the line. */
+/* Marks calls whose result must be used: a caller that ignores the result cannot know who holds the lock or the line.
+ */
 #if defined(__GNUC__)
 #define QOLB_LOOK __attribute__((warn_unused_result))
 #else
@@ -559,7 +580,7 @@
 extern "C" {
 #endif
 
-/* A handle, which is the name of a node in C. A handle of zeros is empty. */
+/* A handle, by which a C program refers to a node. A handle of zeros is empty, which means that it has no node. */
 typedef struct qolb_node {
     void *own;
 } qolb_node;
@@ -579,9 +600,9 @@ enum qolb_kind { QOLB_RING = 0, QOLB_LINK = 1, QOLB_TICKET = 2, QOLB_DEFAULT = Q
 enum qolb_result {
     QOLB_DONE = 0,       /* the call did what it says */
     QOLB_GRANTED = 1,    /* the calling thread or the task holds the lock, or the node holds the line */
-    QOLB_QUEUED = 2,     /* the node's request waits in the queue: poll it by qolb_poll or qolb_spin */
+    QOLB_QUEUED = 2,     /* the node's request waits in the queue: poll with qolb_poll or qolb_spin */
     QOLB_WAITING = 3,    /* the request of the node or task still waits */
-    QOLB_LINKING = 4,    /* the node's request is behind another one: link it by qolb_link */
+    QOLB_LINKING = 4,    /* the node's request is behind another one: call qolb_link */
     QOLB_WITHDRAWN = 5,  /* the request is withdrawn, or the notification will not be made */
     QOLB_CLOSED = 6,     /* the lock is shut or the line is closed, and the request has ended */
     QOLB_BUSY = 7,       /* the call would have to wait, the lock to be destroyed is in use, or the node's last request
@@ -593,7 +614,8 @@ enum qolb_result {
     QOLB_BAD_KIND = 12,  /* there is no such kind of line */
     QOLB_TOO_FEW = 13,   /* there are fewer handles than nodes */
     QOLB_OCCUPIED = 14,  /* a handle that the call would fill has a node, or the lock is already open */
-    QOLB_TIMEDOUT = 15   /* the timeout expired; the request is withdrawn, but a thread at a condition holds the lock */
+    QOLB_TIMEDOUT = 15   /* the timeout expired, and the request is withdrawn. After a wait on a condition, the thread
+                            holds the lock */
 };
 
 /* The states of a node. In the states IDLE, LEFT, ROLLED and SHUT a node may request the line. */
@@ -611,11 +633,11 @@ enum qolb_node_state {
 /* Opens a line and puts its nodes into handles.
  *
  * `kind` is an enum qolb_kind. `nodes` is the number of nodes, 1 to 200. Node k goes into out[k - 1], which must be
- * empty; `out` has `handles` handles. `opening` has the bytes of the line at first. The line closes at the end of
- * acquisition number `lease`, and never for that reason if `lease` is QOLB_NO_LEASE. `label` is any number
- * (qolb_label).
+ * empty. `out` is an array of `handles` handles. `opening` contains the initial bytes of the line. The line closes at
+ * the end of acquisition number `lease`. If `lease` is QOLB_NO_LEASE, no number of acquisitions closes the line.
+ * `label` is any number (qolb_label).
  *
- * The call allocates memory (KINDS). If several errors apply, it returns the first of the list.
+ * The call allocates memory (KINDS). If several errors apply, the call returns the first one in the list below.
  *
  * Returns:
  * - QOLB_DONE: The line is open.
@@ -628,7 +650,7 @@ enum qolb_node_state {
 enum qolb_result qolb_open(uint32_t kind, uint64_t label, uint64_t nodes, uint64_t lease, const qolb_bytes *opening,
                            qolb_node *out, size_t handles) QOLB_LOOK;
 
-/* Computes how many bytes of heap memory an open line of this kind and number of nodes keeps (KINDS).
+/* Computes how many bytes of heap memory an open line of this kind takes with this number of nodes (KINDS).
  *
  * Returns 0 if qolb_open would return QOLB_BAD_KIND or QOLB_BAD_NODES, and the number of bytes otherwise. */
 uint64_t qolb_memory(uint32_t kind, uint64_t nodes);
@@ -643,7 +665,7 @@ uint64_t qolb_memory(uint32_t kind, uint64_t nodes);
  * - QOLB_MISUSE: The handle is empty, or its node has already requested the line. */
 enum qolb_result qolb_enqolb(qolb_node *node) QOLB_LOOK;
 
-/* Polls once whether the node's request is at its turn, and does not wait.
+/* Checks once whether the turn of the node's request has come, and does not wait.
  *
  * Returns:
  * - QOLB_GRANTED: The node holds the line.
@@ -652,9 +674,10 @@ enum qolb_result qolb_enqolb(qolb_node *node) QOLB_LOOK;
  * - QOLB_MISUSE: The node is not in the state QOLB_STATE_QUEUED. */
 enum qolb_result qolb_poll(qolb_node *node) QOLB_LOOK;
 
-/* Polls at most `polls` times, with a short pause between two polls, until the node's request is at its turn.
+/* Polls at most `polls` times, with a short pause between two polls, until the turn of the node's request has come.
  *
- * The call does not sleep. If there are more threads than processors, spin for few polls, and yield between two calls.
+ * The call does not sleep. If there are more threads than processors, let each call make only a few polls, and yield
+ * between two calls.
  *
  * Returns:
  * - QOLB_GRANTED: The node holds the line.
@@ -665,7 +688,7 @@ enum qolb_result qolb_spin(qolb_node *node, uint64_t polls) QOLB_LOOK;
 
 /* Requests the line, and waits until the node holds it.
  *
- * The call waits as long as it takes, also while the node is busy (BUSY). It polls at first and then sleeps (WAITING).
+ * The call waits as long as necessary, even while the node is busy (BUSY). It first polls and then sleeps (WAITING).
  *
  * Returns:
  * - QOLB_GRANTED: The node holds the line.
@@ -675,9 +698,9 @@ enum qolb_result qolb_acquire(qolb_node *node) QOLB_LOOK;
 
 /* Requests the line, and waits until the node holds it, but for at most `nanoseconds`.
  *
- * The time also counts while the node is busy (BUSY). UINT64_MAX means that there is no timeout. If the request waits
- * in the queue, the call polls at least once. After QOLB_TIMEDOUT the node may request the line again, but it may be
- * busy at first.
+ * The timeout also includes the time during which the node is busy (BUSY). UINT64_MAX means that there is no timeout.
+ * If the request waits in the queue, the call polls at least once. After QOLB_TIMEDOUT the node may request the line
+ * again, but may be busy at first.
  *
  * Returns:
  * - QOLB_GRANTED: The node holds the line.
@@ -686,32 +709,32 @@ enum qolb_result qolb_acquire(qolb_node *node) QOLB_LOOK;
  * - QOLB_MISUSE: The handle is empty, or its node has already requested the line. */
 enum qolb_result qolb_acquire_within(qolb_node *node, uint64_t nanoseconds) QOLB_LOOK;
 
-/* Polls whether the node is busy, and makes no request.
+/* Checks whether the node is busy, and makes no request.
  *
  * After QOLB_DONE, a node of a link line that was in the state LEFT or ROLLED is in the state IDLE. Every other node
  * stays in its state.
  *
  * Returns:
- * - QOLB_DONE: The node is not busy, and stays so until it makes its next request.
+ * - QOLB_DONE: The node is not busy, and will not be busy before it makes its next request.
  * - QOLB_BUSY: The node is busy until a call of another node clears its last request (BUSY).
  * - QOLB_MISUSE: The handle is empty, or its node has already requested the line. */
 enum qolb_result qolb_settle_node(qolb_node *node);
 
-/* Withdraws the node's request, unless it is at its turn.
+/* Withdraws the node's request, unless the turn of the request has already come.
  *
  * The call does not wait. The withdrawn request stays in the queue for a while, and keeps the node busy (BUSY).
  *
  * Returns:
  * - QOLB_WITHDRAWN: The request is withdrawn.
- * - QOLB_GRANTED: The request was at its turn, so the node holds the line.
+ * - QOLB_GRANTED: The turn of the request had already come, so the node holds the line.
  * - QOLB_CLOSED: The line is closed, and the request has ended.
  * - QOLB_MISUSE: The node is not in the state QOLB_STATE_QUEUED. */
 enum qolb_result qolb_withdraw(qolb_node *node) QOLB_LOOK;
 
-/* Makes the first half of a request for a link line: takes a place in the queue.
+/* Makes the first half of a request for a link line, by which the node takes a place in the queue.
  *
- * Until qolb_link has made the second half, the line stays with the predecessor, even if that node releases it. The
- * call does not wait.
+ * Until qolb_link has made the second half, the line stays with the node's predecessor, even after the predecessor has
+ * released it. The call does not wait.
  *
  * Returns:
  * - QOLB_GRANTED: No request was before this one, so the node holds the line.
@@ -721,7 +744,8 @@ enum qolb_result qolb_withdraw(qolb_node *node) QOLB_LOOK;
  * - QOLB_MISUSE: The handle is empty, the line is of another kind, or the node has already requested the line. */
 enum qolb_result qolb_prepend(qolb_node *node) QOLB_LOOK;
 
-/* Makes the second half of a request for a link line: tells the predecessor which node is its successor.
+/* Makes the second half of a request for a link line, by which the node tells its predecessor which node is the
+ * successor.
  *
  * The call does not wait.
  *
@@ -739,7 +763,7 @@ enum qolb_result qolb_link(qolb_node *node) QOLB_LOOK;
  * - QOLB_MISUSE: The node does not hold the line, and `out` is unchanged. */
 enum qolb_result qolb_read(qolb_node *node, qolb_bytes *out);
 
-/* Writes those bytes of the line whose bit is set in `mask`: byte k of `bytes` if bit k is set.
+/* Writes byte k of `bytes` to byte k of the line, for each bit k that is set in `mask`.
  *
  * Returns:
  * - QOLB_DONE: The bytes are written.
@@ -767,7 +791,7 @@ enum qolb_result qolb_write_lane(qolb_node *node, uint64_t lane, uint64_t value)
  * - QOLB_MISUSE: The node does not hold the line, or `lane` is above 7. `was` is unchanged. */
 enum qolb_result qolb_add_lane(qolb_node *node, uint64_t lane, uint64_t by, uint64_t *was);
 
-/* Gets the number of acquisitions that the lease of the line still allows, the holder's own among them.
+/* Gets the number of acquisitions that the lease of the line still allows, including the holder's own.
  *
  * Returns QOLB_NO_LEASE if the line has no lease, 0 if the node does not hold the line, and the number otherwise. */
 uint64_t qolb_turns_left(qolb_node *node);
@@ -784,7 +808,7 @@ enum qolb_result qolb_deqolb(qolb_node *node);
 
 /* Releases the line and closes it: no later request is served.
  *
- * Requests in the queue are answered QOLB_CLOSED, one after the other. The call does not wait for a turn, but it may
+ * All requests in the queue end with QOLB_CLOSED, one after the other. The call does not wait for a turn, but it may
  * make a notification (qolb_task(3)).
  *
  * Returns:
@@ -792,31 +816,31 @@ enum qolb_result qolb_deqolb(qolb_node *node);
  * - QOLB_MISUSE: The node does not hold the line. */
 enum qolb_result qolb_shut(qolb_node *node);
 
-/* Requests a notification: one call of `call(arg)`, once the node's request is at its turn or the line is closed.
+/* Requests a notification: one call of `call(arg)`, once the turn of the node's request has come or the line is closed.
  *
- * The releasing thread makes the notification (NOTIFICATIONS). A second notification that a node requests replaces the
- * first. The call polls once, and does not wait for a turn.
+ * The releasing thread makes the notification (NOTIFICATIONS). If a node requests a second notification, it replaces
+ * the first. The call polls once, and does not wait for a turn.
  *
  * Returns:
- * - QOLB_WAITING: The request still waits, and the notification will be made unless the node polls before.
+ * - QOLB_WAITING: The request still waits, and the notification will be made unless the node polls before that.
  * - QOLB_GRANTED: The node holds the line, and no notification will be made.
  * - QOLB_CLOSED: The line is closed, and no notification will be made.
  * - QOLB_MISUSE: The node is not in the state QOLB_STATE_QUEUED, or `call` is null. */
 enum qolb_result qolb_notify(qolb_node *node, void (*call)(void *arg), void *arg) QOLB_LOOK;
 
-/* Requests a notification that adds 1 to the eventfd `fd`, when qolb_notify would call its function.
+/* Requests a notification as qolb_notify does, but one that adds 1 to the eventfd `fd` instead of calling a function.
  *
  * Returns:
- * - QOLB_WAITING: The request still waits, and 1 will be added unless the node polls before.
+ * - QOLB_WAITING: The request still waits, and 1 will be added unless the node polls before that.
  * - QOLB_GRANTED: The node holds the line, and nothing will be added.
  * - QOLB_CLOSED: The line is closed, and nothing will be added.
  * - QOLB_MISUSE: The node is not in the state QOLB_STATE_QUEUED, or `fd` is negative. */
 enum qolb_result qolb_notify_fd(qolb_node *node, int fd) QOLB_LOOK;
 
-/* Takes back the node's request for a notification. Its request for the line stays.
+/* Cancels the notification that the node has requested. The node's request for the line stays open.
  *
- * If the notification is being made by another thread, the call waits until the function has returned or has called
- * qolb_notify_done.
+ * If another thread is making the notification at that time, the call waits until the function has returned or has
+ * called qolb_notify_done.
  *
  * Returns:
  * - QOLB_WITHDRAWN: The notification will not be made.
@@ -824,14 +848,15 @@ enum qolb_result qolb_notify_fd(qolb_node *node, int fd) QOLB_LOOK;
  * - QOLB_MISUSE: The handle is empty. */
 enum qolb_result qolb_notify_off(qolb_node *node);
 
-/* Says, inside the function of a notification, that the function will not use its `arg` any more.
+/* States, inside the function of a notification, that the function will not use its `arg` any more.
  *
- * After this nobody waits for the function to return. Elsewhere the call does nothing. */
+ * After this, no other call waits for the function to return. Outside the function of a notification, the call does
+ * nothing. */
 void qolb_notify_done(void);
 
 /* Frees the node and empties its handle. The last node frees the line.
  *
- * The call makes qolb_notify_off first.
+ * The call first cancels the node's notification, as qolb_notify_off does.
  *
  * Returns:
  * - QOLB_DONE: The node is freed.
@@ -855,8 +880,8 @@ uint32_t qolb_state(qolb_node *node);
 
 /* clang-format off */
 
-/* A lock, and its initialisers: strict, or barging with this limit. Only the library reads or changes the contents of a
- * lock. */
+/* A lock and its initialisers, one for a strict lock and one for a barging lock with the given limit. A program must
+ * not read or change the contents of a lock. */
 typedef struct __attribute__((aligned(16))) qolb_lock {
     void *own;
     uint64_t limit, more[38];
@@ -864,8 +889,8 @@ typedef struct __attribute__((aligned(16))) qolb_lock {
 #define QOLB_LOCK_INIT {QOLB_NULL_, 0, {0}}
 #define QOLB_LOCK_INIT_BARGING(limit) {QOLB_NULL_, QOLB_AS_(uint64_t, limit), {0}}
 
-/* A condition and its initialiser. A holder of a lock waits at a condition until another thread signals it. A condition
- * may serve several locks, and need not be freed. */
+/* A condition and its initialiser. A thread that holds a lock can wait on a condition until another thread signals the
+ * condition. A condition may be used with several locks, and need not be freed. */
 typedef struct qolb_cond {
     void *own;
 } qolb_cond;
@@ -875,8 +900,8 @@ typedef struct qolb_cond {
 
 /* Opens a lock with a barging limit that is known only at run time (ORDER AND BARGING).
  *
- * The lock must be initialised and not used yet, or destroyed. A program that knows the limit beforehand can use an
- * initialiser instead.
+ * The lock must have been initialised and not used yet, or it must have been destroyed. A program that knows the limit
+ * beforehand can use an initialiser instead.
  *
  * Returns:
  * - QOLB_DONE: The lock is open.
@@ -893,7 +918,7 @@ enum qolb_result qolb_lock_open(qolb_lock *lock, uint64_t limit) QOLB_LOOK;
  * - QOLB_MISUSE: The calling thread already holds the lock. */
 enum qolb_result qolb_lock_enter(qolb_lock *lock) QOLB_LOOK;
 
-/* Enters the lock if this needs no waiting. The call does not spin.
+/* Enters the lock if the calling thread does not have to wait for it. The call does not spin.
  *
  * Returns:
  * - QOLB_GRANTED: The calling thread holds the lock.
@@ -904,7 +929,8 @@ enum qolb_result qolb_lock_try(qolb_lock *lock) QOLB_LOOK;
 
 /* Enters the lock, and waits until the calling thread holds it, but for at most `nanoseconds`.
  *
- * The time begins with the call. UINT64_MAX means that there is no timeout (TIMEOUTS).
+ * The timeout begins with the call. UINT64_MAX means that there is no timeout (TIMEOUTS). With a timeout of 0 the call
+ * enters the lock if the lock is free.
  *
  * Returns:
  * - QOLB_GRANTED: The calling thread holds the lock.
@@ -913,30 +939,32 @@ enum qolb_result qolb_lock_try(qolb_lock *lock) QOLB_LOOK;
  * - QOLB_MISUSE: The calling thread already holds the lock. The call returns at once. */
 enum qolb_result qolb_lock_enter_within(qolb_lock *lock, uint64_t nanoseconds) QOLB_LOOK;
 
-/* Enters the lock, and waits until the calling thread holds it, but not after `time`.
+/* Enters the lock, and waits until the calling thread holds it, but at most until `time`.
  *
- * `time` is in nanoseconds of CLOCK_MONOTONIC. UINT64_MAX means that there is no timeout (TIMEOUTS).
+ * `time` is an absolute time in nanoseconds, measured on CLOCK_MONOTONIC. UINT64_MAX means that there is no timeout
+ * (TIMEOUTS).
  *
  * Returns:
  * - QOLB_GRANTED: The calling thread holds the lock.
- * - QOLB_TIMEDOUT: The time came. The calling thread does not hold the lock.
+ * - QOLB_TIMEDOUT: `time` passed before the lock was granted. The calling thread does not hold the lock.
  * - QOLB_CLOSED: The lock is shut.
  * - QOLB_MISUSE: The calling thread already holds the lock. The call returns at once. */
 enum qolb_result qolb_lock_enter_until(qolb_lock *lock, uint64_t time) QOLB_LOOK;
 
 /* Leaves the lock. A strict lock goes to the first waiter, and a barging lock becomes free.
  *
- * The call does not wait for a turn, but it may make notifications of tasks (qolb_task(3)).
+ * The call does not wait for a turn, but it may make notifications for tasks (qolb_task(3)).
  *
  * Returns:
  * - QOLB_DONE: The calling thread has left the lock.
  * - QOLB_MISUSE: The calling thread does not hold the lock. */
 enum qolb_result qolb_lock_leave(qolb_lock *lock);
 
-/* Leaves the lock and shuts it: takes it out of service.
+/* Leaves the lock and shuts it, which takes the lock out of service.
  *
- * All threads and tasks that wait, also at a condition, and all later callers are told that the lock is shut. They are
- * told one after the other, each once the one before it has polled.
+ * All threads and tasks that wait for the lock, all threads that wait on a condition with this lock, and all later
+ * callers are told that the lock is shut. Later callers are told at once. Each waiter is told only after the waiter
+ * before it has polled; until the last one has polled, qolb_lock_is_held returns 1.
  *
  * Returns:
  * - QOLB_DONE: The lock is shut, and the calling thread has left it.
@@ -945,13 +973,14 @@ enum qolb_result qolb_lock_shut(qolb_lock *lock);
 
 /* Destroys the lock, so that its memory may be freed.
  *
- * Afterwards the lock is as an initialiser leaves it. Its next use opens it with the same limit, and then it is not
- * shut. The thread that was granted the lock last, and has left it, may destroy it even if another thread has not yet
- * returned from its call to leave.
+ * Afterwards the lock is in the state that its initialiser gave it. The next use of the lock opens it with the same
+ * limit, and then the lock is not shut. The thread that was granted the lock last, and has left the lock, may destroy
+ * it even if another thread has not yet returned from the call by which it left the lock.
  *
  * Returns:
  * - QOLB_DONE: The lock is destroyed, or was not open.
- * - QOLB_BUSY: A thread or a task holds the lock or waits for it, perhaps at a condition. Nothing changed. */
+ * - QOLB_BUSY: A thread or a task holds the lock or waits for it, or a thread waits on a condition with this lock.
+ *   Nothing changed. */
 enum qolb_result qolb_lock_destroy(qolb_lock *lock);
 
 /* Checks whether the calling thread holds the lock.
@@ -961,41 +990,41 @@ int qolb_lock_is_mine(const qolb_lock *lock);
 
 /* Checks whether a thread or a task holds the lock, or is about to hold it.
  *
- * The call reads the lock and does not try to enter it, so another call may have changed the answer when this one
+ * The call only reads the lock and does not try to enter it. Therefore the answer may no longer be true when the call
  * returns.
  *
- * Returns 1 if a thread or a task holds the lock or is about to, and 0 otherwise. */
+ * Returns 1 if a thread or a task holds the lock or is about to hold it, and 0 otherwise. */
 int qolb_lock_is_held(const qolb_lock *lock);
 
-/* Leaves the lock, waits at the condition until it is signalled, and enters the lock again.
+/* Leaves the lock, waits on the condition until it is signalled, and enters the lock again.
  *
- * No signal after the leave is missed. Check in a loop what the thread waits for, because another thread may have
- * entered the lock first.
+ * The call misses no signal that comes after it has left the lock. Check in a loop what the thread waits for, because
+ * another thread may enter the lock before this thread does.
  *
  * Returns:
  * - QOLB_GRANTED: The condition was signalled, and the calling thread holds the lock.
  * - QOLB_CLOSED: The lock is shut, and the calling thread does not hold it.
- * - QOLB_MISUSE: The calling thread does not hold the lock, and has not waited. */
+ * - QOLB_MISUSE: The calling thread does not hold the lock, so it has not waited. */
 enum qolb_result qolb_cond_wait(qolb_cond *cond, qolb_lock *lock) QOLB_LOOK;
 
-/* Waits at the condition as qolb_cond_wait does, but for at most `nanoseconds`.
+/* Waits on the condition as qolb_cond_wait does, but for at most `nanoseconds`.
  *
- * The timeout limits the wait for a signal. Then the thread enters the lock again, however long that takes.
+ * The timeout limits only the wait for a signal. Afterwards the thread enters the lock again, however long this takes.
  *
  * Returns:
  * - QOLB_GRANTED: The condition was signalled, and the calling thread holds the lock.
  * - QOLB_TIMEDOUT: No signal came in time, and the calling thread holds the lock.
  * - QOLB_CLOSED: The lock is shut, and the calling thread does not hold it.
- * - QOLB_MISUSE: The calling thread does not hold the lock, and has not waited. */
+ * - QOLB_MISUSE: The calling thread does not hold the lock, so it has not waited. */
 enum qolb_result qolb_cond_wait_within(qolb_cond *cond, qolb_lock *lock, uint64_t nanoseconds) QOLB_LOOK;
 
-/* Wakes the thread that has waited longest at the condition. The caller need not hold the lock.
+/* Wakes the thread that has waited longest on the condition. The caller need not hold the lock.
  *
  * Returns:
  * - QOLB_DONE: The thread is woken, or no thread waited. */
 enum qolb_result qolb_cond_signal(qolb_cond *cond);
 
-/* Wakes all threads that wait at the condition. The caller need not hold the lock.
+/* Wakes all threads that wait on the condition. The caller need not hold the lock.
  *
  * Returns:
  * - QOLB_DONE: The threads are woken, or no thread waited. */
@@ -1003,8 +1032,8 @@ enum qolb_result qolb_cond_broadcast(qolb_cond *cond);
 
 /* clang-format off */
 
-/* A task, which can enter locks, and its initialiser. Do not move a task while it waits. Only the library reads or
- * changes the contents of a task. */
+/* A task, which can enter locks, and its initialiser. Do not move a task while it waits. A program must not read or
+ * change the contents of a task. */
 typedef struct qolb_task {
     void *own[16];
 } qolb_task;
@@ -1014,8 +1043,9 @@ typedef struct qolb_task {
 
 /* Requests the lock for a task, and does not wait for its turn.
  *
- * If the lock is not free, `call(arg)` will be called once, when the task has the lock or is told that the lock is shut
- * (NOTIFICATIONS). Then qolb_task_poll tells which of the two it is. The call allocates memory if the task has to wait.
+ * If the lock is not free, the library will call `call(arg)` once, when the task has the lock or is told that the lock
+ * is shut (NOTIFICATIONS). Then qolb_task_poll returns which of the two has happened. The call allocates memory if the
+ * task has to wait.
  *
  * Returns:
  * - QOLB_GRANTED: The task holds the lock, and no notification will be made.
@@ -1037,7 +1067,7 @@ enum qolb_result qolb_task_enter(qolb_task *task, qolb_lock *lock, void (*call)(
  *   (TASKS). */
 enum qolb_result qolb_task_enter_fd(qolb_task *task, qolb_lock *lock, int fd) QOLB_LOOK;
 
-/* Polls for a task that waits, and does not wait for its turn.
+/* Checks once whether the turn of a waiting task has come, and does not wait.
  *
  * Returns:
  * - QOLB_GRANTED: The task holds the lock.
@@ -1048,7 +1078,7 @@ enum qolb_result qolb_task_poll(qolb_task *task) QOLB_LOOK;
 
 /* Gives up the request of a task that waits. No notification is made after the call.
  *
- * If the task was at its turn, the call also leaves the lock for it.
+ * If the task's turn had already come, the call also leaves the lock for the task.
  *
  * Returns:
  * - QOLB_WITHDRAWN: The request is withdrawn.
@@ -1272,7 +1302,7 @@ static inline const char *qolb_result_name(uint32_t result) {
     return result < sizeof names / sizeof names[0] ? names[result] : "?";
 }
 
-/* Gets the name of a kind of lines, as the program `qolb` takes it.
+/* Gets the name of a kind of line, as the program `qolb` uses it.
  *
  * Returns "ring", "link" or "ticket", and "?" for any other number. */
 static inline const char *qolb_kind_name(uint32_t kind) {
