@@ -3,9 +3,9 @@
 # kit: rattle-kit-13f logic dac8208d650f15bf
 # verdict: logic=proved functions=46 axioms=3 target=x86_64-unknown-linux-gnu cpu=x86-64-v2 sum=dac8208d650f15bf native=nat,char,string logic-built=trusted libraries-built=trusted statements=trusted incremental=trusted
 # crates: line_lanes qolb_model line_generic line_cells ring_line ticket_line link_core link_line line_kinds lock_core qolb_nodes qolb_locks qolb_c
-# sources: 157f29968615eee0b4bfcd0ecdde78d93bcf2d6da99508050f9cf8b9cf062dcb
+# sources: 17f86115d5b1fc1a993216839cb6e22fb2af33f85ec884471dbd314ccea691b7
 # qolb_layout.h: c72a49f0dc06a20495f93c062f31db932fa0a0e730c17353338d6b864e1afe1b
-# this file, without this line: d7c93ac9871f18a918cbe44fa74de86d975a830565dca1a8cfb9bc5bfa4b5ce2
+# this file, without this line: 04ba073f7c21da147e82057bc4f97d924d3851c88f5333793dd7780552eec486
 
 	.section	".text.std_alloc::boxed::Box::drop::<#93decabdc48cf5d8>","ax",@progbits
 	.p2align	4                               # -- Begin function std_alloc::boxed::Box::drop::<#93decabdc48cf5d8>
