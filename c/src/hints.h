@@ -41,10 +41,10 @@ static inline const char *slots_of(const struct node *my) {
     return address_in(proved_line_of(my), LAYOUT_LINE_TO_SLOTS);
 }
 
-/* The slot that a waiting node will read: that of its place, or the line's one. */
-static inline const char *slot_of(struct node *my) {
+/* The slot that a node will read which waits at this word: that of its cell, or the line's one. */
+static inline const char *slot_at(const struct node *my, uint64_t word) {
     if (my->line->kind != QOLB_TICKET) return slots_of(my);
-    return slots_of(my) + qolb_waits_at_proved_(&my->proved) / LAYOUT_PLACE_WORDS * LAYOUT_SLOT_BYTES;
+    return slots_of(my) + word / LAYOUT_PLACE_WORDS * LAYOUT_SLOT_BYTES;
 }
 
 /* Of a link line: the word of the last request, and each node's entry. */
@@ -69,7 +69,7 @@ static inline void hint_turn_of_link(const struct node *my, const char *slot) {
     will_write(own);
 }
 
-/* Before a poll, with slot_of the node. */
+/* Before a poll, with slot_at of the node's word. */
 static inline void hint_turn(const struct node *my, const char *slot) {
     if (my->line->kind == QOLB_LINK) hint_turn_of_link(my, slot);
     else will_read(slot);

@@ -22,26 +22,27 @@ uint32_t qolb_write_proved_(qolb_node *node, uint64_t mask, const qolb_bytes *by
 uint32_t qolb_read_lane_proved_(qolb_node *node, uint64_t lane, uint64_t *out);
 uint32_t qolb_write_lane_proved_(qolb_node *node, uint64_t lane, uint64_t value);
 uint32_t qolb_add_lane_proved_(qolb_node *node, uint64_t lane, uint64_t by, uint64_t *was);
-uint64_t qolb_turns_left_proved_(qolb_node *node);
 uint32_t qolb_clear_proved_(qolb_node *node);
 uint32_t qolb_deqolb_proved_(qolb_node *node);
 uint32_t qolb_shut_proved_(qolb_node *node);
 uint32_t qolb_close_proved_(qolb_node *node);
-uint64_t qolb_number_proved_(qolb_node *node);
-uint64_t qolb_label_proved_(qolb_node *node);
-uint32_t qolb_state_proved_(qolb_node *node);
 uint64_t qolb_memory_proved_(uint32_t kind, uint64_t nodes);
 /* Writes the first LAYOUT_TOLD numbers of ../proved/qolb_layout.h, in its order. */
 void qolb_layout_proved_(uint64_t *numbers);
 
-/* Numbers of words of the node's line, on which nodes wait. They name a place and nothing more: these calls read no
- * word.
- *
- * The place of the node's own request; the same from the request until its grant. */
-uint64_t qolb_waits_at_proved_(qolb_node *node);
-/* The place of the next holder after the node's last release, or after it was told that the line is closed; and that of
- * the waiter behind it. The first is proved, the second is not. If there is none, a number at which no node waits. */
-uint64_t qolb_went_to_proved_(qolb_node *node);
-uint64_t qolb_went_ahead_proved_(qolb_node *node);
+/* What a node is, and where it waits; of an empty handle zeros, and UINT64_MAX for each word. The words are numbers of
+ * the node's line, on which nodes wait; they name a place and nothing more. */
+struct qolb_look {
+    uint64_t number, label, turns_left; /* as the calls of these names tell */
+    uint64_t wait_word;                 /* of the node's own request; the same from the request until its grant */
+    /* After the node's last release, or after it was told that the line is closed: the word of the next holder, and
+     * that of the waiter behind it. The first is proved, the second is not. If there is none, a number at which no node
+     * waits. */
+    uint64_t went_to, went_ahead;
+    uint32_t state; /* enum qolb_node_state */
+};
+
+/* Reads no word of the line. */
+void qolb_look_proved_(qolb_node *node, struct qolb_look *out);
 
 #endif

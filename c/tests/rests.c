@@ -1,10 +1,11 @@
 /* How a waiter with a node rests between polls, by a clock that the program advances: how often it requests and polls,
  * how long it sleeps, and when it is late; its answer if the line is granted, or closed, between the last poll and the
  * withdrawal; and which calls wake sleepers, and which sleepers. Linked with --wrap for clock_gettime, nanosleep,
- * sched_yield, syscall and for the proved calls that request, poll, withdraw and name the next holder. One thread does
- * what several would. Prints only errors. */
+ * sched_yield, syscall and for the proved calls that request, poll, withdraw and look at a node. One thread does what
+ * several would. Prints only errors. */
 #define _GNU_SOURCE
 #include "want.h"
+#include <probes.h>
 #include <proved.h>
 #include <sched.h>
 #include <spin.h>
@@ -22,9 +23,16 @@ enum { US = 1000, MS = 1000000 };
 #define NEVER UINT64_MAX
 
 /* The time, in nanoseconds; and since `begins` the numbers of clock calls and rests, the longest time that a sleep may
- * have lasted, the node's numbers of requests, polls and spins, the number of times that it was asked for the next
- * holder, the number of wakes, and the calls that a waiter must not make. */
+ * have lasted, the node's numbers of requests, polls and spins, the number of looks at a node that does not wait, as a
+ * release makes one for the next holder, the number of wakes, and the calls that a waiter must not make. */
 static uint64_t now, clocks, yields, sleeps, longest, asks, spins, spun, looks, names, wakes, wrong;
+
+/* The looks that probes add to the wait of a node that was busy: at its beginning and at its end. */
+#ifdef DTRACE_PROBE3
+enum { BY_PROBES = 2 };
+#else
+enum { BY_PROBES = 0 };
+#endif
 
 /* How often a node polls before it sleeps, each 60 ns, as qolb.h says: for 50 us on a line of no more nodes than
  * processors, here four, and for 20 us on others; at least for 2 us, and once it has slept, for 10. It pauses while 90
@@ -56,7 +64,7 @@ uint32_t __real_qolb_enqolb_proved_(qolb_node *node);
 uint32_t __real_qolb_wait_proved_(qolb_node *node, uint64_t polls);
 uint32_t __real_qolb_poll_proved_(qolb_node *node);
 uint32_t __real_qolb_withdraw_proved_(qolb_node *node);
-uint64_t __real_qolb_went_to_proved_(qolb_node *node);
+void __real_qolb_look_proved_(qolb_node *node, struct qolb_look *out);
 long __real_syscall(long number, ...);
 
 static void happens(void) {
@@ -141,9 +149,9 @@ uint32_t __wrap_qolb_withdraw_proved_(qolb_node *node) {
     return __real_qolb_withdraw_proved_(node);
 }
 
-uint64_t __wrap_qolb_went_to_proved_(qolb_node *node) {
-    names++;
-    return __real_qolb_went_to_proved_(node);
+void __wrap_qolb_look_proved_(qolb_node *node, struct qolb_look *out) {
+    __real_qolb_look_proved_(node, out);
+    if (out->state != QOLB_STATE_QUEUED) names++;
 }
 
 /* The calling thread forgets what its spins taught it. */
@@ -475,18 +483,37 @@ static void shuts_other(void) {
     if (qolb_shut(other) != QOLB_DONE) wrong++;
 }
 
-/* The line is closed as the node's time is over; or while it is busy. */
-static uint32_t is_told_as_it_gives_up(qolb_node *node) {
-    event.does = shuts_other;
-    event.at_withdrawal = 1;
-    return qolb_acquire_within(node, MS);
+static qolb_node *behind;
+static int calls;
+
+static void counts(void *unused) {
+    (void)unused;
+    calls++;
 }
 
-static uint32_t is_told_after_being_busy(qolb_node *node) {
-    if (qolb_try(node) != QOLB_BUSY) wrong++;
+/* One waits behind, and wants a call; then the line is closed as the node's time is over. */
+static void one_waits_behind(void) {
+    if (qolb_enqolb(behind) != QOLB_QUEUED || qolb_notify(behind, counts, NULL) != QOLB_WAITING) wrong++;
     event.does = shuts_other;
-    event.at_ask = asks + 3;
-    return qolb_acquire(node);
+    event.at_withdrawal = 1;
+}
+
+/* A node that is told of the shut line as it gives up has forwarded the line to the one behind, which is called. */
+static int is_told_as_it_gives_up(uint32_t kind) {
+    qolb_bytes zeros = {{0}};
+    qolb_node n[3] = {{0}};
+    WANT(qolb_open(kind, 1, 3, QOLB_NO_LEASE, &zeros, n, 3), QOLB_DONE);
+    WANT(qolb_acquire(&n[0]), QOLB_GRANTED);
+    other = &n[0];
+    behind = &n[2];
+    calls = 0;
+    begins(one_waits_behind);
+    event.at_look = 1;
+    WANT(qolb_acquire_within(&n[1], MS), QOLB_CLOSED);
+    WANT(calls, 1);
+    WANT(qolb_poll(&n[2]), QOLB_CLOSED);
+    for (int k = 0; k < 3; k++) WANT(qolb_node_free(&n[k]), QOLB_DONE);
+    return 0;
 }
 
 static void is_not_called(void *unused) {
@@ -494,9 +521,9 @@ static void is_not_called(void *unused) {
     wrong++;
 }
 
-/* A node that is told of the shut line late asks for the next holder, as the node did that shut it: a third has left a
- * wish for a call behind, and so counts as one that waits. */
-static int is_told_late(uint32_t kind, uint32_t (*call)(qolb_node *node)) {
+/* A busy node that is told of the shut line as it asks again looks for the next holder, as the node did that shut it: a
+ * third has left a callback behind, and so counts as one that waits. */
+static int is_told_after_being_busy(uint32_t kind) {
     qolb_bytes zeros = {{0}};
     qolb_node n[3] = {{0}};
     WANT(qolb_open(kind, 1, 3, QOLB_NO_LEASE, &zeros, n, 3), QOLB_DONE);
@@ -504,10 +531,12 @@ static int is_told_late(uint32_t kind, uint32_t (*call)(qolb_node *node)) {
     WANT(qolb_enqolb(&n[2]), QOLB_QUEUED);
     WANT(qolb_notify(&n[2], is_not_called, NULL), QOLB_WAITING);
     WANT(qolb_withdraw(&n[2]), QOLB_WITHDRAWN);
+    WANT(qolb_try(&n[1]), QOLB_BUSY);
     other = &n[0];
-    begins(NULL);
-    WANT(call(&n[1]), QOLB_CLOSED);
-    WANT(names, 2);
+    begins(shuts_other);
+    event.at_ask = 3;
+    WANT(qolb_acquire(&n[1]), QOLB_CLOSED);
+    WANT(names, 2 + BY_PROBES);
     for (int k = 0; k < 3; k++) WANT(qolb_node_free(&n[k]), QOLB_DONE);
     return 0;
 }
@@ -543,7 +572,7 @@ static int each_passes_on(uint32_t kind) {
     if (asks_a_closed_one(kind, qolb_enqolb) || asks_a_closed_one(kind, acquires) ||
         asks_a_closed_one(kind, acquires_within))
         return 1;
-    if (is_told_late(kind, is_told_as_it_gives_up) || is_told_late(kind, is_told_after_being_busy)) return 1;
+    if (is_told_as_it_gives_up(kind) || is_told_after_being_busy(kind)) return 1;
     return kind == QOLB_LINK && (passes_on(kind, qolb_link, 1) || asks_a_closed_one(kind, qolb_prepend));
 }
 

@@ -28,6 +28,26 @@ pub struct Bytes {
     pub bytes: [u8; 64],
 }
 
+/// What a node is, and where it waits.
+#[repr(C)]
+#[derive(Drop)]
+pub struct Look {
+    /// The node's number, from 1.
+    pub number: u64,
+    /// The label of its line.
+    pub label: u64,
+    /// The number of turns left, with the holder's own: 2^64 - 1 without a lease; 0 if the node does not hold the line.
+    pub turns_left: u64,
+    /// The word on which the node waits, if it does; the same from the request until the grant.
+    pub wait_word: u64,
+    /// The word of the next holder after the node's last release, or after it was told that the line is closed.
+    pub went_to: u64,
+    /// The word of the waiter behind the next holder, to be woken one turn ahead. If there is none, a number on which no node waits.
+    pub went_ahead: u64,
+    /// The number of the node's state, from 1.
+    pub state: u32,
+}
+
 /// A number that is no word of any line: no node waits there.
 const NO_WORD: u64 = u64::MAX;
 
@@ -200,18 +220,6 @@ pub extern "C" fn qolb_add_lane_proved_(node: &mut Handle, lane: u64, by: u64, w
     told!(node, called => called.add_lane(lane, by, was))
 }
 
-/// Returns the number of turns left, with the holder's own: 2^64 - 1 without a lease; 0 if the node does not hold the line.
-#[unsafe(no_mangle)]
-pub extern "C" fn qolb_turns_left_proved_(node: &mut Handle) -> u64
-    ensures held { node.new.held ≡ node.old.held }
-    ensures turns { TurnsLeft node.old.held result }
-{
-    match node.get_mut() {
-        None => 0,
-        Some(called) => called.shown().turns_left,
-    }
-}
-
 /// Releases the line.
 #[unsafe(no_mangle)]
 pub extern "C" fn qolb_deqolb_proved_(node: &mut Handle) -> u32
@@ -228,46 +236,43 @@ pub extern "C" fn qolb_shut_proved_(node: &mut Handle) -> u32
     told!(node, called => called.release(true))
 }
 
-/// Returns the word on which the node waits, if it does.
+/// Tells what the node is, and after a release whom C wakes.
 ///
-/// 2^64 - 1, which is no word, if there is no node.
+/// Of an empty handle: zeros, and `NO_WORD` for each word.
 #[unsafe(no_mangle)]
-pub extern "C" fn qolb_waits_at_proved_(node: &mut Handle) -> u64
+pub extern "C" fn qolb_look_proved_(node: &mut Handle, out: &mut Look)
     ensures held { node.new.held ≡ node.old.held }
-    ensures word { WaitsAt node.old.held result }
+    ensures number { out.new.number ≡ node_number node.old.held }
+    ensures label { out.new.label ≡ label_told node.old.held }
+    ensures state { out.new.state ≡ state_told node.old.held }
+    ensures turns { TurnsLeft node.old.held out.new.turns_left }
+    ensures word { WaitsAt node.old.held out.new.wait_word }
+    ensures went_to { WentTo node.old.held out.new.went_to }
+    ensures empty { node.old.held ≡ None → out.new.went_ahead ≡ nowhere }
 {
-    match node.get_mut() {
-        None => NO_WORD,
-        Some(called) => called.shown().wait_word,
-    }
-}
-
-/// Returns the word of the next holder after the node's last release.
-///
-/// 2^64 - 1 if there is none.
-#[unsafe(no_mangle)]
-pub extern "C" fn qolb_went_to_proved_(node: &mut Handle) -> u64
-    ensures held { node.new.held ≡ node.old.held }
-    ensures went_to { WentTo node.old.held result }
-{
-    match node.get_mut() {
-        None => NO_WORD,
-        Some(called) => called.shown().went_to,
-    }
-}
-
-/// Returns the word of the waiter behind the next holder, to be woken one turn ahead.
-///
-/// If there is none, a number on which no node waits.
-#[unsafe(no_mangle)]
-pub extern "C" fn qolb_went_ahead_proved_(node: &mut Handle) -> u64
-    ensures held { node.new.held ≡ node.old.held }
-    ensures empty { node.old.held ≡ None → result ≡ nowhere }
-{
-    match node.get_mut() {
-        None => NO_WORD,
-        Some(called) => called.shown().went_ahead,
-    }
+    *out = match node.get_mut() {
+        None => Look {
+            number: 0,
+            label: 0,
+            turns_left: 0,
+            wait_word: NO_WORD,
+            went_to: NO_WORD,
+            went_ahead: NO_WORD,
+            state: 0,
+        },
+        Some(called) => {
+            let shown = called.shown();
+            Look {
+                number: shown.number,
+                label: shown.label,
+                turns_left: shown.turns_left,
+                wait_word: shown.wait_word,
+                went_to: shown.went_to,
+                went_ahead: shown.went_ahead,
+                state: state_number(shown.state),
+            }
+        }
+    };
 }
 
 /// Frees a node that neither waits nor holds. The last node of a line frees the line.
@@ -276,40 +281,4 @@ pub extern "C" fn qolb_close_proved_(alloc: Global, node: &mut Handle) -> u32
     ensures { Closes node.old.held node.new.held result }
 {
     number(node.close(alloc))
-}
-
-/// Returns the node's number, from 1; 0 if there is no node.
-#[unsafe(no_mangle)]
-pub extern "C" fn qolb_number_proved_(node: &mut Handle) -> u64
-    ensures held { node.new.held ≡ node.old.held }
-    ensures number { result ≡ node_number node.old.held }
-{
-    match node.get_mut() {
-        None => 0,
-        Some(called) => called.shown().number,
-    }
-}
-
-/// Returns the label of the node's line; 0 if there is no node.
-#[unsafe(no_mangle)]
-pub extern "C" fn qolb_label_proved_(node: &mut Handle) -> u64
-    ensures held { node.new.held ≡ node.old.held }
-    ensures label { result ≡ label_told node.old.held }
-{
-    match node.get_mut() {
-        None => 0,
-        Some(called) => called.shown().label,
-    }
-}
-
-/// Returns the number of the node's state, from 1; 0 if there is no node.
-#[unsafe(no_mangle)]
-pub extern "C" fn qolb_state_proved_(node: &mut Handle) -> u32
-    ensures held { node.new.held ≡ node.old.held }
-    ensures state { result ≡ state_told node.old.held }
-{
-    match node.get_mut() {
-        None => 0,
-        Some(called) => state_number(called.shown().state),
-    }
 }
