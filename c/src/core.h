@@ -1,4 +1,4 @@
-/* For the library's internal files: the proved lock, as crates/qolb_c/src/core_calls.rt exports it. Many threads may
+/* For the library's internal files: the proved lock, as crates/qolb_locks/src/exports.rt exports it. Many threads may
  * call with one lock at a time. No call waits; each takes at most three atomic steps, a ticket's first call at a lock
  * one more, and a release two more for each withdrawn request that it passes, of which there are at most 64. Only
  * opening allocates.

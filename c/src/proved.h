@@ -1,4 +1,4 @@
-/* For the library's internal files: the proved calls on nodes, as crates/qolb_c/src/lib.rt exports them. A call
+/* For the library's internal files: the proved calls on nodes, as crates/qolb_nodes/src/lib.rt exports them. A call
  * of qolb.h has the same name without _proved_, and is in calls.c. The calls on locks are in core.h.
  *
  * What no call can see, and the caller owes (docs/PROVED.md): a handle of zeros, or as its last call left it, in one
@@ -27,7 +27,7 @@ uint32_t qolb_deqolb_proved_(qolb_node *node);
 uint32_t qolb_shut_proved_(qolb_node *node);
 uint32_t qolb_close_proved_(qolb_node *node);
 uint64_t qolb_memory_proved_(uint32_t kind, uint64_t nodes);
-/* Writes the first LAYOUT_TOLD numbers of ../proved/qolb_layout.h, in its order. */
+/* Writes the first LAYOUT_TOLD_OF_NODES numbers of ../proved/qolb_layout.h, in its order. */
 void qolb_layout_proved_(uint64_t *numbers);
 
 /* What a node is, and where it waits; of an empty handle zeros, and UINT64_MAX for each word. The words are numbers of

@@ -1,4 +1,4 @@
-//! Locks behind handles for C: what a caller has of a lock is a reference to it, and a ticket.
+//! Locks behind handles for C: a static library. What a caller has of a lock is a reference to it, and a ticket.
 //!
 //! A call first checks the ticket's state. If that does not allow the call, the answer is `Misuse` and nothing changes. Each call is made of a
 //! fixed number of atomic steps, and none waits.
@@ -8,7 +8,9 @@ mod answer;
 mod barging;
 mod claim;
 mod drawing;
+mod exports;
 mod head;
+mod layout;
 mod lock;
 mod lock_ref;
 mod meets;

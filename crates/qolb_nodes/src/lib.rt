@@ -1,12 +1,22 @@
-//! Nodes of lines of any kind, each behind a handle of one pointer, for programs in C.
+//! Nodes of lines of any kind for programs in C: a static library. `c/src/proved.h` declares its calls, and `c/src` calls them by these names.
 //!
-//! A call of a node first checks the node's state. If the state does not allow the call, the answer is `Misuse` and nothing changes. The
-//! exports of `qolb_c` call these, and name no lock.
+//! C has a node by a handle, a struct of one pointer that is null if there is no node. Each call is made of the handle's node. If the node's
+//! state does not allow a call, the answer is `Misuse` and nothing changes. None of these calls names a queue algorithm.
 #![tactic(auto)]
+
+ghost use Rattle.std.specs.Prelude.{◌≡◌, true, false, None};
+ghost use Rattle.qolb_nodes.specs.declared.answer.Answer.{Answer};
+ghost use Rattle.qolb_nodes.specs.Calls.{Enqolbs, Polls, Waits, Prepends, LinksUp, Withdraws, LooksIfClear, Reads, ReadsLane, Writes, WritesLane, AddsLane, Releases};
+ghost use Rattle.qolb_nodes.specs.Memory.{TellsMemory};
+ghost use Rattle.qolb_nodes.specs.Opens.{Opens, config_by};
+ghost use Rattle.qolb_nodes.specs.Waits.{nowhere};
+ghost use Rattle.qolb_nodes.specs.Exports.{Calls, Closes, TurnsLeft, WaitsAt, WentTo, node_number, label_told, state_told};
+ghost use Rattle.qolb_nodes.specs.Numbers.{number_of, state_number};
 
 mod answer;
 mod any_node;
 mod handle;
+mod layout;
 mod node;
 mod opening;
 
@@ -15,3 +25,269 @@ pub use any_node::AnyNode;
 pub use handle::Handle;
 pub use node::{LineFor, NO_LEASE, Node, Shown};
 pub use opening::{memory, open};
+
+use line_lanes::{Line64, Mask};
+use qolb_model::{LineConfig, PortState};
+use std::alloc::Global;
+
+/// 64 bytes, as C passes them.
+#[repr(C)]
+#[derive(Drop)]
+pub struct Bytes {
+    pub bytes: [u8; 64],
+}
+
+/// What a node is, and where it waits.
+#[repr(C)]
+#[derive(Drop)]
+pub struct Look {
+    /// The node's number, from 1.
+    pub number: u64,
+    /// The label of its line.
+    pub label: u64,
+    /// The number of turns left, with the holder's own: 2^64 - 1 without a lease; 0 if the node does not hold the line.
+    pub turns_left: u64,
+    /// The word on which the node waits, if it does; the same from the request until the grant.
+    pub wait_word: u64,
+    /// The word of the next holder after the node's last release, or after it was told that the line is closed.
+    pub went_to: u64,
+    /// The word of the waiter behind the next holder, to be woken one turn ahead. If there is none, a number on which no node waits.
+    pub went_ahead: u64,
+    /// The number of the node's state, from 1.
+    pub state: u32,
+}
+
+/// A number that is no word of any line: no node waits there.
+const NO_WORD: u64 = u64::MAX;
+
+/// Returns C's number of an answer.
+fn number(answer: Answer) -> u32
+    ensures { result ≡ number_of answer }
+{
+    answer as u32
+}
+
+/// Returns C's number of a node's state. A handle without a node has 0.
+fn state_number(state: PortState) -> u32
+    ensures { result ≡ state_number state }
+{
+    match state {
+        PortState::Idle => 1,
+        PortState::Linking => 2,
+        PortState::Queued => 3,
+        PortState::Holding => 4,
+        PortState::Left => 5,
+        PortState::Rolled => 6,
+        PortState::Shut => 7,
+    }
+}
+
+/// Calls the handle's node, and returns the answer's number; `Misuse` for an empty handle.
+macro_rules! told {
+    ($handle:ident, $node:ident => $call:expr) => {
+        match $handle.get_mut() {
+            None => number(Answer::Misuse),
+            Some($node) => number($call),
+        }
+    };
+}
+
+/// Opens a line, and puts its nodes into the first of the handles.
+///
+/// Its first holder finds the bytes of `opening`. `kind` is 0 for a ring, 1 for a link line, 2 for a ticket line. The line closes at the lease's
+/// last turn; a lease of 2^64 - 1 is none.
+#[unsafe(no_mangle)]
+pub extern "C" fn qolb_open_proved_(
+    alloc: Global,
+    kind: u32,
+    label: u64,
+    nodes: u64,
+    lease: u64,
+    opening: &Bytes,
+    out: &mut [Handle],
+) -> u32
+    ensures { (answer : Answer) × (result ≡ number_of answer)
+        × Opens kind label (config_by nodes lease opening.now.bytes) out.old out.new answer }
+{
+    let config = LineConfig {
+        nodes,
+        opening: Line64 {
+            bytes: opening.bytes,
+        },
+        lease: if lease == NO_LEASE { None } else { Some(lease) },
+    };
+    number(open(alloc, kind, label, config, out))
+}
+
+/// Returns the number of bytes of the table of such a line. Does not allocate.
+///
+/// 0 if `qolb_open_proved_` would refuse this kind or number of nodes.
+#[unsafe(no_mangle)]
+pub extern "C" fn qolb_memory_proved_(kind: u32, nodes: u64) -> u64
+    ensures { TellsMemory kind nodes result }
+{
+    memory(kind, nodes)
+}
+
+/// Requests the line, and answers at once. Does not block.
+#[unsafe(no_mangle)]
+pub extern "C" fn qolb_enqolb_proved_(node: &mut Handle) -> u32
+    ensures { Calls Enqolbs node.old.held node.new.held result }
+{
+    told!(node, called => called.enqolb())
+}
+
+/// Polls whether the request is at its turn. Does not block.
+#[unsafe(no_mangle)]
+pub extern "C" fn qolb_poll_proved_(node: &mut Handle) -> u32
+    ensures { Calls Polls node.old.held node.new.held result }
+{
+    told!(node, called => called.poll())
+}
+
+/// Polls at most `polls` times whether the request is at its turn, with a pause between two.
+#[unsafe(no_mangle)]
+pub extern "C" fn qolb_wait_proved_(node: &mut Handle, polls: u64) -> u32
+    ensures { Calls (Waits polls) node.old.held node.new.held result }
+{
+    told!(node, called => called.wait(polls))
+}
+
+/// Makes a request and leaves it to be linked to its predecessor's; only of a link line.
+#[unsafe(no_mangle)]
+pub extern "C" fn qolb_prepend_proved_(node: &mut Handle) -> u32
+    ensures { Calls Prepends node.old.held node.new.held result }
+{
+    told!(node, called => called.prepend())
+}
+
+/// Links the request to its predecessor's; only of a link line.
+#[unsafe(no_mangle)]
+pub extern "C" fn qolb_link_proved_(node: &mut Handle) -> u32
+    ensures { Calls LinksUp node.old.held node.new.held result }
+{
+    told!(node, called => called.link())
+}
+
+/// Withdraws the request, unless it is at its turn.
+#[unsafe(no_mangle)]
+pub extern "C" fn qolb_withdraw_proved_(node: &mut Handle) -> u32
+    ensures { Calls Withdraws node.old.held node.new.held result }
+{
+    told!(node, called => called.withdraw())
+}
+
+/// Polls whether the node may ask and would not be busy. Makes no request.
+#[unsafe(no_mangle)]
+pub extern "C" fn qolb_clear_proved_(node: &mut Handle) -> u32
+    ensures { Calls LooksIfClear node.old.held node.new.held result }
+{
+    told!(node, called => called.is_clear())
+}
+
+/// Copies the holder's line to `out`.
+#[unsafe(no_mangle)]
+pub extern "C" fn qolb_read_proved_(node: &mut Handle, out: &mut Bytes) -> u32
+    ensures calls { Calls (Reads out.old.bytes out.new.bytes) node.old.held node.new.held result }
+    ensures empty { node.old.held ≡ None → out.new.bytes ≡ out.old.bytes }
+{
+    told!(node, called => called.read(&mut out.bytes))
+}
+
+/// Writes the bytes of the mask for the holder: byte k if bit k is set.
+#[unsafe(no_mangle)]
+pub extern "C" fn qolb_write_proved_(node: &mut Handle, mask: u64, bytes: &Bytes) -> u32
+    ensures { Calls (Writes mask bytes.now.bytes) node.old.held node.new.held result }
+{
+    let line = Line64 { bytes: bytes.bytes };
+    told!(node, called => called.write(Mask(mask), &line))
+}
+
+/// Reads one of the eight lanes, for the holder.
+#[unsafe(no_mangle)]
+pub extern "C" fn qolb_read_lane_proved_(node: &mut Handle, lane: u64, out: &mut u64) -> u32
+    ensures calls { Calls (ReadsLane lane out.old out.new) node.old.held node.new.held result }
+    ensures empty { node.old.held ≡ None → out.new ≡ out.old }
+{
+    told!(node, called => called.read_lane(lane, out))
+}
+
+/// Writes one of the eight lanes, for the holder.
+#[unsafe(no_mangle)]
+pub extern "C" fn qolb_write_lane_proved_(node: &mut Handle, lane: u64, value: u64) -> u32
+    ensures { Calls (WritesLane lane value) node.old.held node.new.held result }
+{
+    told!(node, called => called.write_lane(lane, value))
+}
+
+/// Adds `by` modulo 2^64 to one of the eight lanes, for the holder. `was` gets what the lane had before.
+#[unsafe(no_mangle)]
+pub extern "C" fn qolb_add_lane_proved_(node: &mut Handle, lane: u64, by: u64, was: &mut u64) -> u32
+    ensures calls { Calls (AddsLane lane by was.old was.new) node.old.held node.new.held result }
+    ensures empty { node.old.held ≡ None → was.new ≡ was.old }
+{
+    told!(node, called => called.add_lane(lane, by, was))
+}
+
+/// Releases the line.
+#[unsafe(no_mangle)]
+pub extern "C" fn qolb_deqolb_proved_(node: &mut Handle) -> u32
+    ensures { Calls (Releases false) node.old.held node.new.held result }
+{
+    told!(node, called => called.release(false))
+}
+
+/// Releases the line, and closes it.
+#[unsafe(no_mangle)]
+pub extern "C" fn qolb_shut_proved_(node: &mut Handle) -> u32
+    ensures { Calls (Releases true) node.old.held node.new.held result }
+{
+    told!(node, called => called.release(true))
+}
+
+/// Tells what the node is, and after a release whom C wakes.
+///
+/// Of an empty handle: zeros, and `NO_WORD` for each word.
+#[unsafe(no_mangle)]
+pub extern "C" fn qolb_look_proved_(node: &mut Handle, out: &mut Look)
+    ensures held { node.new.held ≡ node.old.held }
+    ensures number { out.new.number ≡ node_number node.old.held }
+    ensures label { out.new.label ≡ label_told node.old.held }
+    ensures state { out.new.state ≡ state_told node.old.held }
+    ensures turns { TurnsLeft node.old.held out.new.turns_left }
+    ensures word { WaitsAt node.old.held out.new.wait_word }
+    ensures went_to { WentTo node.old.held out.new.went_to }
+    ensures empty { node.old.held ≡ None → out.new.went_ahead ≡ nowhere }
+{
+    *out = match node.get_mut() {
+        None => Look {
+            number: 0,
+            label: 0,
+            turns_left: 0,
+            wait_word: NO_WORD,
+            went_to: NO_WORD,
+            went_ahead: NO_WORD,
+            state: 0,
+        },
+        Some(called) => {
+            let shown = called.shown();
+            Look {
+                number: shown.number,
+                label: shown.label,
+                turns_left: shown.turns_left,
+                wait_word: shown.wait_word,
+                went_to: shown.went_to,
+                went_ahead: shown.went_ahead,
+                state: state_number(shown.state),
+            }
+        }
+    };
+}
+
+/// Frees a node that neither waits nor holds. The last node of a line frees the line.
+#[unsafe(no_mangle)]
+pub extern "C" fn qolb_close_proved_(alloc: Global, node: &mut Handle) -> u32
+    ensures { Closes node.old.held node.new.held result }
+{
+    number(node.close(alloc))
+}
