@@ -45,12 +45,14 @@ static inline uint32_t let_go(struct node *my, uint32_t got) {
 /* The answer of any other call. A node that is told that the line is closed has forwarded it. */
 static inline uint32_t told(struct node *my, uint32_t got) { return got == QOLB_CLOSED ? let_go(my, got) : got; }
 
-/* The answer of a call that asks. In a notification's call, a node that is busy may be so until another such call has
- * released. */
-static inline uint32_t asked(struct node *my, uint32_t got) {
-    if (__builtin_expect(got == QOLB_BUSY, 0)) qolb_make_put_off_();
+/* The answer of a call that asks, unless it was granted the line. In a notification's call, a node that is busy may be
+ * so until another such call has released. Not inlined, so that a call that is granted the line saves nothing for it. */
+__attribute__((noinline)) static uint32_t not_granted(struct node *my, uint32_t got) {
+    if (got == QOLB_BUSY) qolb_make_put_off_();
     return told(my, got);
 }
+
+static inline uint32_t asked(struct node *my, uint32_t got) { return got == QOLB_GRANTED ? got : not_granted(my, got); }
 
 enum qolb_result qolb_enqolb(qolb_node *node) {
     struct node *my = node_of(node);
