@@ -4,7 +4,12 @@
 tools/man.py [PROGRAM]      writes all; without a program, and none at crates/qolb/out/qolb, those of the header
 tools/man.py --check [PROGRAM]      compares them with the header and the program: writes nothing, and ends with 1 if one differs
 
-A part of the header's comment between two lines of `====` is a page. None may have a line of more than 80 columns, a list that breaks a sentence, or a warning.
+A part of the header's comment between two lines of `====` is a page, and a title in capitals begins a section. The pages have the form of the GNU C library's: NAME,
+SYNOPSIS, DESCRIPTION, RETURN VALUE and ERRORS with what each call returns, EXAMPLE, and NOTES. A page may have no line of more than 80 columns, no list that breaks a
+sentence, and no warning of man.
+
+The comment of a call has paragraphs, the first of which is one sentence about what the call does. Then it lists what the call returns: below a line `Returns:` each
+result with its meaning, or in a paragraph that begins with `Returns` what another value means. The results must be those of the header's table.
 
 The header's table of memory is the one that c/build/tests/memory counts, once it is built (make -C c/tests manual): it is written and compared, too.
 """
@@ -24,9 +29,12 @@ PAGES = ROOT / "docs/man"
 # The pages of the header, and what belongs to each but qolb_node: calls, types and constants.
 PARTS = ["qolb", "qolb_lock", "qolb_node", "qolb_task"]
 OF_PAGE = {"qolb": "qolb_version|qolb_result|qolb_ok", "qolb_lock": "qolb_lock|qolb_cond", "qolb_task": "qolb_task|qolb_notify"}
-# The sections that a page has before its calls.
-FIRST = ["DESCRIPTION", "PROOFS", "RETURN VALUE", "INITIALISERS", "EXAMPLE", "ORDER AND BARGING", "WORDS", "KINDS"]
-OF_RESULTS = "DONE stands for QOLB_DONE, a result that qolb(3) explains."
+# Sections of the header that are parts of DESCRIPTION, before and behind the calls; those that stand alone; all others are parts of NOTES.
+BEFORE_CALLS, BEHIND_CALLS = ["INITIALISERS", "WORDS", "KINDS"], ["ORDER AND BARGING", "TIMEOUTS", "BUSY", "NOTIFICATIONS", "TASKS"]
+ALONE = ["RETURN VALUE", "ERRORS", "EXAMPLE", "WHAT YOU MUST KEEP"]
+# The results that a page has in ERRORS, and what is above them there.
+ERRORS = {f"QOLB_{it}" for it in "MISUSE OCCUPIED NO_MEMORY BAD_KIND BAD_NODES BAD_LEASE TOO_FEW".split()}
+OF_RESULTS, OF_ERRORS = "qolb(3) has a table of the results of all calls.", "A call that returns one of these results has changed nothing."
 # The blanks before a sample; the columns of a declaration, which is indented by seven.
 SAMPLE, WIDTH = "    ", 72
 MEMORY = ROOT / "c/build/tests/memory"
@@ -88,9 +96,9 @@ def running(title, lines):
     return ".PP\n" + filled(" ".join(lines))
 
 
-def section(title, runs):
-    """A section of a page."""
-    return f".SH {title}\n" + "\n".join(running(title, run) for run in runs).removeprefix(".PP\n")
+def section(title, runs, request=".SH"):
+    """A section of a page, or by `.SS` a part of one."""
+    return f"{request} {title}\n" + "\n".join(running(title, run) for run in runs).removeprefix(".PP\n")
 
 
 def parts(lines):
@@ -163,14 +171,48 @@ def declared(made):
 
 
 def explained(made, said):
-    """Declarations, and what the header says of them."""
+    """Types and constants, and what the header says of them."""
     return ".PP\n.nf\n" + "\n".join(map(declared, made)) + "\n.fi\n.RS 4\n" + filled(" ".join(said)) + "\n.RE"
+
+
+def told_of(said):
+    """A call's comment: its paragraphs, what it returns of another type than a result, and each result with its meaning."""
+    runs = list(blocks(said))
+    results = {}
+    if runs[-1][0] == "Returns:":
+        results = dict(item[2:].split(": ", 1) for item in items(runs.pop()[1:], "- "))
+    value = " ".join(runs.pop()) if runs[-1][0].startswith("Returns ") else ""
+    return runs, value, results
+
+
+def part_of_call(of, lines):
+    """A part of a section, headed by the names of the calls that it is about."""
+    return "\n".join([".SS " + escaped(", ".join(f"{call}()" for call, _ in of)), *lines])
+
+
+def described(of, said):
+    """What the calls of one comment do."""
+    return section(", ".join(f"{call}()" for call, _ in of), told_of(said)[0], ".SS")
+
+
+def returned(of, said, is_error):
+    """What the calls of one comment return: the errors, or all else; nothing if there is none."""
+    _, value, results = told_of(said)
+    lines = [f".TP 16\n.B {name}\n{filled(meaning)}" for name, meaning in results.items() if (name in ERRORS) == is_error]
+    if value and not is_error:
+        lines.append(filled(value))
+    return part_of_call(of, lines) if lines else ""
 
 
 def values(text, name):
     """The names of an enum, each with its number and its comment."""
     body = re.search(rf"enum {name} {{(.*?)}};", text, re.S)[1]
-    return re.findall(r"(QOLB_\w+) = (\d+),?(?: +/\* (.*?) \*/)?", body)
+    return [(value, number, " ".join(said.split())) for value, number, said in re.findall(r"(?s)(QOLB_\w+) = (\d+),?(?: +/\* (.*?) \*/)?", body)]
+
+
+def commented(text, name):
+    """The comment above an enum."""
+    return re.search(rf"/\* ([^*]*?) \*/\nenum {name} {{", text)[1]
 
 
 def tagged(tag, text):
@@ -201,7 +243,7 @@ def check_memory(is_check):
 
 
 def check_results(rest, table):
-    """Ends unless the table of results has each call that returns one, once, and all results that the call's comment names."""
+    """Ends unless the table of results has each call that returns one, once, with those results that the call's comment lists."""
     rows = {}
     for line in "\n".join(table).replace("\n" + " " * 34, " ").split("\n")[1:]:
         named, may = re.match(r" {4}(\S.*?)  +(.*)", line).groups()
@@ -211,15 +253,37 @@ def check_results(rest, table):
     for call in sorted(set(rows) ^ set(returning)):
         sys.exit(f"man.py: {call} is {'in the table of results, and returns none' if call in rows else 'not in the table of results'}")
     for call, said in returning.items():
-        group = set().union(*(rows[other] for other in returning if returning[other] is said))
-        unlisted = set(re.findall(r"\b[A-Z_]{4,}\b", re.sub(r"states? [A-Z]+(?:, [A-Z]+)*", "", " ".join(said)))) & known - group
-        if unlisted or not rows[call] <= known:
-            sys.exit(f"man.py: {call}: its comment names {', '.join(sorted(unlisted))}, and the table of results has {', '.join(sorted(rows[call]))}")
+        listed = {name.removeprefix("QOLB_") for name in told_of(said)[2]}
+        if listed != rows[call] or not listed <= known:
+            sys.exit(f"man.py: {call}: its comment lists {', '.join(sorted(listed))}, and the table of results has {', '.join(sorted(rows[call]))}")
 
 
 def released(version):
     """The date of a version, by the CHANGELOG."""
     return re.search(rf"(?m)^## {re.escape(version.rsplit('.', 1)[0])} \((.*)\)$", (ROOT / "CHANGELOG.md").read_text())[1]
+
+
+def description(name, rest, sections, of_page):
+    """The section DESCRIPTION: what the header says first, types and constants, each call, and what all of them have in common."""
+    out = [section("DESCRIPTION", sections.pop("DESCRIPTION"))]
+    out += [section(head, sections.pop(head), ".SS") for head in BEFORE_CALLS if head in sections]
+    told = [explained(made, said) for key, made, said in types(rest) if page_of(key) == name]
+    out.append(".SS TYPES AND CONSTANTS\n" + "\n".join(told).removeprefix(".PP\n"))
+    if name == "qolb_node":
+        out.append(".SS STATES\n" + "\n".join([filled(commented(rest, "qolb_node_state")), *(tagged(f"{value} ({number})", said) for value, number, said in values(rest, "qolb_node_state"))]))
+    out += [described(of, said) for of, said in of_page]
+    return out + [section(head, sections.pop(head), ".SS") for head in BEHIND_CALLS if head in sections]
+
+
+def answers(name, rest, sections, of_page):
+    """The sections RETURN VALUE and ERRORS: what the header says of all calls, and what each call of the page returns."""
+    out = []
+    for head, is_error, above in (("RETURN VALUE", False, OF_RESULTS), ("ERRORS", True, OF_ERRORS)):
+        out.append(section(head, sections.pop(head, [[above]])))
+        out += filter(None, [returned(of, said, is_error) for of, said in of_page])
+        if name == "qolb" and not is_error:
+            out.append(".SS NUMBERS\n" + "\n".join(tagged(f"{value} ({number})", said) for value, number, said in values(rest, "qolb_result")))
+    return out
 
 
 def page_of_header(name, rest, version, part):
@@ -228,17 +292,12 @@ def page_of_header(name, rest, version, part):
     of_page = [(told, said) for told, said in calls(rest) if page_of(told[0][0]) == name]
     prototypes = [made for told, _ in of_page for made in told]
     names = ", ".join([name, *(call for call, _ in prototypes)])
-    out = [f'.TH {name.upper()} 3 "{released(version)}" "qolb {version}"', ".nh", ".ad l", f".SH NAME\n{names} \\- {escaped(title)}"]
+    out = [f'.TH {name.upper()} 3 "{released(version)}" "qolb {version}"', ".nr HY 0", ".nh", ".ss 12 0", ".ad l", f".SH NAME\n{names} \\- {escaped(title)}"]
     out.append(".SH SYNOPSIS\n.nf\n.B #include <qolb.h>\n.PP\n" + "\n".join(declared(made) for _, made in prototypes) + "\n.fi")
-    out += [section(head, sections.pop(head)) for head in FIRST if head in sections]
-    told = [explained(made, said) for key, made, said in types(rest) if page_of(key) == name]
-    out.append(".SH TYPES\n" + "\n".join(told).removeprefix(".PP\n"))
-    told = [explained([made for _, made in of], said) for of, said in of_page]
-    out.append(".SH CALLS\n" + "\n".join([filled(OF_RESULTS), *told] if name != "qolb" else told).removeprefix(".PP\n"))
-    for head, enum, page in (("RESULTS", "qolb_result", "qolb"), ("STATES", "qolb_node_state", "qolb_node")):
-        if page == name:
-            out.append(f".SH {head}\n" + "\n".join(tagged(f"{value} ({number})", said) for value, number, said in values(rest, enum)))
-    out += [section(head, runs) for head, runs in sections.items()]
+    out += description(name, rest, sections, of_page) + answers(name, rest, sections, of_page)
+    out += [section(head, sections.pop(head)) for head in ALONE if head in sections]
+    if sections:
+        out += [".SH NOTES", *(section(head, runs, ".SS") for head, runs in sections.items())]
     others = [".BR qolb (1)"] if name == "qolb" else []
     others += [f".BR {page} (3)" for page in PARTS if page != name] + ([".BR pthread_mutex_lock (3)"] if name == "qolb_lock" else [])
     out.append(".SH SEE ALSO\n" + ",\n".join(others))

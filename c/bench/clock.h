@@ -1,4 +1,4 @@
-/* The clock of benchmarks, and where a thread stays. */
+/* For all benchmarks: the clock, and binding a thread to a processor. */
 #ifndef CLOCK_H
 #define CLOCK_H
 
@@ -7,7 +7,7 @@
 #include <stdlib.h>
 #include <time.h>
 
-/* In nanoseconds. */
+/* Returns the time in nanoseconds. */
 static inline uint64_t now(void) {
     struct timespec time;
     if (clock_gettime(CLOCK_MONOTONIC, &time)) abort();

@@ -1,14 +1,17 @@
-/* Times entering and leaving a lock that no other thread wants, by one thread: a strict qolb_lock, also while a thread
- * waits at its condition, and a barging one; a node of each kind of line (qolb_acquire and qolb_deqolb); a
- * pthread_mutex, and with -DMCS, which needs Debian's package libck-dev, Concurrency Kit's MCS lock. The program has a
- * second thread.
+/* Measures how long one thread takes to enter and leave a lock that no other thread wants. The locks are:
+ *
+ * - a strict qolb_lock, once alone and once while a thread waits at its condition, and a barging qolb_lock;
+ * - a node of each kind of line (qolb_acquire and qolb_deqolb);
+ * - a pthread_mutex;
+ * - with -DMCS, Concurrency Kit's MCS lock, which needs Debian's package libck-dev.
  *
  *   cc -std=c11 -O2 -pthread -Ic/include c/bench/enter.c c/build/libqolb.a -o enter && ./enter [BATCHES]
  *
- * Prints nanoseconds a round: the least and the median of BATCHES batches (101), in which the ways take turns, as
- * multiples of the mutex's, too. The least is the figure to take if the machine has other work. With a second argument,
- * ./enter 1 strict, it does 10,000 rounds of that way alone, to be counted by valgrind --tool=callgrind
- * --toggle-collect='rounds_of*'. */
+ * The program prints the nanoseconds of a round, also as a multiple of the mutex's: the least and the median of BATCHES
+ * batches (101). The locks take turns, batch by batch. Use the least if the machine has other work. With a second
+ * argument (./enter 1 strict) it makes 10,000 rounds with this lock alone, so that valgrind --tool=callgrind
+ * --toggle-collect='rounds_of*' can count them. The program has a second thread, because with one thread a mutex is
+ * cheaper. */
 #define _DEFAULT_SOURCE
 #include <pthread.h>
 #include <qolb.h>
@@ -26,7 +29,7 @@ static ck_spinlock_mcs_context_t context;
 enum { ROUNDS = 10000, MAX_BATCHES = 10001 };
 
 static _Alignas(QOLB_NODE_ALIGN) qolb_node nodes[QOLB_KINDS];
-/* A strict one, another with a thread at its condition, and a barging one. */
+/* A strict lock, a strict lock with a thread at its condition, and a barging lock. */
 enum { STRICT, WAITED, BARGING, LOCKS };
 static _Alignas(QOLB_NODE_ALIGN) qolb_lock locks[LOCKS];
 static qolb_cond cond = QOLB_COND_INIT;
@@ -88,7 +91,7 @@ static int by_size(const void *one, const void *other) {
     return (a > b) - (a < b);
 }
 
-/* One node of three of each kind. The strict locks are zeros. */
+/* Opens a line of three nodes of each kind, of which one is used, and the barging lock. The strict locks are zeros. */
 static void opens(void) {
     const qolb_bytes zeros = {{0}};
     for (uint32_t kind = 0; kind < QOLB_KINDS; kind++) {
@@ -99,7 +102,7 @@ static void opens(void) {
     locks[BARGING] = (qolb_lock)QOLB_LOCK_INIT_BARGING(1024);
 }
 
-/* In a process of one thread the C library's mutex takes no locked instruction. */
+/* A second thread that only sleeps. In a process with one thread the C library's mutex uses no locked instruction. */
 static void *sleeps(void *unused) {
     if (qolb_lock_enter(&locks[WAITED]) != QOLB_GRANTED || qolb_cond_wait(&cond, &locks[WAITED]) != QOLB_GRANTED)
         abort();

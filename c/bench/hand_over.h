@@ -1,4 +1,4 @@
-/* The time in which a cache line goes from one processor to another. */
+/* Measures how long a cache line takes from one processor to another, for peers.c and phases.h. */
 #ifndef HAND_OVER_H
 #define HAND_OVER_H
 
@@ -19,7 +19,7 @@ static void *throw_back(void *processor) {
     return NULL;
 }
 
-/* In nanoseconds, from one of these processors to the other. */
+/* Returns the time from one of these processors to the other, in nanoseconds. */
 static double hand_over(int a, int b) {
     pthread_t other;
     uint64_t since = 0;
@@ -36,7 +36,7 @@ static double hand_over(int a, int b) {
     return each;
 }
 
-/* Between each two of these processors. */
+/* Prints the times between each two of these processors. */
 static void print_hand_overs(const int *processors, int many) {
     cpu_set_t before;
     if (sched_getaffinity(0, sizeof before, &before)) abort();

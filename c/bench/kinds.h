@@ -1,4 +1,4 @@
-/* The kinds and their names, also over the header of an older library, which has neither. */
+/* The kinds of lines and their names, which the header of an older library does not have. */
 #include <qolb.h>
 #ifndef QOLB_KINDS
 #define QOLB_KINDS 3

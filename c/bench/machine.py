@@ -1,4 +1,4 @@
-"""What machine this is, what else it does, and runs while it does nothing else."""
+"""For the benchmarks: describes the machine, and repeats a run during which the machine did other work."""
 
 import contextlib
 import os
@@ -16,13 +16,13 @@ def names_of_processors():
 
 
 def machine():
-    """The processors' number and name."""
+    """Returns the number of processors and their name."""
     names = names_of_processors()
     return f"{len(names)} processors of an {names[0]}"
 
 
 def named(word):
-    """A word of a command line; in place of a path of this machine alone the commit of what is checked out there, or its name."""
+    """Returns a word of a command line. A path that only this machine has is replaced by the commit that is checked out there, or by its name."""
     path = pathlib.Path(word)
     if not path.is_absolute():
         return word
@@ -31,27 +31,27 @@ def named(word):
 
 
 def command():
-    """The command line, as a file of figures has it: without that it is to be written."""
+    """Returns the command line as a file of figures has it, without the words that say where the figures are written."""
     words = (word for word in sys.argv[1:] if word != "--keep" and not word.endswith(".tsv"))
     return " ".join([f"c/bench/{pathlib.Path(sys.argv[0]).name}", *map(named, words)])
 
 
-# A hand-over of a cache line between two hyperthreads of one core takes fewer nanoseconds than this, and between two cores more.
+# A hand-over of a cache line between two hyperthreads of one core takes less than this, and between two cores more, in nanoseconds.
 QUICK = 60
 
 
 def least_of(*times):
-    """The least time of a hand-over between each two processors, of several that were taken."""
+    """Returns the least time of a hand-over between each two processors, of several measurements."""
     return {pair: min(of[pair] for of in times if pair in of) for pair in {pair for of in times for pair in of}}
 
 
 def quick_pairs(times, used):
-    """The pairs among these processors whose hand-over is that of one core."""
+    """Returns the pairs among these processors whose hand-over takes as long as within one core."""
     return [pair for pair, time in times.items() if time < QUICK and set(pair) <= set(used)]
 
 
 def apart(times):
-    """The processors in an order in which each is no quick pair with those before it, as far as there are such."""
+    """Returns the processors in an order in which, as far as possible, none forms a quick pair with one before it."""
     left, order = sorted({it for pair in times for it in pair}), []
     while left:
         order.append(min(left, key=lambda it: (len(quick_pairs(times, [*order, it])), it)))
@@ -60,10 +60,10 @@ def apart(times):
 
 
 def used_by_others():
-    """Processor seconds of each other process and of its children that have ended, by its number."""
+    """Returns the processor seconds of each other process, and of its children that have ended, by its number."""
     found = {}
     for file in pathlib.Path("/proc").glob("[0-9]*/stat"):
-        with contextlib.suppress(OSError):  # of one that has just ended
+        with contextlib.suppress(OSError):  # the process has just ended
             ticks = file.read_text().rpartition(")")[2].split()[11:15]
             found[int(file.parent.name)] = sum(map(int, ticks)) / HERTZ
     found.pop(os.getpid())
@@ -71,19 +71,19 @@ def used_by_others():
 
 
 class Load:
-    """What else the machine does while this program runs others, one after another."""
+    """Measures what else the machine does while this program runs other programs, one after the other."""
 
     def __init__(self):
         self.since = self.read()
 
     @staticmethod
     def read():
-        """The processor seconds that other machines took from this one, those that its other processes took, and the time."""
+        """Returns the processor seconds that other machines took from this one, those that its other processes took, and the time."""
         ticks = pathlib.Path("/proc/stat").read_text().split("\n", 1)[0].split()
         return int(ticks[8]) / HERTZ, used_by_others(), time.monotonic()
 
     def parts(self):
-        """The seconds since the start, and the processor seconds that other programs and other machines took of them."""
+        """Returns the seconds since the start, and the processor seconds in them that other programs and other machines took."""
         (stolen_then, others_then, then), (stolen, others, now) = self.since, self.read()
         used = sum(seconds - others_then.get(number, 0) for number, seconds in others.items())
         return now - then, used, stolen - stolen_then

@@ -1,18 +1,20 @@
-/* Nodes of a line that threads acquire by qolb_acquire, or by polls and pauses of their own, beside MCS locks and a
- * mutex: all in one program, in short phases that take turns. c/bench/nodes builds and runs it.
+/* Measures nodes of a line beside MCS locks and a mutex. Threads acquire a node by qolb_acquire, or by polls and pauses
+ * of their own. All of these ways are in one program, in short phases that take turns (phases.h). c/bench/nodes builds
+ * and runs it.
  *
  *   ./nodes THREADS MICROSECONDS PHASE_MS SECONDS at=0,2,1,3 KIND [loops] [polls] [acquire]
  *   ./nodes machine at=0,1,2,3
  *
- * Thread k stays at the processor with that place in the list. KIND is ring, link or ticket. MICROSECONDS is the length
- * of a turn, in which the holder adds 1 to a lane of the line, or to a number beside the lock. With `loops` each of the
- * processors also has a thread that does nothing else than loop, and qolb_acquire is timed beside MCS alone. With
- * `polls` loops of polls by hand are timed too, with `acquire` nothing but qolb_acquire.
+ * Thread k stays at the k-th processor of the list. KIND is ring, link or ticket. MICROSECONDS is the length of a
+ * critical section, in which the holder adds 1 to a lane of the line, or to a number beside the lock. With `loops`,
+ * each processor also has a thread that loops all the time, and only qolb_acquire and MCS are measured. With `polls`,
+ * loops of polls by hand are measured as well. With `acquire`, only qolb_acquire is measured.
  *
- * It prints the time of a hand-over between each two of the processors, before and after. Then, tab-separated, for each
- * way: its name, the phases, nanoseconds a turn over all threads (the median of the phases, the quartiles, and of all
- * turns together), and of the waits whose time was taken the 99.9th of 100 and the longest of a phase, the median of
- * the phases, in microseconds. `machine` prints hand-overs and the time of a pause. */
+ * The program prints the time of a hand-over between each two of the processors, before and after. Then it prints a
+ * line of tab-separated values for each way: its name; the number of phases; the nanoseconds of a critical section over
+ * all threads, as the median and the quartiles of the phases and as the mean of all; and, of the waits that were timed,
+ * the 99.9th percentile and the longest of a phase, in microseconds, each as the median of the phases. `machine` prints
+ * the hand-overs and the time of a pause. */
 #define _GNU_SOURCE
 #include "kinds.h"
 
@@ -24,7 +26,8 @@ static const char *const names[WAYS] = {
 
 static int has_loops, has_polls, acquires_alone;
 
-/* MCS and loops of polls never sleep: with more threads than processors only ways that sleep or yield are timed. */
+/* Returns whether a way is measured. MCS and loops of polls never sleep, so with more threads than processors only ways
+ * that sleep or yield are measured. */
 static int is_timed(int by) {
     if (acquires_alone) return by == ACQUIRE;
     if (has_loops) return by == ACQUIRE || by == MCS;
@@ -38,7 +41,7 @@ static struct {
     _Alignas(APART) uint64_t number;
 } locks[PLACES];
 
-/* A thread's, at each place. */
+/* What a thread has at each place. */
 struct of_thread {
     struct {
         _Alignas(PAGE) qolb_node node;

@@ -1,12 +1,14 @@
-/* Measures locks beside each other. README.md says what is measured; c/bench/peers builds this program and runs it.
+/* Measures locks beside each other, in one program. README.md says what is measured. c/bench/peers builds this program
+ * and runs it.
  *
- *   peers hand-overs PROCESSORS    prints how long a cache line takes between each two of them, as 0,1,2,3
+ *   peers hand-overs PROCESSORS    prints how long a cache line takes between each two of a list such as 0,1,2,3
  *   peers PROCESSORS THREADS WORKLOADS ROUNDS MILLISECONDS SEED [LOCK ..]
  *
- * The last form measures the named locks, or all. Thread k stays at the processor with that place in the list, if there
- * are processors for all. THREADS are numbers of threads, WORKLOADS letters of those below. ROUNDS and MILLISECONDS
- * are two numbers each, as 20,6: with at most as many threads as processors, and with more. It prints lines that begin
- * with # and rows of tab-separated values. */
+ * The second form measures the named locks, or all locks. Thread k stays at the k-th processor of the list if there are
+ * processors for all threads. THREADS is a list of numbers of threads, and WORKLOADS consists of letters of the
+ * workloads below. ROUNDS and MILLISECONDS are two numbers each, for example 20,6: the first is used with at most as
+ * many threads as processors, and the second with more. The program prints lines that begin with #, and rows of
+ * tab-separated values. */
 #define _GNU_SOURCE
 #include "hand_over.h"
 #include "locks/lock.h"
@@ -24,7 +26,7 @@ static void fail(const char *why) {
 
 /* ---- The locks ---- */
 
-/* A file that was not compiled leaves its table out, whose address is null then. */
+/* The table of a file that was not compiled is missing, and its address is null. */
 #pragma weak qolb_locks
 #pragma weak before_locks
 #pragma weak pthread_locks
@@ -68,7 +70,7 @@ static void find_locks(char **names, int many) {
     add_locks(ck_yielding_locks, BEYOND_PROCESSORS, names, many);
 }
 
-/* No lock at all, to measure what the loop takes. */
+/* This lock does nothing, to measure what the loop takes. */
 static void open_none(void *lock, void *const *own, int threads) { (void)lock, (void)own, (void)threads; }
 static void no_step(void *lock, void *own) { (void)lock, (void)own; }
 static const struct lock_type none = {"none", open_none, no_step, no_step, NULL, NULL};
@@ -78,7 +80,8 @@ static const struct lock_type none = {"none", open_none, no_step, no_step, NULL,
 static int by_tsc;
 static double ticks_a_ns = 1, steps_a_ns;
 
-/* The cheapest clock: the processor's counter, if it runs at one rate in all states; else the system's clock. */
+/* Reads the cheapest clock: the processor's counter, if it always runs at the same rate, and the system's clock
+ * otherwise. */
 static inline uint64_t ticks(void) { return by_tsc ? __builtin_ia32_rdtsc() : now(); }
 
 static double measured_ticks_a_ns(void) {
@@ -87,8 +90,8 @@ static double measured_ticks_a_ns(void) {
     return (double)(ticks() - from) / (double)(now() - since);
 }
 
-/* Work of a thread: a chain of multiplications, which takes the same time whatever the other threads do. A thread that
- * loses its processor has as much left to do afterwards. */
+/* Works for a time: makes a chain of multiplications, which takes the same time whatever the other threads do. A thread
+ * that loses its processor meanwhile still has the rest to do afterwards. */
 static __attribute__((noinline)) void work(uint64_t steps) {
     for (uint64_t x = steps; steps; steps--) {
         x = x * 6364136223846793005 + 1442695040888963407;
@@ -96,7 +99,7 @@ static __attribute__((noinline)) void work(uint64_t steps) {
     }
 }
 
-/* The quickest of some trials. */
+/* Returns how many steps of work take a nanosecond, by the quickest of some trials. */
 static double measured_steps_a_ns(void) {
     enum { STEPS = 100000, TRIALS = 50 };
     uint64_t least = UINT64_MAX;
@@ -111,14 +114,14 @@ static double measured_steps_a_ns(void) {
 
 static void calibrate(void) {
     unsigned a, b, c, d;
-    by_tsc = __get_cpuid(0x80000007, &a, &b, &c, &d) && d >> 8 & 1; /* an invariant counter */
+    by_tsc = __get_cpuid(0x80000007, &a, &b, &c, &d) && d >> 8 & 1; /* the counter is invariant */
     ticks_a_ns = measured_ticks_a_ns();
     steps_a_ns = measured_steps_a_ns();
 }
 
 /* ---- Waits ---- */
 
-/* Sixty-four bins for each power of two: the middle of a bin is off by less than 1 %. */
+/* There are 64 bins for each power of two, so the middle of a bin is off by less than 1 %. */
 enum { BINS = 2304 };
 
 static unsigned bin_of(uint64_t wait) {
@@ -135,14 +138,16 @@ static double middle_of(unsigned bin) {
 
 /* ---- Phases: some threads use locks of one type ---- */
 
-/* The workloads. EMPTY: nothing, but that each 64th critical section counts, so that the total can be checked. DATA:
- * reads and writes the 64 bytes of a line. The others count, and have a length. */
+/* The workloads. In EMPTY the holder does nothing, except that every 64th critical section is counted, so that the
+ * total can be checked. In DATA it reads and writes the 64 bytes of a line. In the others it counts and works for a
+ * time. */
 enum workload { EMPTY = 'E', DATA = 'D', THINK = 'T', LONG = 'L', MIXED = 'M' };
 enum { WORKLOADS = 5, SOME = 64, MIXED_LOCKS = 8 };
-/* Nanoseconds inside and outside of a lock; of MIXED, at random, the least of both and the most. */
+/* The nanoseconds of work inside and outside of a lock. In MIXED both are random, between the least and the most. */
 enum { THINK_IN = 1000, THINK_OUT = 3000, LONG_IN = 10000, MIXED_LEAST = 200, MIXED_MOST = 5000 };
 
-/* A lock and what it guards. Phases take one place after another, each type of lock the same ones. */
+/* A lock and the data that it protects. Phases use one place after the other, and each type of lock uses the same
+ * places. */
 static struct place {
     _Alignas(APART) unsigned char lock[LOCK_BYTES];
     _Alignas(APART) uint64_t count;
@@ -171,7 +176,8 @@ static struct worker {
     uint32_t waits[BINS];
 } workers[MOST_THREADS];
 
-/* xorshift64. Numbers that are close to each other begin sequences that are not. */
+/* The generator of random numbers is xorshift64. The multiplication makes the sequences of neighbouring numbers differ.
+ */
 static uint64_t begin_random(uint64_t number) { return (number + 1) * 0x9e3779b97f4a7c15; }
 
 static inline uint64_t next_random(uint64_t *random) {
@@ -185,7 +191,7 @@ static uint64_t mixed_steps(uint64_t random) {
     return steps_of((double)(MIXED_LEAST + random % (MIXED_MOST - MIXED_LEAST + 1)));
 }
 
-/* The holder's part. Returns what it added to the count. */
+/* Does the holder's work. Returns what it added to the count. */
 static inline uint64_t hold(const struct phase *p, struct place *at, void *mine, uint64_t number, uint64_t inside) {
     switch (p->workload) {
     case EMPTY:
@@ -254,7 +260,7 @@ static void begin_thread(int k) {
     pthread_attr_destroy(&attributes);
 }
 
-/* All critical sections of the phase, by what they added. Each lock is entered once more to read it. */
+/* Adds up what all critical sections of the phase added. Each lock is entered once more to read its count. */
 static uint64_t counted(void) {
     uint64_t sum = 0;
     for (int k = 0; k < phase.locks; k++) {
@@ -282,12 +288,12 @@ static double cpu_time(void) {
     return (double)time.tv_sec * 1e9 + (double)time.tv_nsec;
 }
 
-/* In nanoseconds of the time that counted: its length, and the time of processors. */
+/* The length of the part of a phase that counts, and the processor time in it, in nanoseconds. */
 struct took {
     double wall, cpu;
 };
 
-/* A tenth of the phase's length goes by before it counts. All begins anew: locks, memory, threads. */
+/* Runs a phase with new locks, memory and threads. A tenth of its length passes before it counts. */
 static struct took run_phase(int ms) {
     memset(phase.place, 0, (size_t)phase.locks * sizeof *phase.place);
     memset(own, 0, sizeof own);
@@ -321,7 +327,7 @@ static struct took run_phase(int ms) {
 
 static struct cell {
     double ns[MOST_ROUNDS], cpu[MOST_ROUNDS], fair[MOST_ROUNDS];
-    int many; /* phases in which critical sections were counted */
+    int many; /* the number of phases in which critical sections were counted */
     uint64_t waits[BINS], all_waits, longest;
 } cells[MOST_LOCKS][WORKLOADS];
 
@@ -353,7 +359,7 @@ static int by_size(const void *a, const void *b) {
     return (x > y) - (x < y);
 }
 
-/* The value with this part of the others below it. */
+/* Returns the value below which this part of all values lies. */
 static double part(double *values, int many, double of) {
     qsort(values, (size_t)many, sizeof *values, by_size);
     double place = of * (many - 1);
@@ -361,7 +367,8 @@ static double part(double *values, int many, double of) {
     return values[low] + (low + 1 < many ? (values[low + 1] - values[low]) * (place - low) : 0);
 }
 
-/* Prints a wait that all but one of `one_in` do not exceed, in nanoseconds; nothing if there were too few to tell. */
+/* Prints the time, in nanoseconds, that only one of `one_in` waits exceeds. Prints nothing if there were too few waits.
+ */
 static void print_wait(const struct cell *cell, uint64_t one_in) {
     uint64_t below = 0;
     unsigned bin = 0;
@@ -381,7 +388,11 @@ static void print_cell(enum workload workload, int threads, const char *name, st
 
 /* ---- The load of others ---- */
 
-/* In seconds: what other machines took of this one's processors, and what all of its processes used of them. */
+/* For one number of threads: the number of phases, of those that other machines disturbed, and of those that are
+ * counted although they were disturbed. */
+static int all_phases, disturbed_phases, kept_disturbed;
+
+/* The processor time that other virtual machines took from this one, and that all of its processes used, in seconds. */
 struct load {
     double stolen, used, own, wall;
 };
@@ -408,6 +419,8 @@ static void print_load(int threads, struct load from) {
     double others = to.used - from.used - (to.own - from.own);
     printf("# meanwhile, %d threads: other programs %.1f %%, other machines %.1f %% of the processors\n", threads,
            (others > 0 ? others : 0) / whole, (to.stolen - from.stolen) / whole);
+    printf("# disturbed by other machines, %d threads: %d of %d phases were run again, %d are counted\n", threads,
+           disturbed_phases - kept_disturbed, all_phases, kept_disturbed);
 }
 
 /* ---- All phases ---- */
@@ -421,16 +434,25 @@ static int is_run(int lock, int threads) {
     return when[lock] == ALWAYS || (when[lock] == BEYOND_PROCESSORS) == is_beyond(threads);
 }
 
-/* Milliseconds of all phases with this number of threads, with a millisecond for the beginning of each. */
+/* Returns the milliseconds of all phases with this number of threads, with one more for the beginning of each. */
 static double all_ms(int threads) {
     int beyond = is_beyond(threads), many = 0;
     for (int k = 0; k < many_locks; k++) many += is_run(k, threads);
     return many * (double)strlen(workloads) * rounds[beyond] * (1.1 * ms[beyond] + 1);
 }
 
-/* In EMPTY and DATA the time of a wait is taken in each second phase, in which nothing is counted, as it lengthens
- * them; else in each, in which it hardly does. */
-static void run_one(int lock, int at, int threads, int round) {
+/* A phase is disturbed if other machines took more than a twentieth of the processors meanwhile. A disturbed phase is
+ * run again after the others of its round, up to five times. */
+enum { RUNS = 6, DISTURBED = 20 };
+
+static int is_disturbed(struct took took, double stolen) {
+    return stolen * 1e9 * DISTURBED > took.wall * (double)sysconf(_SC_NPROCESSORS_ONLN);
+}
+
+/* Measures one lock. In EMPTY and DATA every second phase takes the times of waits and is not counted otherwise,
+ * because taking these times makes it longer. In the other workloads every phase takes them, because there this matters
+ * little. Returns 0, and counts nothing, if the phase must be run again. */
+static int run_one(int lock, int at, int threads, int round, int is_last) {
     struct cell *cell = &cells[lock][at];
     enum workload workload = (enum workload)workloads[at];
     int is_short = workload == EMPTY || workload == DATA;
@@ -442,9 +464,35 @@ static void run_one(int lock, int at, int threads, int round) {
                            .locks = workload == MIXED ? MIXED_LOCKS : 1,
                            .place = &places[round * MIXED_LOCKS % PLACES],
                            .seed = seed + (uint64_t)round};
+    double stolen = read_load().stolen;
     struct took took = run_phase(ms[is_beyond(threads)]);
+    int disturbed = is_disturbed(took, read_load().stolen - stolen);
+    all_phases++, disturbed_phases += disturbed;
+    if (disturbed && !is_last) return 0;
+    kept_disturbed += disturbed;
     if (!is_short || !phase.is_timed) add_counts(cell, took);
     if (phase.is_timed) add_waits(cell);
+    return 1;
+}
+
+/* Runs the phases of one round, in a shuffled order. */
+static void run_round(int *order, int many, int threads, int round, uint64_t *random) {
+    int kinds = (int)strlen(workloads);
+    for (int run = 1; run <= RUNS && many > 0; run++) {
+        int again = 0;
+        for (int k = many - 1; k > 0; k--) {
+            int other = (int)(next_random(random) % (uint64_t)(k + 1)), was = order[k];
+            order[k] = order[other];
+            order[other] = was;
+        }
+        for (int k = 0; k < many && now() < deadline; k++)
+            if (!run_one(order[k] / kinds, order[k] % kinds, threads, round, run == RUNS)) {
+                int was = order[again];
+                order[again++] = order[k];
+                order[k] = was;
+            }
+        many = again;
+    }
 }
 
 static void run_threads(int threads) {
@@ -454,14 +502,8 @@ static void run_threads(int threads) {
     memset(cells, 0, sizeof cells);
     for (int lock = 0; lock < many_locks; lock++)
         for (int at = 0; at < kinds && is_run(lock, threads); at++) order[many++] = lock * kinds + at;
-    for (int round = 0; round < rounds[is_beyond(threads)]; round++) {
-        for (int k = many - 1; k > 0; k--) {
-            int other = (int)(next_random(&random) % (uint64_t)(k + 1)), was = order[k];
-            order[k] = order[other];
-            order[other] = was;
-        }
-        for (int k = 0; k < many && now() < deadline; k++) run_one(order[k] / kinds, order[k] % kinds, threads, round);
-    }
+    all_phases = disturbed_phases = kept_disturbed = 0;
+    for (int round = 0; round < rounds[is_beyond(threads)]; round++) run_round(order, many, threads, round, &random);
     print_load(threads, load);
     for (int at = 0; at < kinds; at++)
         for (int lock = 0; lock < many_locks; lock++)
@@ -470,8 +512,8 @@ static void run_threads(int threads) {
     fflush(stdout);
 }
 
-/* What an empty critical section takes without a lock, and with the time of its wait taken: the quickest of some
- * phases. */
+/* Prints how long an empty critical section takes without a lock, and how long if the time of its wait is taken, by the
+ * quickest of some phases. */
 static void print_costs(void) {
     double least[2] = {1e9, 1e9};
     for (int k = 0; k < 40; k++) {
@@ -486,7 +528,7 @@ static void print_costs(void) {
 
 /* ---- The program ---- */
 
-/* Takes numbers with commas between them; returns how many. */
+/* Reads numbers with commas between them, and returns how many there are. */
 static int take_numbers(const char *word, int *numbers, int most) {
     int many = 0;
     for (char *rest = (char *)(uintptr_t)word; *rest && many < most; rest += *rest == ',') {
@@ -504,7 +546,7 @@ static int measure(const int *threads, int many) {
         all += all_ms(threads[k]);
     }
     fprintf(stderr, "peers: %d locks, about %.1f minutes\n", many_locks, all / 60000);
-    deadline = now() + (uint64_t)(all * 1.5e6) + 30000000000;
+    deadline = now() + (uint64_t)(all * 3e6) + 30000000000;
     calibrate();
     double was = steps_a_ns, ticks_were = ticks_a_ns;
     printf("# clock %s\n", by_tsc ? "the processor's counter, which is invariant" : "clock_gettime");
@@ -512,7 +554,7 @@ static int measure(const int *threads, int many) {
     for (int k = 0; k < many; k++) run_threads(threads[k]);
     printf("# calibration at the end: a tick takes %.4f times as long, work of one length %.3f times\n",
            ticks_were / measured_ticks_a_ns(), was / measured_steps_a_ns());
-    if (now() > deadline) fail("cut short: phases took half as long again as they should");
+    if (now() > deadline) fail("cut short: phases took three times as long as they should");
     return 0;
 }
 

@@ -1,8 +1,8 @@
-/* Times ways of taking turns, all in one program, in short phases that take turns, and hand-overs between processors.
- * For nodes.c, which phases.py runs: it has an enum way that ends with WAYS, their names, and
- * the functions that are declared here.
+/* Measures several ways of acquiring a line or lock in one program, in short phases that take turns, and the hand-overs
+ * between processors. nodes.c includes this file, and phases.py runs the program. nodes.c defines an enum way that ends
+ * with WAYS, the names of the ways, and the functions that are declared here.
  *
- * Places in memory matter: each way has PLACES lines or locks, and takes one after the other. */
+ * The place in memory matters for speed. Therefore each way has PLACES lines or locks, and uses one after the other. */
 #ifndef PHASES_H
 #define PHASES_H
 
@@ -22,13 +22,14 @@ enum { MOST = 64, PLACES = 8, PHASES = 20000, MOST_PROCESSORS = 8, PAGE = 4096, 
 static int is_timed(int by);
 static void enter(long thread, enum way by, int at);
 static void leave(long thread, enum way by, int at);
-/* Before a phase, by the thread that begins it; and once a thread takes no more turns in it. */
+/* The first is called before a phase, by the thread that begins it. The second is called by each thread at the end of
+ * its part. */
 static void begin_phase(enum way by, int at);
 static void end_phase(long thread, enum way by, int at);
 
 /* ---- Time ---- */
 
-/* Sixteen bins for each power of two. */
+/* There are 16 bins for each power of two. */
 static unsigned bin_of(uint64_t ns) {
     unsigned log = 63 - (unsigned)__builtin_clzll(ns | 16);
     return (log - 4) * 16 + (unsigned)(ns >> (log - 4) & 15);
@@ -36,7 +37,7 @@ static unsigned bin_of(uint64_t ns) {
 
 static double least_of(unsigned bin) { return bin < 16 ? bin : (double)((uint64_t)(16 + bin % 16) << bin / 16); }
 
-/* ---- Concurrency Kit's lock, whose waiter yields once it has looked so often ---- */
+/* ---- Concurrency Kit's MCS lock, whose waiter yields once it has looked SPINS times ---- */
 
 enum { SPINS = 256 };
 
@@ -56,11 +57,11 @@ static void enter_mcs_yielding(ck_spinlock_mcs_t *lock, ck_spinlock_mcs_context_
 
 /* ---- Phases ---- */
 
-/* The processors, and whether thread k stays at the one of its number. */
+/* The processors, and whether thread k stays at the k-th of them. */
 static int processors[MOST_PROCESSORS] = {0, 1, 2, 3}, many_processors = 4, pinned;
 static int threads;
 static uint64_t turn_ns, phase_ns;
-/* The phase that begins, and its way and place; whether it is over; how many threads have begun and ended it; and its
+/* The number of the phase, its way and place, whether it is over, how many threads have begun and ended it, and its
  * length. */
 static _Alignas(APART) atomic_int phase;
 static enum way way;
@@ -72,10 +73,11 @@ static uint64_t took;
 
 static struct {
     _Alignas(PAGE) uint64_t turns, longest;
-    unsigned waits[BINS]; /* how many waits took so long (bin_of) */
+    unsigned waits[BINS]; /* the number of waits in each bin (bin_of) */
 } did[MOST];
 
-/* Reads the clock in each turn that has a length, else in each 64th. */
+/* Acquires and releases until the phase is over. It times each wait if critical sections have a length, and otherwise
+ * every 64th. */
 static void take_turns(long k) {
     enum way by = way;
     int at = place;
@@ -147,7 +149,7 @@ static void run_phase(int number, enum way by, int at) {
     found[by].took += (double)took;
 }
 
-/* All ways that are timed, one phase after the other, until these seconds are over. */
+/* Runs a phase of each way that is measured, one after the other, until these seconds have passed. */
 static void run_phases(double seconds) {
     pthread_t id;
     for (long k = 0; k < threads; k++)
@@ -178,7 +180,7 @@ static void sort_phases(void) {
 
 static double part(const double *sorted, int many, double of) { return many ? sorted[(int)((many - 1) * of)] : 0; }
 
-/* In microseconds, of the waits of this way whose time was taken. */
+/* Returns the 99.9th percentile of the timed waits of this way, in microseconds. */
 static double wait_999(int by) {
     uint64_t before = 0;
     for (unsigned bin = 0; bin < BINS; bin++)
@@ -199,7 +201,7 @@ static int print_machine(void) {
 
 /* ---- The program ---- */
 
-/* Takes the list of processors from a word as at=0,2,1,3, and has thread k stay at the one with that place. */
+/* Reads the list of processors from a word such as at=0,2,1,3. Thread k stays at the k-th of them. */
 static int take_processors(const char *word) {
     char *rest = (char *)(uintptr_t)word + 3;
     if (strncmp(word, "at=", 3) != 0) return 0;
@@ -208,7 +210,7 @@ static int take_processors(const char *word) {
     return pinned = many_processors > 0;
 }
 
-/* Takes THREADS MICROSECONDS PHASE_MS SECONDS at=.. */
+/* Reads the arguments THREADS MICROSECONDS PHASE_MS SECONDS at=.. */
 static int take_arguments(int argc, char **argv) {
     if (argc < 6 || !take_processors(argv[5]) || atoi(argv[1]) < 1 || atoi(argv[1]) > MOST) return 0;
     threads = atoi(argv[1]);

@@ -1,9 +1,9 @@
-"""Runs programs that time ways of taking turns in phases (phases.h), at processors that are apart, and says which goals they reach.
+"""Runs programs that measure ways of acquiring a lock in phases (phases.h), and says which goals they reach. c/bench/nodes uses it.
 
-The time of a hand-over between each two processors is taken before and after each program. On a virtual machine two may be hyperthreads of one core: a pair below
-60 ns is quick. Threads stay at processors that are apart, and a program that had a quick pair among those that it used is run again, at most AGAIN times. So is a program of a
-quiet part if other programs or other machines took more than 3 % of the processors meanwhile. What was run again is counted; what is kept although it is not as it should be
-says so in its column `kept`.
+The time of a hand-over between each two processors is measured before and after each program. On a virtual machine two processors may be hyperthreads of one core: a pair
+below 60 ns is called quick. Threads stay at processors that are no quick pairs. A program that used a quick pair nevertheless is run again, at most AGAIN times. A program
+of a quiet part is also run again if other programs or other machines took more than 3 % of the processors meanwhile. Runs that are repeated are counted. A run that is kept
+although it does not meet these conditions says so in its column `kept`.
 """
 
 import datetime
@@ -19,11 +19,11 @@ from machine import Load, apart, command, least_of, machine, names_of_processors
 HERE = pathlib.Path(__file__).resolve().parent
 ROOT = HERE.parent.parent
 LIBRARY = "c/build/libqolb.a"
-MOST_OTHERS = 3  # hundredths of the processors, in a quiet part
-LEAST_WAITS = 5000  # of one program, for the 99.9th of 100
+MOST_OTHERS = 3  # percent of the processors that others may take in a quiet part
+LEAST_WAITS = 5000  # the least waits of one program for which the 99.9th percentile is given
 
-# A part: its name, threads, microseconds of a turn, words for the program, and goals: (lock, beside, the most of their ratio); the length of a phase in ms, whether others
-# must rest meanwhile, and whether threads stay at processors.
+# A part: its name, the number of threads, the microseconds of a critical section, words for the program, and goals (a lock, the lock to compare it with, and the largest ratio);
+# then the length of a phase in ms, whether other programs must be idle meanwhile, and whether threads stay at processors.
 Part = namedtuple("Part", "name threads turn words goals ms is_quiet stays", defaults=(2, True, True))
 # The processors that are used: the first four, or all if there are fewer.
 ALL = "at=" + ",".join(map(str, range(min(4, len(names_of_processors())))))
@@ -32,7 +32,7 @@ HEADS = ("part", "threads", "turn_us", "lock", "runs", "again", "kept", *FIGURES
 
 
 def build(folder, source, checkout, library=None):
-    """Builds a program of this folder over the library of a checkout, in which make -C c has been run, or over this one."""
+    """Builds a program of this folder with the library of a checkout, in which make -C c has been run, or with that of this checkout."""
     program = folder / f"{source}_{checkout.name}"
     flags = ["-O3", "-march=x86-64-v2", "-pthread", f"-I{checkout / 'c/include'}"]
     subprocess.run(["clang", *flags, HERE / f"{source}.c", library or checkout / LIBRARY, "-o", program], check=True)
@@ -47,7 +47,7 @@ def told(*words):
 
 
 def pairs_of(output):
-    """The hand-over of each two processors, in nanoseconds: the least that was found."""
+    """Returns the least hand-over that was measured between each two processors, in nanoseconds."""
     found = {}
     for a, b, time in re.findall(r"(\d+)-(\d+) (\d+)", " ".join(re.findall(r"(?m)^# a hand-over.*", output))):
         pair = int(a), int(b)
@@ -56,12 +56,12 @@ def pairs_of(output):
 
 
 def rows_of(output):
-    """The figures of each lock, by its name."""
+    """Returns the figures of each lock, by its name."""
     return {name: dict(zip(FIGURES, map(float, rest))) for name, *rest in (line.split("\t") for line in output.splitlines() if "\t" in line)}
 
 
 class Runner:
-    """Runs programs at processors that are apart, until each was as it should be."""
+    """Runs each program at processors that are no quick pairs, and repeats it until it met the conditions above."""
 
     def __init__(self, asked, program):
         self.asked, self.program = asked, program
@@ -70,7 +70,7 @@ class Runner:
         return pairs_of(told(self.program, "machine", ALL))
 
     def once(self, part, program):
-        """The figures of one program, and why it is not as it should be; empty if it is."""
+        """Returns the figures of one program, and why it does not meet the conditions, or an empty text."""
         order = apart(self.pairs())
         load = Load()
         output = told(program, part.threads, part.turn, part.ms, self.asked.seconds, "at=" + ",".join(map(str, order)), *part.words)
@@ -90,7 +90,7 @@ class Runner:
 
 
 def medians(runs):
-    """The median of each figure over the runs, by the lock's name."""
+    """Returns the median of each figure over the runs, by the name of the lock."""
     return {name: {key: statistics.median(run[name][key] for run in runs) for key in FIGURES} for name in runs[0]}
 
 
@@ -98,7 +98,7 @@ Measured = namedtuple("Measured", "rows runs again kept")
 
 
 def measure(asked, runner, part, programs):
-    """What each of the programs measured in a part; they take turns."""
+    """Returns what each of the programs measured in a part. The programs run alternately."""
     runs = [[runner.run(part, program) for program in programs] for _ in range(asked.runs)]
     return [
         Measured(medians([rows for rows, _, _ in of]), asked.runs, sum(again for _, _, again in of), "; ".join(sorted({why for _, why, _ in of} - {""})))
@@ -115,7 +115,7 @@ def judged(beside, ratio, goal):
 
 
 def lines_of(part, measured):
-    """The rows of a part, with the ratios that have a goal."""
+    """Returns the rows of a part, with the ratios for which there is a goal."""
     rows, goals = measured.rows, {}
     for lock, beside, goal in part.goals:
         than = "MCS that yields" if beside == "MCS" and "MCS" not in rows else beside
@@ -124,12 +124,12 @@ def lines_of(part, measured):
 
 
 def waits_of(part, row):
-    """The number of waits of one program whose time was taken, where turns have a length."""
+    """Returns the number of waits of one program that were timed, if critical sections have a length."""
     return row["phases"] * part.ms * 1e6 / row["mean"]
 
 
 def lines_of_older(part, measured, older, names, keys):
-    """The rows of these locks of an older library, with these figures as the goal of this one's: no more. The 99.9th of 100 waits is judged if it is of enough."""
+    """Returns the rows of these locks of an older library, whose figures the current library must not exceed. The 99.9th percentile counts only if there were enough waits."""
     lines = []
     for name in names:
         for key in keys:
@@ -142,7 +142,7 @@ def lines_of_older(part, measured, older, names, keys):
 
 
 def head(title, asked, runner, load):
-    """The lines at the top of a file of figures."""
+    """Returns the lines at the top of a file of figures."""
     at = told(runner.program, "machine", ALL)
     return [
         f"# {title}: nanoseconds a turn over all threads, in phases that take turns. ratio: of this lock's median to that of the lock beside it; goal: the most of it; again: "

@@ -1,4 +1,4 @@
-/* Two threads count together over a line, in C. Prints 2000. */
+/* Two threads count together, in C: the count is in a line, for which each thread has a node. Prints 2000. */
 #include <pthread.h>
 #include <qolb.h>
 #include <stdio.h>

@@ -1,4 +1,4 @@
-// Two threads count together over a line, in C++14 or later. Prints 2000.
+// Two threads count together, in C++14 or later: the count is in a line, for which each thread has a node. Prints 2000.
 #include <iostream>
 #include <qolb.hpp>
 #include <thread>

@@ -1,4 +1,4 @@
-//! Two threads count together over a line, in Rust. Prints 2000.
+//! Two threads count together, in Rust: the count is in a line, for which each thread has a node. Prints 2000.
 #[path = "../rust/qolb.rs"]
 mod qolb;
 

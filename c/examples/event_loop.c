@@ -1,5 +1,5 @@
-/* One thread serves four jobs that take turns at a lock, and waits in poll alone; another thread wants the same lock.
- * Prints 5000. */
+/* An event loop with tasks: one thread serves four jobs that enter the same lock, and waits only in poll. Another
+ * thread enters the lock as well. Prints 5000. */
 #define _GNU_SOURCE
 #include <poll.h>
 #include <pthread.h>
@@ -24,7 +24,7 @@ static void take_turn(struct job *it) {
     qolb_task_leave(&it->task);
 }
 
-/* Asks again and again, until it has to wait for its turn. */
+/* Enters the lock again and again, until it has to wait. */
 static void ask(struct job *it) {
     while (it->left > 0) {
         uint32_t got = qolb_task_enter_fd(&it->task, &lock, it->event);
@@ -34,7 +34,7 @@ static void ask(struct job *it) {
     }
 }
 
-/* If it was told too early, it will be told again. */
+/* Polls after a notification. If that was too early, another one will be made. */
 static void look(struct job *it) {
     eventfd_t times;
     eventfd_read(it->event, &times);

@@ -1,5 +1,5 @@
-//! A small executor: `block_on` for one future, and a pool of threads for many. A program that has an executor takes that instead.
-#![allow(dead_code)] // a program takes the part that it needs
+//! A small executor: `block_on` for one future, and a pool of threads for many. A program that has an executor uses that one instead.
+#![allow(dead_code)] // a program uses only the part that it needs
 
 use std::collections::VecDeque;
 use std::future::Future;
@@ -65,7 +65,7 @@ impl Task {
         }
     }
 
-    /// Drops the future, wherever it waits.
+    /// Drops the future, whatever it waits for.
     pub fn abort(&self) {
         let mut future = self.future.lock().unwrap();
         if future.take().is_some() {

@@ -1,5 +1,5 @@
-// Two threads move money between accounts that have a lock, in C++14 or later: no program can forget the lock. Prints
-// 100.
+// Two threads move money between accounts, in C++14 or later. The accounts can only be used while their lock is held.
+// Prints 100.
 #include <iostream>
 #include <qolb.hpp>
 #include <thread>

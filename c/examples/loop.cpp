@@ -1,5 +1,5 @@
-// Coroutines that enter a lock, over a loop of one thread, to copy from: C++20. Another thread enters the same lock.
-// Prints 4000.
+// Coroutines of C++20 that enter a lock, over an event loop with one thread. It is meant to serve as a template.
+// Another thread enters the same lock. Prints 4000.
 #include <condition_variable>
 #include <coroutine>
 #include <cstdlib>
@@ -8,10 +8,10 @@
 #include <qolb.hpp>
 #include <thread>
 
-// What qolb::enter and qolb::turn need of a loop is `post` and `unpost`; server.cpp has one over epoll.
+// A loop for qolb::enter and qolb::turn, which need only `post` and `unpost`. server.cpp has a loop over epoll.
 class Loop {
   public:
-    // From any thread, inside the call that leaves the lock: it waits for no turn, and throws nothing.
+    // Any thread calls it, inside the call that leaves the lock. It must not wait for a lock, and throws nothing.
     void post(qolb::Ready &it) {
         std::lock_guard<std::mutex> held(mutex_);
         it.posted = true, it.next = nullptr, it.before = last_;
@@ -20,7 +20,7 @@ class Loop {
         some_.notify_one();
     }
 
-    // By the loop's thread, for a coroutine that is destroyed while it waits.
+    // The loop's thread calls it for a coroutine that is destroyed while it waits.
     void unpost(qolb::Ready &it) {
         std::lock_guard<std::mutex> held(mutex_);
         if (it.posted) out(it);
@@ -39,7 +39,7 @@ class Loop {
         }
     }
 
-    int jobs = 0; // changed by the loop's thread alone
+    int jobs = 0; // only the loop's thread changes it
 
   private:
     void out(qolb::Ready &it) {
@@ -70,7 +70,7 @@ static Job add(Loop &loop, qolb::lock &lock, long &count) {
         qolb::Entered turn = co_await qolb::enter(lock, loop);
         if (!turn) break; // the lock is shut, or there is no memory: turn.answer()
         count++;
-    } // the turn ends with its scope
+    } // the lock is left at the end of the scope
     loop.jobs--;
 }
 

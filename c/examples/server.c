@@ -1,14 +1,16 @@
-/* A server on 127.0.0.1 whose connections take turns, by epoll with one loop and with four: to copy from.
+/* A server on 127.0.0.1 whose connections share a lock or a line, by epoll with one event loop and with four. It is
+ * meant to serve as a template.
  *
- * A client sends 'L' and gets 8 bytes, a number as it is when its connection has the turn; and sends 'U', which adds 1
- * and ends the turn. A client may go at any time. No loop ever waits for a turn: it watches an eventfd of each
- * connection beside its socket.
+ * A client sends 'L', and its connection acquires the lock. Then the client receives a number of 8 bytes. It sends 'U',
+ * which adds 1 to the number and releases the lock. A client may disconnect at any time. No loop ever waits for the
+ * lock: beside the socket of each connection it watches an eventfd.
  *
- * With a line, each connection has a node of its own. With a lock it has a task, and there may be any number of tasks.
+ * With a line, each connection has a node of its own. With a lock, each connection has a task, and there may be any
+ * number of them.
  *
  *   build/server_c [CONNECTIONS [ROUNDS]]
  *
- * The clients are in the same program. Prints only errors. */
+ * The clients are in the same program, which prints only errors. */
 #define _GNU_SOURCE
 #include <qolb.h>
 #include <arpa/inet.h>
@@ -36,7 +38,7 @@ enum { MOST = 128, MOST_LOOPS = 4 };
 static int by_lock;
 static qolb_lock lock;
 static qolb_node nodes[MOST];
-static uint64_t number; /* by the lock; by the line it is in lane 0 */
+static uint64_t number; /* for the lock; with a line, the number is in lane 0 */
 static atomic_long turns;
 
 /* ---- The server ---- */
@@ -44,7 +46,7 @@ static atomic_long turns;
 enum phase { IDLE, WAITS, HOLDS };
 
 struct connection {
-    int socket, event; /* the second is told when the connection is at its turn */
+    int socket, event; /* the eventfd is notified when the connection has the lock */
     enum phase phase;
     qolb_node *node;
     qolb_task task;
@@ -53,7 +55,7 @@ struct connection {
 
 struct loop {
     int epoll;
-    struct connection *gone; /* freed once no event can name them any more */
+    struct connection *gone; /* they are freed once no event can refer to them any more */
 };
 
 static struct loop loops[MOST_LOOPS];
@@ -80,15 +82,15 @@ static void end_turn(struct connection *it) {
     }
 }
 
-/* GRANTED or WAITING. A node may be busy from a request that it gave up: this server gives up only as a connection
- * goes, and its node with it. */
+/* Makes a request, and returns GRANTED or WAITING. The caller need not expect BUSY: a node is busy after a request that
+ * it gave up, and this server gives a request up only when a connection ends, whose node is freed as well. */
 static uint32_t ask(struct connection *it) {
     if (by_lock) return qolb_task_enter_fd(&it->task, &lock, it->event);
     uint32_t got = qolb_enqolb(it->node);
     return got == QOLB_QUEUED ? qolb_notify_fd(it->node, it->event) : got;
 }
 
-/* If the descriptor was told too early, it will be told again. */
+/* Polls after a notification. If that was too early, another one will be made. */
 static uint32_t look(struct connection *it) {
     return by_lock ? qolb_task_poll(&it->task) : qolb_notify_fd(it->node, it->event);
 }
@@ -99,7 +101,7 @@ static void answered(struct connection *it, uint32_t got) {
     it->phase = WAITS;
 }
 
-/* Whatever it waits for or holds. The descriptor is closed last. */
+/* Ends a connection, whatever it waits for or holds. The eventfd is closed last. */
 static void end(struct loop *loop, struct connection *it) {
     if (it->phase == HOLDS) end_turn(it);
     if (by_lock) {
@@ -135,8 +137,8 @@ static void free_gone(struct loop *loop) {
     for (struct connection *it; (it = loop->gone); free(it)) loop->gone = it->next_gone;
 }
 
-/* One event at a time: a second one may be of a connection that the first has ended. The lowest bit of a pointer says
- * that it is the eventfd. */
+/* Handles one event at a time, because a second event may be of a connection that the first one has ended. The lowest
+ * bit of a pointer says that the event is of the eventfd. */
 static void *runs(void *argument) {
     struct loop *loop = argument;
     struct epoll_event event;
@@ -177,7 +179,7 @@ static int joins(void) {
     return fd;
 }
 
-/* Takes turns; the last connection goes while it waits, and the one before while it holds. */
+/* Acquires and releases. The last client disconnects while it waits, and the one before it while it holds the lock. */
 static void *is_client(void *which) {
     int k = (int)(intptr_t)which, fd = joins();
     uint64_t now;

@@ -1,13 +1,14 @@
-// A server on 127.0.0.1 whose connections take turns, as C++20 coroutines over one loop and over four: to copy from.
+// A server on 127.0.0.1 whose connections share a lock or a line, as C++20 coroutines over one event loop and over
+// four. It is meant to serve as a template.
 //
-// A client sends 'L' and gets 8 bytes, a number as it is when its connection has the turn; and sends 'U', which adds 1
-// and ends the turn. A client may go at any time: its coroutine is destroyed, which takes its request back. No loop
-// ever waits for a turn.
+// A client sends 'L', and its connection acquires the lock. Then the client receives a number of 8 bytes. It sends 'U',
+// which adds 1 to the number and releases the lock. A client may disconnect at any time: its coroutine is then
+// destroyed, and this withdraws its request. No loop ever waits for the lock.
 //
 //   build/server_cpp [CONNECTIONS [ROUNDS]]
 //
-// The clients are in the same program. Prints only errors. A program that has a loop and coroutines of its own needs
-// by_lock or by_node, and post and unpost.
+// The clients are in the same program, which prints only errors. A program that has a loop and coroutines of its own
+// needs only by_lock or by_node, and post and unpost.
 #include <qolb.hpp>
 
 #include <arpa/inet.h>
@@ -50,7 +51,7 @@ class Loop {
     ~Loop() { close(posts_), close(epoll_); }
     Loop(const Loop &) = delete;
 
-    // From any thread.
+    // Any thread may call it.
     void post(qolb::Ready &it) {
         std::lock_guard<std::mutex> held(mutex_);
         it.posted = true, it.next = nullptr, it.before = last_;
@@ -58,7 +59,7 @@ class Loop {
         last_ = &it;
         eventfd_write(posts_, 1);
     }
-    // By the loop's thread.
+    // The loop's thread calls it.
     void unpost(qolb::Ready &it) {
         std::lock_guard<std::mutex> held(mutex_);
         if (it.posted) out(it);
@@ -95,7 +96,7 @@ class Loop {
     qolb::Ready *first_ = nullptr, *last_ = nullptr;
 };
 
-// It is in its coroutine.
+// A connection, which its coroutine owns.
 class Client {
   public:
     Client(Loop &loop, int socket) : loop_(loop), socket_(socket) {
@@ -108,7 +109,7 @@ class Client {
     }
     Client(const Client &) = delete;
 
-    // co_await: the next byte, 0 once the client has disconnected.
+    // co_await of it returns the next byte, or 0 once the client has disconnected.
     auto byte() {
         struct Byte {
             Client &of;
@@ -121,10 +122,11 @@ class Client {
         };
         return Byte{*this};
     }
-    // If the client has disconnected, the next byte tells.
+    // It need not check for errors: if the client has disconnected, byte() will say so.
     void send(std::uint64_t number) { (void)!::send(socket_, &number, sizeof number, MSG_NOSIGNAL); }
 
-    // A byte arrived, or the client has disconnected. While a client waits for its turn it sends nothing.
+    // Handles a byte that arrived, or that the client has disconnected. A client sends nothing while it waits for the
+    // lock.
     void has_event() {
         if (std::exchange(reads_, false)) coroutine_.resume();
         else coroutine_.destroy();
@@ -137,7 +139,7 @@ class Client {
     std::coroutine_handle<> coroutine_;
 };
 
-// One event at a time: a second one may be of a client that the first has ended.
+// Handles one event at a time, because a second event may be of a client that the first one has ended.
 void Loop::run() {
     epoll_event event;
     while (clients > 0) {
@@ -147,19 +149,19 @@ void Loop::run() {
     }
 }
 
-// By a lock there may be any number of connections.
+// Serves a connection with a lock, for which there may be any number of connections.
 static Job by_lock(Loop &loop, int socket, qolb::Lock &lock, std::uint64_t &number) {
     Client client(loop, socket);
     while (co_await client.byte() == 'L') {
         qolb::Entered turn = co_await qolb::enter(lock, loop);
         if (!turn) co_return;
         client.send(number);
-        if (co_await client.byte() != 'U') co_return; // the turn ends with its scope
+        if (co_await client.byte() != 'U') co_return; // the lock is left at the end of the scope
         number++;
     }
 }
 
-// By a line each has a node of its own, and the number is in the line.
+// Serves a connection with a line, for which each connection has a node. The number is in the line.
 static Job by_node(Loop &loop, int socket, qolb::Node node) {
     Client client(loop, socket);
     while (co_await client.byte() == 'L') {
@@ -173,8 +175,8 @@ static Job by_node(Loop &loop, int socket, qolb::Node node) {
 
 // ---- The clients ----
 
-// Takes turns; the last connection goes while it waits, and the one before while it holds. Returns the number of its
-// additions.
+// Acquires and releases. The last client disconnects while it waits, and the one before it while it holds the lock.
+// Returns the number of its additions.
 static int is_client(const sockaddr_in &address, int which, int rounds) {
     int fd = socket(AF_INET, SOCK_STREAM, 0), round = 0;
     must(connect(fd, reinterpret_cast<const sockaddr *>(&address), sizeof address) == 0, "connect");
@@ -202,7 +204,7 @@ static int listens(sockaddr_in &address) {
     return fd;
 }
 
-// Serves each connection by a coroutine that `serves` makes, by this number of loops; returns the number of additions.
+// Serves each connection by a coroutine that `serves` makes, with `many` loops. Returns the number of additions.
 template <class Serves> static long run(int many, int connections, int rounds, Serves serves) {
     sockaddr_in address{};
     int server = listens(address);
@@ -234,7 +236,7 @@ int main(int argc, char **argv) {
         auto [opened, nodes] = qolb::Node::open(QOLB_DEFAULT, 1, static_cast<std::uint64_t>(connections) + 1,
                                                 qolb_bytes{});
         if (opened != QOLB_DONE) return 1;
-        std::vector<qolb::Node> &left = nodes; // a structured binding is captured by no lambda of older compilers
+        std::vector<qolb::Node> &left = nodes; // lambdas of older compilers cannot capture a structured binding
         added = run(many, connections, rounds, [&left](Loop &loop, int socket) {
             by_node(loop, socket, std::move(left.back()));
             left.pop_back();

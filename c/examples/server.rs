@@ -1,11 +1,13 @@
-//! A server on 127.0.0.1 whose connections take turns, as futures over a small executor of one thread and of four: to copy from.
+//! A server on 127.0.0.1 whose connections share a mutex or a line, as futures over a small executor with one thread and with four. It is meant to serve as
+//! a template.
 //!
-//! A client sends 'L' and gets 8 bytes, a number as it is when its connection has the turn; and sends 'U', which adds 1 and ends the turn. A client may go
-//! at any time: the future of its turn is dropped, which takes its request back. No thread of the executor ever waits for a turn.
+//! A client sends 'L', and its connection acquires the mutex. Then the client receives a number of 8 bytes. It sends 'U', which adds 1 to the number and
+//! releases the mutex. A client may disconnect at any time: the future that waits for it is then dropped, and this withdraws its request. No thread of the
+//! executor ever waits for the mutex.
 //!
 //!   build/server_rs [CONNECTIONS [ROUNDS]]
 //!
-//! The clients are in the same program. Prints only errors. A program that has an executor and sockets of its own needs `by_mutex` or `by_node` alone.
+//! The clients are in the same program, which prints only errors. A program that has an executor and sockets of its own needs only `by_mutex` or `by_node`.
 
 #[path = "../rust/qolb.rs"]
 mod qolb;
@@ -29,19 +31,19 @@ use std::thread;
 
 // ---- The server ----
 
-/// By a mutex there may be any number of connections.
+/// Serves a connection with a mutex, for which there may be any number of connections.
 async fn by_mutex(client: Client, number: Arc<Mutex<u64>>) {
     while client.byte().await == Some(b'L') {
         let Some(Ok(mut number)) = client.unless_it_goes(number.lock_async()).await else { return };
         client.send(*number);
         if client.byte().await != Some(b'U') {
-            return; // the guard ends the turn
+            return; // the guard releases the mutex
         }
         *number += 1;
     }
 }
 
-/// By a line each has a node of its own, and the number is in the line.
+/// Serves a connection with a line, for which each connection has a node. The number is in the line.
 async fn by_node(client: Client, mut node: Node) {
     while client.byte().await == Some(b'L') {
         let Some(Ok(mut turn)) = client.unless_it_goes(node.turn()).await else { return };
@@ -71,12 +73,12 @@ impl Client {
         }
     }
 
-    /// The next byte; none once the client has disconnected.
+    /// Returns the next byte, or `None` once the client has disconnected.
     async fn byte(&self) -> Option<u8> {
         poll_fn(|context| self.poll_byte(context)).await
     }
 
-    /// What the future gives; none if the client goes before that, or sends more.
+    /// Returns the output of the future, or `None` if the client disconnects before that or sends more bytes.
     async fn unless_it_goes<T>(&self, future: impl Future<Output = T>) -> Option<T> {
         let mut future = pin!(future);
         poll_fn(|context| match future.as_mut().poll(context) {
@@ -86,16 +88,16 @@ impl Client {
         .await
     }
 
-    /// If the client has disconnected, the next byte tells.
+    /// Sends a number. It need not check for errors: if the client has disconnected, `byte` will say so.
     fn send(&self, number: u64) {
         let _ = (&self.socket).write_all(&number.to_ne_bytes());
     }
 }
 
-/// Wakes tasks when their sockets can be read, by a thread of its own.
+/// Wakes tasks when their sockets can be read. It has a thread of its own.
 struct Sockets {
     wanted: std::sync::Mutex<HashMap<RawFd, Waker>>,
-    bell: UnixStream, // a byte tells the thread to look at `wanted` again, and the end of it tells it to end
+    bell: UnixStream, // a byte tells the thread to look at `wanted` again, and its end tells the thread to end
 }
 
 #[repr(C)]
@@ -123,7 +125,7 @@ impl Sockets {
         (&self.bell).write_all(&[0]).unwrap();
     }
 
-    /// A socket that was closed meanwhile counts as one that can be read: its task has ended, and the waker does nothing.
+    /// Runs the thread. A socket that was closed meanwhile counts as one that can be read. This does no harm: its task has ended, and the waker does nothing.
     fn run(&self, mut hears: UnixStream) {
         let mut heard = [0; 64];
         loop {
@@ -150,7 +152,7 @@ impl Sockets {
 
 // ---- The clients ----
 
-/// Takes turns; the last connection goes while it waits, and the one before while it holds. Returns the number of its additions.
+/// Acquires and releases. The last client disconnects while it waits, and the one before it while it holds. Returns the number of its additions.
 fn is_client(address: SocketAddr, which: u64, rounds: u64) -> u64 {
     let mut socket = TcpStream::connect(address).unwrap();
     let mut number = [0; 8];
@@ -170,7 +172,7 @@ fn is_client(address: SocketAddr, which: u64, rounds: u64) -> u64 {
 
 // ---- A run ----
 
-/// Serves each connection by a task that `serves` makes, on `threads` threads; returns the number of additions.
+/// Serves each connection by a task that `serves` makes, on `threads` threads. Returns the number of additions.
 fn run(threads: usize, connections: u64, rounds: u64, mut serves: impl FnMut(&Arc<Pool>, Client)) -> u64 {
     let listener = TcpListener::bind((Ipv4Addr::LOCALHOST, 0)).unwrap();
     let (address, added) = (listener.local_addr().unwrap(), AtomicU64::new(0));

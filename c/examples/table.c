@@ -1,4 +1,5 @@
-/* A hash table with a lock for each bucket, in which threads that come and go count numbers. Prints 3200. */
+/* A hash table that has a lock for each bucket. Threads that start and end all the time count numbers in it. Prints
+ * 3200. */
 #include <pthread.h>
 #include <qolb.h>
 #include <stdint.h>
@@ -13,11 +14,11 @@ struct entry {
 };
 
 static struct bucket {
-    qolb_lock lock; /* zeros are QOLB_LOCK_INIT; opened at its first use */
+    qolb_lock lock; /* zeros, as QOLB_LOCK_INIT is; it opens at its first use */
     struct entry *first;
 } table[BUCKETS];
 
-/* The count of an entry, in a bucket whose lock is held; the entry is made if there is none. */
+/* Returns the entry of a number, and makes it if there is none. The caller holds the lock of the bucket. */
 static struct entry *entry_of(struct bucket *bucket, uint64_t number) {
     struct entry *it = bucket->first;
     while (it && it->number != number) it = it->next;

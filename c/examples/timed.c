@@ -1,4 +1,4 @@
-/* A thread waits at most 1 ms for a lock. If it is late it does other work, and asks again. Prints 1. */
+/* A thread waits for a lock for at most 1 ms. If it times out, it does other work and tries again. Prints 1. */
 #include <pthread.h>
 #include <qolb.h>
 #include <sched.h>
@@ -9,7 +9,7 @@
 enum { AT_MOST = 1000000 }; /* nanoseconds */
 
 static qolb_lock lock = QOLB_LOCK_INIT;
-static long turns; /* guarded by the lock */
+static long turns; /* protected by the lock */
 static atomic_long other_work;
 
 static void *work(void *unused) {
@@ -17,7 +17,7 @@ static void *work(void *unused) {
         uint32_t got = qolb_lock_enter_within(&lock, AT_MOST);
         if (got == QOLB_GRANTED) break;
         if (got != QOLB_TIMEDOUT) abort();
-        atomic_fetch_add(&other_work, 1); /* the request is withdrawn: nobody waits for this thread */
+        atomic_fetch_add(&other_work, 1); /* the request is withdrawn, so nobody waits for this thread */
     }
     turns++;
     qolb_lock_leave(&lock);
@@ -28,7 +28,7 @@ int main(void) {
     pthread_t thread;
     if (qolb_lock_enter(&lock) != QOLB_GRANTED) return 1;
     if (pthread_create(&thread, NULL, work, NULL) != 0) return 1;
-    while (!atomic_load(&other_work)) sched_yield(); /* a turn that takes long */
+    while (!atomic_load(&other_work)) sched_yield(); /* a long critical section */
     qolb_lock_leave(&lock);
     pthread_join(thread, NULL);
     qolb_lock_destroy(&lock);

@@ -1,22 +1,22 @@
-// QOLB for C++14 and later: locks, strict in the order of tickets, or barging. The manual pages qolb_lock(3),
-// qolb_node(3) and qolb_task(3) have what each call answers, and the rules for callers.
+// QOLB for C++14 and later: locks, which are strict or barging, and lines, which hand over 64 bytes. The manual pages
+// qolb_lock(3), qolb_node(3) and qolb_task(3) say what each call returns, and which rules its callers must keep.
 //
-//     qolb::lock lock;                             // a timed mutex, for the standard library's guards
-//     qolb::lock often(qolb::barging{1024});       // arriving threads may overtake, a bounded number of times
-//     qolb::Condition some;                        // as a std::condition_variable
+//     qolb::lock lock;                             // a timed mutex, for the guards of the standard library
+//     qolb::lock often(qolb::barging{1024});       // arriving threads may overtake the queue, but not without end
+//     qolb::Condition some;                        // is used like a std::condition_variable
 //     std::unique_lock<qolb::lock> held(lock);     // throws Closed after a shut, Deadlock if the thread holds it
 //     some.wait_for(held, std::chrono::milliseconds(1), [&] { return jobs > 0; });
 //
-//     qolb::guarded<Count> count;                  // a value that is used with its lock alone
+//     qolb::guarded<Count> count;                  // a value that can only be used while its lock is held
 //     count.with([](Count &it) { it.hits++; });
 //
-// A node moves and is never copied:
+// A node is moved and never copied:
 //
 //     auto opened = qolb::Node::open(QOLB_DEFAULT, 1, 2, qolb_bytes{}); // first: QOLB_DONE; second: the nodes
 //     qolb::Guard turn(opened.second[0]);
 //     turn.set_lane(0, turn.lane(0) + 1);
 //
-// In C++20 a coroutine waits by co_await qolb::enter(lock, loop): see Coroutines.
+// In C++20 a coroutine waits for a lock by co_await qolb::enter(lock, loop): see Coroutines below.
 #ifndef QOLB_HPP
 #define QOLB_HPP
 
@@ -53,7 +53,8 @@
 #define QOLB_THROW(what) std::abort()
 #endif
 
-// For Clang's -Wthread-safety: what a call acquires and releases. Their bodies are not analysed, as they call C.
+// For Clang's -Wthread-safety: what a call acquires and releases. Clang does not analyse the bodies of these calls,
+// because they call C.
 #if defined(__clang__)
 #define QOLB_CAPABILITY_ __attribute__((capability("lock")))
 #define QOLB_SCOPED_ __attribute__((scoped_lockable))
@@ -74,23 +75,23 @@
 
 namespace qolb {
 
-// The end of a call that requests the line and waits. No number of it is true or false.
+// The result of a call that requests a line and may wait. It does not convert to bool.
 enum class Got {
     granted,   // the node holds the line
     closed,    // the line is closed
-    busy,      // of try_acquire: others have the line; else come again later (BUSY in qolb_node(3))
-    timed_out, // of acquire_for: the timeout expired
-    misuse     // the node is none, or waits or holds already; nothing changed
+    busy,      // the line was not granted at once, or the node is busy (BUSY in qolb_node(3))
+    timed_out, // the timeout of acquire_for expired
+    misuse     // there is no node, or it has already requested the line; nothing changed
 };
 
-// The line is closed, or the lock shut.
+// Thrown by a call on a line that is closed, or on a lock that is shut.
 class Closed : public std::runtime_error {
   public:
     Closed() : std::runtime_error("qolb: the line is closed, or the lock shut") {}
 };
 
-// There is no node, or it waits or holds already; or it does not hold the line that it is to read, write or release.
-// Nothing changed.
+// Thrown by a call that the node or lock does not allow, for example a request by a node that has already requested the
+// line, or a release by a node that does not hold it. Nothing has changed.
 class Misuse : public std::logic_error {
   public:
     Misuse() : Misuse("qolb: the lock or node does not allow the call") {}
@@ -99,22 +100,23 @@ class Misuse : public std::logic_error {
     explicit Misuse(const char *what) : std::logic_error(what) {}
 };
 
-// A thread enters a lock that it holds. It holds it as before. Not thrown if a task of that thread holds it: it waits.
+// Thrown if a thread enters a lock that it already holds, and still holds afterwards. It is not thrown if the lock is
+// held by a task for which this thread works. Then the thread waits.
 class Deadlock : public Misuse {
   public:
     Deadlock() : Misuse("qolb: the thread holds the lock") {}
 
-    // As of the exception of a std::unique_lock.
+    // Returns the code that an exception of std::unique_lock has.
     std::error_code code() const noexcept { return std::make_error_code(std::errc::resource_deadlock_would_occur); }
 };
 
 namespace detail {
 
-// A time that has all 64 bits of any other, and that no other overflows, as the hours of the year 9999 overflow a
-// 64-bit number of nanoseconds.
+// A time that keeps all 64 bits of any other duration and does not overflow. A 64-bit number of nanoseconds would
+// overflow for the hours of the year 9999.
 using Nanoseconds = std::chrono::duration<long double, std::nano>;
 
-// Rounds up, to at most the largest number.
+// Converts a time to whole nanoseconds. It rounds up, and returns UINT64_MAX for a longer time.
 template <class Rep, class Period> std::uint64_t nanoseconds(const std::chrono::duration<Rep, Period> &time) {
     long double exact = Nanoseconds(time).count();
     if (!(exact > 0)) return 0;
@@ -123,18 +125,18 @@ template <class Rep, class Period> std::uint64_t nanoseconds(const std::chrono::
     return static_cast<long double>(count) < exact ? count + 1 : count;
 }
 
-// The time from now until `end`; below zero if that is past.
+// Returns the time from now until `end`, which is negative if `end` has passed.
 template <class Clock, class Duration> Nanoseconds left(const std::chrono::time_point<Clock, Duration> &end) {
     return Nanoseconds(end.time_since_epoch()) - Nanoseconds(Clock::now().time_since_epoch());
 }
 
-// The end of a time that begins now.
+// Returns the point in time at which a time that begins now ends.
 template <class Rep, class Period> auto end_of(const std::chrono::duration<Rep, Period> &time) {
     return std::chrono::time_point<std::chrono::steady_clock, Nanoseconds>(std::chrono::steady_clock::now()) +
            Nanoseconds(time);
 }
 
-// Tries once more where the clock was set back meanwhile.
+// Tries to lock until `end`. It tries again if the clock was set back meanwhile.
 template <class Lockable, class Clock, class Duration>
 bool try_lock_until(Lockable &lock, const std::chrono::time_point<Clock, Duration> &end) {
     do {
@@ -145,12 +147,13 @@ bool try_lock_until(Lockable &lock, const std::chrono::time_point<Clock, Duratio
 
 } // namespace detail
 
-// The bytes of heap that an open line keeps (qolb_memory); 0 if Node::open refuses the kind or the number of nodes.
+// Returns the bytes of heap memory that an open line keeps, or 0 if Node::open refuses the kind or the number of nodes.
 QOLB_NODISCARD inline std::uint64_t memory(qolb_kind kind, std::uint64_t nodes) { return qolb_memory(kind, nodes); }
 
-// A node of a line, or none. If it is destroyed, it withdraws its request, or releases the line that it holds.
+// A node of a line, or no node. A Node that is destroyed withdraws its request, or releases the line if it holds it.
 //
-// It is a timed lock for std::unique_lock, std::lock_guard and std::scoped_lock.
+// std::unique_lock, std::lock_guard and std::scoped_lock can use a Node as a timed lock. Only one thread at a time may
+// call a Node. The calls that have the name of a call of qolb.h return the same results (qolb_node(3)).
 class QOLB_CAPABILITY_ Node {
   public:
     Node() = default;
@@ -168,19 +171,27 @@ class QOLB_CAPABILITY_ Node {
 
     ~Node() { let_go(); }
 
+    // Requests the line, and does not wait.
     QOLB_NODISCARD qolb_result enqolb() { return qolb_enqolb(&node_); }
+    // Polls whether the node is busy, and makes no request (qolb_settle_node).
     QOLB_NODISCARD qolb_result settle() { return qolb_settle_node(&node_); }
+    // Polls once whether the request is at its turn.
     QOLB_NODISCARD qolb_result poll() { return qolb_poll(&node_); }
+    // Polls at most `polls` times, with a short pause between two polls.
     QOLB_NODISCARD qolb_result spin(std::uint64_t polls) { return qolb_spin(&node_, polls); }
+    // Withdraws the request, unless it is at its turn.
     QOLB_NODISCARD qolb_result withdraw() { return qolb_withdraw(&node_); }
+    // Make the two halves of a request for a link line.
     QOLB_NODISCARD qolb_result prepend() { return qolb_prepend(&node_); }
     QOLB_NODISCARD qolb_result link() { return qolb_link(&node_); }
-    // Have a call made, or 1 added to an eventfd, when the request is at its turn (qolb_task(3)).
+    // Request a notification, which is made when the request is at its turn (qolb_task(3)): a call of `call(arg)`, or
+    // the addition of 1 to an eventfd. notify_off takes it back.
     QOLB_NODISCARD qolb_result notify(void (*call)(void *arg), void *arg) { return qolb_notify(&node_, call, arg); }
     QOLB_NODISCARD qolb_result notify_fd(int fd) { return qolb_notify_fd(&node_, fd); }
     qolb_result notify_off() { return qolb_notify_off(&node_); }
-    // For the calls of qolb.h.
+    // Returns the handle, for the calls of qolb.h.
     qolb_node *native_handle() { return &node_; }
+    // Read and write the line, which the node must hold.
     qolb_result read(qolb_bytes &out) { return qolb_read(&node_, &out); }
     qolb_result write(std::uint64_t mask, const qolb_bytes &bytes) { return qolb_write(&node_, mask, &bytes); }
     qolb_result read_lane(std::uint64_t lane, std::uint64_t &out) { return qolb_read_lane(&node_, lane, &out); }
@@ -188,26 +199,33 @@ class QOLB_CAPABILITY_ Node {
     qolb_result add_lane(std::uint64_t lane, std::uint64_t by, std::uint64_t &was) {
         return qolb_add_lane(&node_, lane, by, &was);
     }
+    // Releases the line, and hands it over to the oldest request.
     qolb_result deqolb() { return qolb_deqolb(&node_); }
+    // Releases the line and closes it.
     qolb_result shut() { return qolb_shut(&node_); }
+    // Frees the node. Afterwards this Node is no node.
     qolb_result free() { return qolb_node_free(&node_); }
+    // Returns the number of acquisitions that the lease still allows, the holder's own among them.
     std::uint64_t turns_left() { return qolb_turns_left(&node_); }
+    // Return the node's number, from 1 on, the line's label, and the node's state.
     std::uint64_t number() { return qolb_number(&node_); }
     std::uint64_t label() { return qolb_label(&node_); }
     qolb_node_state state() { return static_cast<qolb_node_state>(qolb_state(&node_)); }
 
-    // Requests the line, and waits as long as it takes: granted, closed, misuse.
+    // Requests the line, and waits until the node holds it. Returns granted, closed or misuse.
     QOLB_NODISCARD Got acquire() { return got(qolb_acquire(&node_)); }
 
-    // Requests the line, and withdraws the request if it is not granted at once: granted, busy, closed, misuse.
+    // Requests the line, and withdraws the request if it is not granted at once. Returns granted, busy, closed or
+    // misuse.
     QOLB_NODISCARD Got try_acquire() { return got(qolb_try(&node_)); }
 
-    // Requests the line, and waits at most this long: granted, timed_out, closed, misuse.
+    // Requests the line, and waits for at most `time`. Returns granted, timed_out, closed or misuse.
     template <class Rep, class Period> QOLB_NODISCARD Got acquire_for(const std::chrono::duration<Rep, Period> &time) {
         return got(qolb_acquire_within(&node_, detail::nanoseconds(time)));
     }
 
-    // As a lock of the standard library: these throw Misuse, and Closed, so that a loop around them ends.
+    // Lock and unlock the line as a lock of the standard library does. They throw Misuse, and they throw Closed if the
+    // line is closed, so that a loop around them ends.
     void lock() QOLB_ACQUIRES_() { locked(acquire()); }
     QOLB_NODISCARD bool try_lock() QOLB_TRIES_ { return locked(try_acquire()); }
     template <class Rep, class Period>
@@ -222,11 +240,12 @@ class QOLB_CAPABILITY_ Node {
         if (deqolb() != QOLB_DONE) QOLB_THROW(Misuse());
     }
 
-    // Acquires the line, lets `change` change its bytes, writes them and releases the line: granted. Else closed or
-    // misuse, and `change` is not called. If `change` throws, nothing is written and the line is released.
+    // Acquires the line, calls `change` with a copy of its bytes, writes the copy back, and releases the line. Returns
+    // granted; or closed or misuse, and then it has not called `change`. If `change` throws, nothing is written, and
+    // the line is released.
     template <class Change> QOLB_NODISCARD Got with(Change change);
 
-    // Opens a line: its nodes in their order, or the cause why there is none.
+    // Opens a line. Returns QOLB_DONE and the nodes in their order, or another result and no nodes (qolb_open).
     QOLB_NODISCARD static std::pair<qolb_result, std::vector<Node>> open(qolb_kind kind, std::uint64_t label,
                                                                          std::uint64_t nodes, const qolb_bytes &opening,
                                                                          std::uint64_t lease = QOLB_NO_LEASE) {
@@ -239,7 +258,7 @@ class QOLB_CAPABILITY_ Node {
     }
 
   private:
-    // Each of these calls leads to the next state, or is misuse and does nothing.
+    // Frees the node in whatever state it is. A call that this state does not allow is misuse and does nothing.
     void let_go() noexcept {
         qolb_result results[] = {qolb_link(&node_), qolb_withdraw(&node_), qolb_deqolb(&node_), qolb_node_free(&node_)};
         (void)results;
@@ -264,16 +283,16 @@ class QOLB_CAPABILITY_ Node {
     qolb_node node_{};
 };
 
-// A turn of a node: the line is acquired here and released at the end of the scope, however that ends. It writes
-// nothing by itself. The node must not move meanwhile.
+// A guard of a line: it acquires the line for a node, and releases it at the end of the scope. It writes no bytes by
+// itself. The node must not be moved while the guard exists.
 class QOLB_SCOPED_ Guard {
   public:
-    // Waits as long as it takes. Throws Closed if the line is closed, and Misuse if there is no node, or it waits or
-    // holds already.
+    // Waits until the node holds the line. Throws Closed if the line is closed, and Misuse if there is no node, or if
+    // the node has already requested the line.
     explicit Guard(Node &node) QOLB_ACQUIRES_(node) : node_(&node) { node.lock(); }
 
-    // Takes over the turn of a node that holds the line, as after try_acquire or acquire_for. Throws Misuse if it does
-    // not hold.
+    // Takes over the line from a node that holds it, for example after try_acquire or acquire_for. Throws Misuse if the
+    // node does not hold the line.
     Guard(Node &node, std::adopt_lock_t) QOLB_ADOPTS_(node) : node_(&node) {
         if (node.state() != QOLB_STATE_HOLDING) QOLB_THROW(Misuse());
     }
@@ -287,14 +306,17 @@ class QOLB_SCOPED_ Guard {
         if (node_) node_->deqolb();
     }
 
+    // Returns the bytes of the line.
     QOLB_NODISCARD qolb_bytes read() const {
         qolb_bytes bytes{};
         did(node_ ? node_->read(bytes) : QOLB_MISUSE);
         return bytes;
     }
 
+    // Writes byte k of `bytes` to the line if bit k is set in `mask`.
     void write(std::uint64_t mask, const qolb_bytes &bytes) { did(node_ ? node_->write(mask, bytes) : QOLB_MISUSE); }
 
+    // Return and set one lane of the line, 0 to 7. They throw Misuse for another lane.
     QOLB_NODISCARD std::uint64_t lane(std::uint64_t lane) const {
         std::uint64_t value = 0;
         did(node_ ? node_->read_lane(lane, value) : QOLB_MISUSE);
@@ -305,14 +327,14 @@ class QOLB_SCOPED_ Guard {
         did(node_ ? node_->write_lane(lane, value) : QOLB_MISUSE);
     }
 
-    // Adds to a lane modulo 2^64, and returns what it had before.
+    // Adds `by` to a lane modulo 2^64, and returns the number that the lane had before.
     std::uint64_t add_to_lane(std::uint64_t lane, std::uint64_t by) {
         std::uint64_t was = 0;
         did(node_ ? node_->add_lane(lane, by, was) : QOLB_MISUSE);
         return was;
     }
 
-    // Releases the line before the scope ends; and closes it. Any later call of the guard throws Misuse.
+    // Release the line before the scope ends. `shut` also closes it. Every later call of the guard throws Misuse.
     void release() { ended(node_ ? node_->deqolb() : QOLB_MISUSE); }
     void shut() { ended(node_ ? node_->shut() : QOLB_MISUSE); }
 
@@ -339,41 +361,47 @@ template <class Change> QOLB_UNCHECKED_ Got Node::with(Change change) {
     return got;
 }
 
-// The barging limit of a lock: qolb::barging{1024}. With 0 or 1 it is strict. More than 65,535 count as 65,535.
+// The barging limit of a lock, for example qolb::barging{1024}. A lock with a limit of 0 or 1 is strict. A limit above
+// 65,535 counts as 65,535.
 struct barging {
     std::uint64_t limit;
 };
 
-// A lock that any thread may enter (qolb_lock(3)). It is made at compile time, in its own 320 bytes, and opens at its
-// first use: so a static one needs no constructor at run time.
+// A lock that any thread may enter (qolb_lock(3)). It takes 320 bytes, and opens at its first use. A static lock needs
+// no constructor at run time, because it is initialised at compile time.
 //
-// It is a timed lock as the standard library means it: std::lock_guard, std::unique_lock, std::scoped_lock and
-// std::condition_variable_any take it. The thread that entered must leave. It may be destroyed if no thread holds it,
-// waits for it or is about to call it; its destructor does nothing, so threads may use a static one until the end.
+// It is a timed lock as the standard library defines it: std::lock_guard, std::unique_lock, std::scoped_lock and
+// std::condition_variable_any can use it. The thread that entered a lock must leave it. A lock may be destroyed once no
+// thread holds it, waits for it or is about to call it. The destructor does nothing, so threads may use a static lock
+// until the program ends.
 class QOLB_CAPABILITY_ Lock {
   public:
-    // Strict: first come, first served.
+    // Makes a strict lock, which is first come, first served.
     constexpr Lock() noexcept : lock_ QOLB_LOCK_INIT {}
-    // Barging.
+    // Makes a barging lock.
     explicit constexpr Lock(barging most) noexcept : lock_ QOLB_LOCK_INIT_BARGING(most.limit) {}
     Lock(const Lock &) = delete;
     Lock &operator=(const Lock &) = delete;
 
-    // As in qolb.h: granted; closed; timed out or busy; misuse if the thread holds it.
+    // Enter the lock as the calls of qolb.h do, and return the same results (qolb_lock(3)). try_enter does not wait,
+    // and enter_for waits for at most `time`.
     QOLB_NODISCARD qolb_result enter() { return qolb_lock_enter(&lock_); }
     QOLB_NODISCARD qolb_result try_enter() { return qolb_lock_try(&lock_); }
     template <class Rep, class Period>
     QOLB_NODISCARD qolb_result enter_for(const std::chrono::duration<Rep, Period> &time) {
         return qolb_lock_enter_within(&lock_, detail::nanoseconds(time));
     }
-    // A guard that owns the lock is released first: else it ends with unlock, which throws Misuse.
+    // Leave the lock. `shut` also takes it out of service. First call release() of a std::unique_lock that owns the
+    // lock. Otherwise its destructor calls unlock, which throws Misuse.
     qolb_result leave() { return qolb_lock_leave(&lock_); }
     qolb_result shut() { return qolb_lock_shut(&lock_); }
+    // Checks whether the calling thread holds the lock.
     bool is_mine() const { return qolb_lock_is_mine(&lock_) != 0; }
+    // Checks whether a thread or a task holds the lock or is about to.
     bool is_held() const { return qolb_lock_is_held(&lock_) != 0; }
 
-    // As a lock of the standard library: these throw Closed if the lock was shut, and Deadlock if the thread holds it
-    // (try_lock returns false).
+    // Lock and unlock as a lock of the standard library does. They throw Closed if the lock is shut. If the calling
+    // thread already holds the lock, they throw Deadlock, except for try_lock, which returns false.
     void lock() QOLB_ACQUIRES_() { entered(enter()); }
     QOLB_NODISCARD bool try_lock() QOLB_TRIES_ { return entered(try_enter()); }
     template <class Rep, class Period>
@@ -388,7 +416,7 @@ class QOLB_CAPABILITY_ Lock {
         if (leave() != QOLB_DONE) QOLB_THROW(Misuse());
     }
 
-    // For the calls of qolb.h.
+    // Returns the lock, for the calls of qolb.h.
     qolb_lock *native_handle() { return &lock_; }
 
   private:
@@ -403,12 +431,12 @@ class QOLB_CAPABILITY_ Lock {
 
 using lock = Lock;
 
-// Enters a lock here, and leaves it at the end of the scope, as a std::lock_guard<qolb::lock> does, which Clang's
-// -Wthread-safety does not know in every standard library.
+// A guard that enters a lock, and leaves it at the end of the scope. A std::lock_guard<qolb::lock> does the same, but
+// Clang's -Wthread-safety does not know it in every standard library.
 class QOLB_SCOPED_ lock_guard {
   public:
     explicit lock_guard(Lock &held) QOLB_ACQUIRES_(held) : held_(held) { held.lock(); }
-    // Takes over a lock that the thread holds.
+    // Takes over a lock that the calling thread holds.
     lock_guard(Lock &held, std::adopt_lock_t) QOLB_ADOPTS_(held) : held_(held) {}
     lock_guard(const lock_guard &) = delete;
     lock_guard &operator=(const lock_guard &) = delete;
@@ -418,44 +446,50 @@ class QOLB_SCOPED_ lock_guard {
     Lock &held_;
 };
 
-// A condition of holders of a Lock, as a std::condition_variable is of those of a std::mutex. It has no spurious
-// wakeups, and wakes the thread that has waited longest first. If the lock is shut meanwhile, a wait throws Closed, and
-// its unique_lock owns nothing.
+// A condition at which holders of a Lock wait, as holders of a std::mutex wait at a std::condition_variable. There are
+// no spurious wake-ups, and the thread that has waited longest is woken first. If the lock is shut meanwhile, a wait
+// throws Closed, and its unique_lock owns nothing.
 //
-// It has no std::notify_all_at_thread_exit. For waits with a lock of another type take a std::condition_variable_any.
+// There is no std::notify_all_at_thread_exit for it. Use a std::condition_variable_any to wait with a lock of another
+// type.
 class Condition {
   public:
     constexpr Condition() noexcept : cond_{nullptr} {}
     Condition(const Condition &) = delete;
     Condition &operator=(const Condition &) = delete;
 
+    // Wake the thread that has waited longest, or all threads that wait.
     void notify_one() noexcept { qolb_cond_signal(&cond_); }
     void notify_all() noexcept { qolb_cond_broadcast(&cond_); }
 
+    // Leaves the lock, waits until the condition is signalled, and enters the lock again. With a predicate, it waits
+    // until the predicate is true. Throws Misuse if the thread does not hold the lock.
     void wait(std::unique_lock<Lock> &held) { told(held, qolb_cond_wait(&cond_, held.mutex()->native_handle())); }
     template <class Predicate> void wait(std::unique_lock<Lock> &held, Predicate is_so) {
         while (!is_so()) wait(held);
     }
 
+    // Waits for a signal for at most `time`.
     template <class Rep, class Period>
     std::cv_status wait_for(std::unique_lock<Lock> &held, const std::chrono::duration<Rep, Period> &time) {
         std::uint64_t nanoseconds = detail::nanoseconds(time);
         bool is_signalled = told(held, qolb_cond_wait_within(&cond_, held.mutex()->native_handle(), nanoseconds));
         return is_signalled ? std::cv_status::no_timeout : std::cv_status::timeout;
     }
-    // Returns the value of the predicate at the end.
+    // Waits for at most `time` until the predicate is true, and returns its last value.
     template <class Rep, class Period, class Predicate>
     bool wait_for(std::unique_lock<Lock> &held, const std::chrono::duration<Rep, Period> &time, Predicate is_so) {
         return wait_until(held, detail::end_of(time), std::move(is_so));
     }
 
-    // Without a timeout also where the clock is set back meanwhile, so that the deadline is not reached.
+    // Waits for a signal until `end`. Returns no_timeout also if the clock was set back meanwhile, so that `end` has
+    // not come.
     template <class Clock, class Duration>
     std::cv_status wait_until(std::unique_lock<Lock> &held, const std::chrono::time_point<Clock, Duration> &end) {
         std::cv_status got = wait_for(held, detail::left(end));
         return detail::left(end).count() > 0 ? std::cv_status::no_timeout : got;
     }
-    // Returns the value of the predicate at the end.
+    // Waits until the predicate is true, but not after `end`, and returns its last value.
     template <class Clock, class Duration, class Predicate>
     bool wait_until(std::unique_lock<Lock> &held, const std::chrono::time_point<Clock, Duration> &end,
                     Predicate is_so) {
@@ -477,25 +511,26 @@ class Condition {
     qolb_cond cond_;
 };
 
-// A value of any size that is used with its lock alone. It lies beside the lock, in no cache line of it.
+// A value of any size that can only be used while its lock is held. It shares no cache line with the lock.
 template <class T> class Guarded {
   public:
-    // Strict: first come, first served.
+    // Make a value with a strict lock, which is first come, first served.
     constexpr Guarded() : value_() {}
     explicit constexpr Guarded(T value) : value_(std::move(value)) {}
-    // Barging.
+    // Makes a value with a barging lock.
     constexpr Guarded(T value, barging most) : lock_(most), value_(std::move(value)) {}
 
-    // Enters, lets `change` change the value, and leaves; returns the result of `change`. If `change` throws, what it
-    // has changed until then stays. Throws Closed if the lock was shut, and Deadlock if the thread is in `change` of
-    // the same value.
+    // Enters the lock, calls `change` with the value, leaves the lock, and returns the result of `change`. If `change`
+    // throws, the changes that it has made stay. Throws Closed if the lock is shut, and Deadlock if the thread already
+    // is in a `change` of the same value.
     template <class Change> auto with(Change change) -> decltype(change(std::declval<T &>())) {
         std::lock_guard<Lock> held(lock_);
         return change(value_);
     }
 
-    // The same, with a copy of the value, which is moved back at the end. If `change` throws, the value is as before.
-    // If that move throws, it is what the move left. `change` must not return a reference: it could be to the copy.
+    // Does the same with a copy of the value, which is moved back at the end. If `change` throws, the value is
+    // unchanged. If the move throws, the value is what the move left. `change` must not return a reference, because
+    // the reference could be to the copy.
     template <class Change> auto update(Change change) -> decltype(change(std::declval<T &>())) {
         static_assert(!std::is_reference<decltype(change(std::declval<T &>()))>::value, "the copy ends with the call");
         std::lock_guard<Lock> held(lock_);
@@ -503,7 +538,7 @@ template <class T> class Guarded {
         return changed(copy, change, std::is_void<decltype(change(std::declval<T &>()))>());
     }
 
-    // Enters, and returns a copy of the value. Throws as `with` does.
+    // Enter the lock, and return a copy of the value or replace it. They throw as `with` does.
     QOLB_NODISCARD T load() const {
         std::lock_guard<Lock> held(lock_);
         return value_;
@@ -513,8 +548,8 @@ template <class T> class Guarded {
         value_ = std::move(value);
     }
 
-    // Closes the lock: later threads get Closed. Returns false if it was closed. Throws Deadlock if the thread is in
-    // `change` of the same value.
+    // Shuts the lock, so that threads which enter later get Closed. Returns false if it was already shut. Throws
+    // Deadlock if the thread is in a `change` of the same value.
     bool shut() {
         qolb_result got = lock_.enter();
         if (got == QOLB_MISUSE) QOLB_THROW(Deadlock());
@@ -533,10 +568,10 @@ template <class T> class Guarded {
         return told;
     }
 
-    // A lock ends at a multiple of 16 bytes, so its last cache line ends here.
+    // A lock ends at a multiple of 16 bytes, so these bytes reach to the end of its last cache line.
     static constexpr std::size_t apart = 64 - alignof(qolb_lock);
 
-    mutable Lock lock_; // it is entered to read the value, too
+    mutable Lock lock_; // mutable, because a thread that only reads the value also enters it
     char apart_[apart] = {};
     T value_;
 };
@@ -550,22 +585,28 @@ template <class T> using guarded = Guarded<T>;
 //     qolb::Entered turn = co_await qolb::enter(lock, loop); // true if entered; leaves at its end, in any thread
 //     qolb::Got got = co_await qolb::turn(node, loop);       // then qolb::Guard turn(node, std::adopt_lock)
 //
-// A loop runs what was posted to it: `void post(Ready &)` from any thread, and `void unpost(Ready &)`, behind which it
-// will not run, by its own thread. The example loop.cpp has one. A coroutine that waits may be destroyed by the loop's
-// thread: its request is withdrawn. Put the result in a variable first: GCC 12 breaks `if (co_await ..)` and `switch`.
+// A loop is an object of the program that runs what is posted to it. It has two functions. Any thread may call
+// `void post(Ready &)`. Only the loop's own thread calls `void unpost(Ready &)`, after which the loop does not run the
+// object. The example loop.cpp has such a loop.
+//
+// The loop's thread may destroy a coroutine that waits, whose request is then withdrawn. Assign the result of co_await
+// to a variable, because GCC 12 miscompiles `if (co_await ..)` and `switch (co_await ..)`.
+
+// What a loop runs.
 class Ready {
   public:
     virtual void run() = 0;
     Ready *next = nullptr, *before = nullptr;
-    bool posted = false; // under the loop's mutex
+    bool posted = false; // for the loop, which protects it by its mutex
 
   protected:
     ~Ready() = default;
 };
 
-// Runs at once what is posted, in the thread that releases the line, behind its release. A release in what runs there
-// makes its own calls after that has returned, or when a node is told busy there, or, if 32 are put off, at once.
-// Coroutines that wait must not be destroyed while another thread may release the line.
+// A loop without a thread of its own: the thread that releases the line runs what is posted at once, after the release.
+// If the coroutine that runs there releases a line or lock itself, the notifications of this release are put off until
+// the coroutine has returned (NOTIFICATIONS in qolb_task(3)). A coroutine that waits must not be destroyed while
+// another thread may release the line.
 struct Inline {
     void post(Ready &it) {
         qolb_notify_done();
@@ -576,6 +617,7 @@ struct Inline {
 
 namespace detail {
 
+// What a coroutine awaits, whose notification posts it to the loop.
 template <class Loop> class Waits : public Ready {
   public:
     explicit Waits(Loop &loop) : loop_(loop) {}
@@ -583,7 +625,7 @@ template <class Loop> class Waits : public Ready {
     Waits &operator=(const Waits &) = delete;
 
   protected:
-    // The coroutine may have been destroyed when this returns.
+    // Posts the coroutine to its loop. The coroutine may have been destroyed when this returns.
     static void call(void *arg) {
         auto *it = static_cast<Waits *>(arg);
         it->loop_.post(*it);
@@ -598,6 +640,7 @@ template <class Loop> class Waits : public Ready {
 
 } // namespace detail
 
+// What `turn` returns: co_await of it requests the line for a node, and waits until the node holds the line.
 template <class Loop> class Turn final : public detail::Waits<Loop> {
   public:
     Turn(qolb_node *node, Loop &loop) : detail::Waits<Loop>(loop), node_(node) {}
@@ -606,7 +649,7 @@ template <class Loop> class Turn final : public detail::Waits<Loop> {
         this->got_ = qolb_enqolb(node_);
         return this->got_ != QOLB_QUEUED;
     }
-    // Once the call is wanted another thread may resume the coroutine, which destroys this.
+    // Once the notification is requested, another thread may resume the coroutine, which destroys this object.
     bool await_suspend(std::coroutine_handle<> waiter) {
         this->waiter_ = waiter;
         this->waits_ = true;
@@ -624,7 +667,7 @@ template <class Loop> class Turn final : public detail::Waits<Loop> {
         default: return Got::misuse;
         }
     }
-    // A call that was too early is wanted again.
+    // Polls after a notification. If that was too early, this requests another one.
     void run() override {
         qolb_result got = qolb_notify(node_, this->call, static_cast<detail::Waits<Loop> *>(this));
         if (got == QOLB_WAITING) return;
@@ -643,7 +686,8 @@ template <class Loop> class Turn final : public detail::Waits<Loop> {
     qolb_node *node_;
 };
 
-// A turn of a lock.
+// A guard of a lock that a coroutine has entered: it leaves the lock when it is destroyed, in any thread. It is false
+// if the coroutine has not entered, and then `answer` says why.
 class Entered {
   public:
     Entered(qolb_result got, const qolb_task &task) : got_(got), task_(task) {}
@@ -662,6 +706,7 @@ class Entered {
     qolb_task task_;
 };
 
+// What `enter` returns: co_await of it enters the lock.
 template <class Loop> class Enter final : public detail::Waits<Loop> {
   public:
     Enter(qolb_lock *which, Loop &loop) : detail::Waits<Loop>(loop), lock_(which) {}
@@ -675,7 +720,7 @@ template <class Loop> class Enter final : public detail::Waits<Loop> {
         this->got_ = got;
         return false;
     }
-    // The turn has the task from here on, so the next co_await enters with another.
+    // The guard takes over the task, so the next co_await enters with another one.
     Entered await_resume() { return Entered(this->got_, std::exchange(task_, qolb_task QOLB_TASK_INIT)); }
     void run() override {
         qolb_result got = qolb_task_poll(&task_);
@@ -695,8 +740,10 @@ template <class Loop> class Enter final : public detail::Waits<Loop> {
     qolb_task task_ = QOLB_TASK_INIT;
 };
 
+// Enters a lock from a coroutine that `loop` runs: co_await enter(lock, loop) returns an Entered.
 template <class Loop> Enter<Loop> enter(Lock &which, Loop &loop) { return Enter<Loop>(which.native_handle(), loop); }
 
+// Requests a line from a coroutine that `loop` runs: co_await turn(node, loop) returns a Got, which may be busy.
 template <class Loop> Turn<Loop> turn(Node &node, Loop &loop) { return Turn<Loop>(node.native_handle(), loop); }
 
 #endif

@@ -1,10 +1,10 @@
-# For gdb: which thread of a stopped program, or of its core dump, holds a qolb_lock.
+# For gdb: shows which thread of a stopped program, or of its core dump, holds a qolb_lock.
 #
 #   (gdb) source PREFIX/share/qolb/qolb.gdb
 #   (gdb) qolb-holder &lock
 #
-# It needs the library's symbol qolb_own_, the thread's table of locks (c/src/lock/turns.c), so the file that has the
-# library must not be stripped; and one copy of the library in the program.
+# It needs the library's symbol qolb_own_, the thread's table of locks (c/src/lock/turns.c), so the file that contains the
+# library must not be stripped. The program must have only one copy of the library.
 define qolb-holder
   set $qolb_lock = (unsigned long *) ($arg0)
   set $qolb_table = *(unsigned long *) &qolb_own_
@@ -15,7 +15,7 @@ define qolb-holder
   end
 end
 
-# Shows the current thread if it holds $qolb_lock: by one of the eight turns of its table, or by its number, in the lock.
+# Shows the current thread if it holds $qolb_lock: either one of the eight places of its table says so, or the lock has its number.
 define qolb-holds
   set $qolb_table = (unsigned long *) &qolb_own_
   set $qolb_holds = $qolb_table[64] && $qolb_table[64] == $qolb_lock[14]

@@ -1,26 +1,33 @@
-/* Any program's mutexes as locks: a library to be preloaded, for a program that knows nothing of them.
+/* The preload library: it replaces the pthread mutexes of a program by qolb_locks, without compiling the program again.
  *
  *   make -C c && LD_PRELOAD=c/build/preload.so PROGRAM        (glibc, Linux 4.14); installed as LIBDIR/qolb/preload.so
  *
- * Each ordinary mutex that the program locks gets its own qolb_lock, of half a KB, and each condition variable by which
- * it waits with one a qolb_cond. Recursive, error-checking, robust, shared and priority
- * mutexes stay the C library's, and so does one for which there is no memory. Whether a mutex is a lock of ours is
- * decided once, at its first use, until it is destroyed or initialised again.
+ * Each ordinary mutex that the program locks gets a qolb_lock of its own, which takes half a KB. Each condition
+ * variable at which the program waits with such a mutex gets a qolb_cond. Recursive, error-checking, robust, shared and
+ * priority mutexes stay with the C library, and so does a mutex for which there is no memory. Whether a mutex is
+ * replaced is decided at its first use, and holds until the mutex is destroyed or initialised again.
  *
- * As with the C library, any thread may unlock such a mutex, unlocking a free one changes nothing, and a thread that
- * locks one that it holds waits until another unlocks it. A thread may wait at a condition with a mutex that another
- * holds, or that is free. A mutex that a thread held when it forked is held in the child, and those that waited are not
- * there. A program that never destroys its mutexes keeps half a KB for each address at which it locked one. The child
- * of a fork keeps what its parent had, and takes as much again for each that it uses. A wait until a time of the clock
- * CLOCK_REALTIME does not notice that this is set meanwhile. A wait at a condition may return for no reason when a
- * thread is cancelled. A signal's handler must use no mutex: POSIX allows none, and here one that interrupts the first
- * use of the mutex that it tries waits for ever.
+ * These are as in the C library:
  *
- * QOLB_BARGING=LIMIT is the barging limit (man 3 qolb_lock): 1024, if it is not set, and 0 for strict order. A
- * lock that is opened in .preinit_array, where there is no environment yet, has 1024.
+ * - Any thread may unlock a mutex. To unlock a free mutex changes nothing.
+ * - A thread that locks a mutex which it holds waits until another thread unlocks it.
+ * - A thread may wait at a condition with a mutex that another thread holds, or that is free.
+ * - A mutex that a thread held when it forked is held in the child, which does not have the threads that waited.
  *
- * What does not call the C library's mutexes by their names is not taken in: C11's mtx_t, Rust's std::sync::Mutex, and
- * libraries that are opened with RTLD_DEEPBIND, which must not share a mutex with others then. */
+ * Limitations:
+ *
+ * - A program that never destroys its mutexes keeps half a KB for each address at which it locked a mutex. The child of
+ *   a fork keeps what its parent had, and takes as much again for each mutex that it uses.
+ * - A wait until a time of CLOCK_REALTIME does not notice that the clock is set meanwhile.
+ * - A wait at a condition may return for no reason when a thread is cancelled.
+ * - A signal handler must use no mutex. POSIX does not allow it either. Here, a handler that interrupts the first use
+ *   of the mutex that it tries waits for ever.
+ * - Code that does not call the C library's mutexes by their names is not affected: C11's mtx_t, Rust's
+ *   std::sync::Mutex, and libraries that are opened with RTLD_DEEPBIND. Such a library must not share a mutex with
+ *   others.
+ *
+ * QOLB_BARGING=LIMIT is the barging limit (man 3 qolb_lock). It is 1024 if the variable is not set, and 0 means strict
+ * order. A lock that is opened in .preinit_array, where there is no environment yet, has the limit 1024. */
 #define _GNU_SOURCE
 #include "preload_turns.h"
 #include <dlfcn.h>
@@ -31,7 +38,7 @@
 #include <string.h>
 #include <unistd.h>
 
-/* ---- The C library's own ---- */
+/* ---- The C library's own functions ---- */
 
 #define REAL(name, version, ...)                                          \
     static int (*real_##name(void))(__VA_ARGS__) {                        \
@@ -66,7 +73,7 @@ void qolb_refuse_(const char *name, const char *value, const char *wanted) {
     _exit(2);
 }
 
-/* The number that is written there, with digits alone; 65536 if it is another or greater. */
+/* Reads a number that consists of digits only. Returns 65536 for anything else, and for a greater number. */
 static uint32_t number_in(const char *digits) {
     uint32_t number = *digits ? 0 : BARGING;
     for (; *digits && number < BARGING; digits++)
@@ -85,46 +92,47 @@ void qolb_begin_(void) {
     qolb_choose_report_(barging_of_all);
 }
 
-/* At once: dlvsym waits for who is in dlopen, which may wait in a constructor for a mutex that the caller has. And it
- * forgets what dlerror would say. */
+/* Finds all functions at the program's start. Later, dlvsym could deadlock: it waits for a thread that is in dlopen,
+ * and this thread may wait in a constructor for a mutex that the caller has. dlvsym also clears what dlerror would
+ * return. */
 static void find_all(void) {
     real_mutex_init(), real_mutex_destroy(), real_mutex_lock(), real_mutex_trylock(), real_mutex_timedlock();
     real_mutex_clocklock(), real_mutex_unlock(), real_cond_destroy(), real_cond_wait(), real_cond_timedwait();
     real_cond_clockwait(), real_cond_signal(), real_cond_broadcast(), real_cancel();
 }
 
-/* At the program's start, so that wrong settings end no program in its midst. If a mutex was used in .preinit_array,
- * there was no environment then: so they are read again. */
+/* Reads the settings at the program's start, so that a wrong setting does not end a program later. If a mutex was used
+ * in .preinit_array, there was no environment at that time, so this reads the settings again. */
 __attribute__((constructor)) static void begin(void) {
     qolb_process_();
     qolb_begin_();
     find_all();
 }
 
-/* ---- A mutex's line ---- */
+/* ---- The lock of a mutex (struct line) ---- */
 
-/* A line that serves no mutex; NULL if there is no memory. */
+/* Returns a line that serves no mutex, or NULL if there is no memory. */
 static struct line *take_line(void) {
     struct line *line = qolb_take_spare_();
     if (line) return line;
     line = qolb_take_memory_(sizeof *line);
     if (!line) return NULL;
     *line = (struct line){0};
-    (void)!qolb_lock_open(&line->lock, barging_of_all); /* it is unopened */
+    (void)!qolb_lock_open(&line->lock, barging_of_all); /* this succeeds, because the lock is new */
     return line;
 }
 
-/* Of this process. A thread that has left it may still be in that call. */
+/* Returns whether nobody uses a line of this process. A thread that has left the line may not have returned yet. */
 static int is_free(struct line *line) {
     if (atomic_load(&line->waiting) || try_line(line) != QOLB_GRANTED) return 0;
     leave_line(line);
     return 1;
 }
 
-/* A mutex of ours says so in two words, which the C library uses in robust mutexes alone: the line, and a number that
- * is right for this mutex and line in this process only. So a mutex that is initialised again, also by assignment, says
- * nothing; and nor does a copy, nor one that a child has of its parent. One that stays the C library's for want of
- * memory says that, by LEFT and its address. */
+/* A mutex that is replaced says so in two of its words, which the C library uses only in robust mutexes. They are its
+ * line, and a number that is right only for this mutex and line in this process. A mutex that was initialised again,
+ * perhaps by assignment, says nothing. The same holds for a copy of a mutex, and for a mutex that a child has from its
+ * parent. A mutex that stays with the C library because there is no memory says so by LEFT and its own address. */
 #define LINE_OF(mutex) ((mutex)->__data.__list.__next)
 #define SIGN_OF(mutex) ((mutex)->__data.__list.__prev)
 #define LEFT ((void *)1)
@@ -151,17 +159,17 @@ static int is_left(const pthread_mutex_t *mutex) {
 }
 
 static inline int is_ordinary(const pthread_mutex_t *mutex) {
-    int kind = mutex->__data.__kind & ~(256 | 512); /* but for the flags on elision */
+    int kind = mutex->__data.__kind & ~(256 | 512); /* without the flags for lock elision */
     return kind == PTHREAD_MUTEX_NORMAL || kind == PTHREAD_MUTEX_ADAPTIVE_NP;
 }
 
 static int is_of_this_process(const struct entry *entry) { return entry->process == qolb_process_(); }
 
-/* Whether a thread held it, in the process in which it was last used. */
+/* Returns whether a thread held the mutex, in the process in which it was last used. */
 static int is_held(const struct entry *entry) { return entry->line && is_held_line(entry->line); }
 
-/* The line that the mutex gets. One that was initialised again keeps its line, if that is free; and else the line is
- * forgotten, and never used again. */
+/* Returns the line that the mutex gets. A mutex that was initialised again keeps its line if this is free. Otherwise
+ * the line is forgotten, and never used again. */
 static struct line *line_for(const struct entry *entry, const pthread_mutex_t *mutex) {
     if (entry->line && is_of_this_process(entry) && (!says_nothing(mutex) || is_free(entry->line))) return entry->line;
     return take_line();
@@ -176,14 +184,15 @@ static void remove_entry(struct entry *entry) {
     __atomic_store_n(&entry->address, NULL, __ATOMIC_RELEASE);
 }
 
-/* The mutex stays the C library's. */
+/* Leaves the mutex to the C library. */
 static void leave(pthread_mutex_t *mutex, struct entry *entry, int held) {
     if (entry) remove_entry(entry);
     say(mutex, LEFT, (uintptr_t)mutex);
     if (held) real_mutex_lock()(mutex);
 }
 
-/* Under the guard of its entry. */
+/* Decides whether the mutex is replaced, and returns its line or NULL. The caller has the guard of the mutex's entry.
+ */
 static struct line *decide_for(pthread_mutex_t *mutex) {
     struct entry *entry = qolb_find_(MUTEXES, mutex);
     int held = entry && !says_nothing(mutex) && !is_of_this_process(entry) && is_held(entry);
@@ -210,7 +219,7 @@ __attribute__((noinline)) static struct line *decide(pthread_mutex_t *mutex) {
     return line;
 }
 
-/* The mutex's line; NULL if it stays the C library's. */
+/* Returns the line of the mutex, or NULL if the mutex stays with the C library. */
 static inline struct line *line_of(pthread_mutex_t *mutex) {
     struct line *line = said(mutex);
     return line ? line : is_ordinary(mutex) ? decide(mutex) : NULL;
@@ -222,7 +231,7 @@ static int is_time(const struct timespec *end) { return end->tv_nsec >= 0 && end
 
 static int is_clock(clockid_t clock) { return clock == CLOCK_REALTIME || clock == CLOCK_MONOTONIC; }
 
-/* The nanoseconds until then; FOR_EVER for more than they can say, some 584 years. */
+/* Returns the nanoseconds until `end`, or FOR_EVER for more than 64 bits can hold, which is about 584 years. */
 static uint64_t until(clockid_t clock, const struct timespec *end) {
     struct timespec now;
     clock_gettime(clock, &now);
@@ -234,27 +243,27 @@ static uint64_t until(clockid_t clock, const struct timespec *end) {
 
 /* ---- Mutexes ---- */
 
-/* The answer of entering, as the C library returns it. */
+/* Counts the result of entering, and converts it to the error number that the C library returns. */
 static inline int told(struct line *line, uint32_t got) {
     qolb_count_(line, got);
     return got == QOLB_GRANTED ? 0 : got == QOLB_BUSY ? EBUSY : got == QOLB_TIMEDOUT ? ETIMEDOUT : EINVAL;
 }
 
-/* After the leave another thread may destroy the mutex. */
+/* Leaves the line. After that, another thread may destroy the mutex. */
 static inline int unlock(struct line *line) {
     qolb_count_leaving_(line);
     leave_line(line);
     return 0;
 }
 
-/* As in the C library, a time that is none is an error only if the mutex is not free. */
+/* Locks until `end`. As in the C library, an invalid time is an error only if the mutex is not free. */
 static int lock_until(struct line *line, clockid_t clock, const struct timespec *end) {
     if (is_time(end)) return told(line, enter_line(line, until(clock, end)));
     uint32_t got = try_line(line);
     return got == QOLB_GRANTED ? told(line, got) : EINVAL;
 }
 
-/* What the mutex was before is forgotten, at its next use. */
+/* The next use of the mutex forgets what it was before. */
 int pthread_mutex_init(pthread_mutex_t *mutex, const pthread_mutexattr_t *attributes) {
     int got = real_mutex_init()(mutex, attributes);
     if (got == 0) say(mutex, NULL, 0);
@@ -301,21 +310,21 @@ int pthread_mutex_unlock(pthread_mutex_t *mutex) {
 
 /* ---- Condition variables ---- */
 
-/* Where the thread waits with a line. */
+/* The condition at which the thread waits with a line. */
 static BY_THREAD struct {
     qolb_cond *at;
-    unsigned cancels; /* as they were before it looked whether it is cancelled */
+    unsigned cancels; /* the number of cancelled threads before this one checked whether it is cancelled */
 } own_wait;
 
-/* The number of threads that were cancelled. */
+/* The number of threads that have been cancelled. */
 static atomic_uint cancels;
 
 static int is_waited_at(const struct entry *entry) {
     return is_of_this_process(entry) && __atomic_load_n(&entry->cond.own, __ATOMIC_SEQ_CST);
 }
 
-/* Where threads wait with lines for this condition; NULL if there is no memory. Those that waited in the parent of this
- * process are not here. */
+/* Returns the qolb_cond of a condition variable, which is made if it has none, or NULL if there is no memory. After a
+ * fork the child makes a new one, because it does not have the threads that waited in the parent. */
 static qolb_cond *cond_of(const pthread_cond_t *condition) {
     atomic_uint *guard = qolb_guard_table_(CONDITIONS, condition);
     struct entry *entry = qolb_find_(CONDITIONS, condition);
@@ -328,7 +337,7 @@ static qolb_cond *cond_of(const pthread_cond_t *condition) {
     return entry ? &entry->cond : NULL;
 }
 
-/* Without memory it waits a moment, and returns for no reason. */
+/* Waits for a moment and returns for no reason, because there is no memory for a qolb_cond. */
 static int wait_a_moment(struct line *line, uint64_t nanoseconds) {
     enum { MOMENT = 1000000 };
     atomic_uint word = 0;
@@ -339,8 +348,8 @@ static int wait_a_moment(struct line *line, uint64_t nanoseconds) {
     return nanoseconds <= MOMENT ? ETIMEDOUT : 0;
 }
 
-/* Waits with a line at most this long, and has it again. A thread may be cancelled here, as where the C library waits,
- * with the mutex locked. */
+/* Waits at a condition with a line, for at most `nanoseconds`, and enters the line again. As in the C library, a thread
+ * can be cancelled here, and then has the mutex locked. */
 static int wait_at(struct line *line, pthread_cond_t *condition, uint64_t nanoseconds) {
     own_wait.cancels = atomic_load(&cancels);
     pthread_testcancel();
@@ -378,7 +387,7 @@ int pthread_cond_clockwait(pthread_cond_t *condition, pthread_mutex_t *mutex, cl
     return line ? wait_until(line, condition, clock, end) : real_cond_clockwait()(condition, mutex, clock, end);
 }
 
-/* Where threads wait with lines for this condition; NULL if none does. */
+/* Returns the qolb_cond of a condition variable at which threads wait with lines, or NULL if no thread does. */
 static qolb_cond *waited_at(const pthread_cond_t *condition) {
     atomic_uint *guard = qolb_guard_table_(CONDITIONS, condition);
     struct entry *entry = qolb_find_(CONDITIONS, condition);
@@ -387,8 +396,8 @@ static qolb_cond *waited_at(const pthread_cond_t *condition) {
     return cond;
 }
 
-/* The C library's condition is signalled, too: a thread may wait there with a mutex of the C library, and a signal may
- * wake more than one. */
+/* The condition of the C library is signalled as well, because a thread may wait there with a mutex of the C library.
+ * POSIX allows a signal to wake more than one thread. */
 int pthread_cond_signal(pthread_cond_t *condition) {
     qolb_cond *cond = waited_at(condition);
     if (cond) qolb_cond_signal(cond);
@@ -412,16 +421,16 @@ int pthread_cond_destroy(pthread_cond_t *condition) {
 
 /* ---- Cancelling ----
  *
- * A thread that is cancelled while it waits with a line has to return. So whoever cancels one wakes all that wait with
- * lines, which may return for no reason. A waiter puts itself into its list before it sleeps, and then loads the number
- * of those that were cancelled; who cancels adds to that number before it looks at the lists. So one of the two sees
- * the other.
+ * A thread that is cancelled while it waits with a line has to return. Therefore the thread that cancels it wakes all
+ * threads that wait with lines; a wait may return for no reason. A waiter puts itself into its list before it sleeps,
+ * and then loads the number of cancelled threads. The cancelling thread adds 1 to this number before it looks at the
+ * lists. So one of the two sees the other.
  *
- * A thread that is cancelled before it is in its list may be signalled there before it sleeps. It ends all the
- * same, and another waiter has to get that signal. So a waiter loads the number again after its wait, and if it has
- * changed wakes all that wait at the condition. If the waiter is cancelled after that load, who cancels looks at the
- * lists later still. The condition may have been destroyed meanwhile: its entry stays, perhaps for another condition,
- * and its waiters return for no reason. */
+ * A thread that is cancelled before it is in its list may receive a signal before it sleeps. It ends nevertheless, so
+ * another waiter has to get this signal. Therefore a waiter loads the number again after its wait. If the number has
+ * changed, the waiter wakes all threads that wait at the condition. If the waiter is cancelled after this load, the
+ * cancelling thread looks at the lists even later. The condition may have been destroyed meanwhile. Its entry stays,
+ * perhaps for another condition, whose waiters return for no reason. */
 
 static void wake_all(struct entry *entry) {
     if (is_waited_at(entry)) qolb_cond_broadcast(&entry->cond);
@@ -434,7 +443,8 @@ int pthread_cancel(pthread_t thread) {
     return got;
 }
 
-/* The library's sleep, by the linker's option --wrap. At a condition a thread sleeps while its word is 0. */
+/* Replaces the sleep of the library, by the linker's option --wrap. A thread at a condition sleeps while its word is 0.
+ */
 HIDDEN void __real_qolb_sleep_at_(atomic_uint *word, unsigned value, uint64_t nanoseconds);
 HIDDEN void __wrap_qolb_sleep_at_(atomic_uint *word, unsigned value, uint64_t nanoseconds);
 

@@ -1,7 +1,8 @@
-/* The memory of preload.c: what the kernel gives, the tables, and the number of the process (preload.h).
+/* The memory of the preload library: maps from the kernel, the tables by address, and the number of the process
+ * (preload.h).
  *
- * Nothing here calls malloc: the program's may lock a mutex, and would come back here. Few large maps serve all locks,
- * as the kernel limits their number. */
+ * Nothing here calls malloc, because the program's malloc may lock a mutex and would come back here. A few large maps
+ * serve all locks, because the kernel limits the number of maps. */
 #define _GNU_SOURCE
 #include "preload.h"
 #include <errno.h>
@@ -15,7 +16,8 @@ static struct cleared *const own = &qolb_cleared_;
 
 /* ---- Processes ---- */
 
-/* The system gives a number again once its process has ended: so the time is added to it. */
+/* Makes a number for the process. The time is part of it, because the system uses a process number again once its
+ * process has ended. */
 static uint64_t drawn(void) { return ((uint64_t)getpid() << 40 ^ qolb_now_() << 1) | 1; }
 
 uint64_t qolb_process_(void) {
@@ -59,7 +61,7 @@ static int map_more(void) {
     return 1;
 }
 
-/* A block that was given back, or a new one, by its number of units. Under the guard. */
+/* Returns a block of this number of units, which was given back or is new. The caller has the guard. */
 static void *block_of(size_t units) {
     void *block = own->given_back[units];
     if (block) {
@@ -89,8 +91,8 @@ static void give_memory(void *block, size_t size) {
     return_guard(&own->guard);
 }
 
-/* The library's own malloc and free, by the linker's option --wrap. Its realloc calls these (heap.c). The bytes before
- * each block have its size. */
+/* The malloc and free that the library itself calls, by the linker's option --wrap. Its realloc calls them, too
+ * (heap.c). The bytes before each block have its size. */
 HIDDEN void *__wrap_malloc(size_t size);
 HIDDEN void __wrap_free(void *block);
 
@@ -126,9 +128,9 @@ void qolb_give_spare_(struct line *line) {
 
 /* ---- Tables ----
  *
- * Each stripe of a table is a tree, in which two bits of an address's hash lead from each entry to the next. It grows
- * by one entry a time, which is put into its place by one store: so a child that was forked meanwhile finds it
- * whole. */
+ * Each stripe of a table is a tree, in which two bits of the address's hash lead from one entry to the next. A tree
+ * grows by one entry at a time, which one store puts into its place. Therefore a child that is forked meanwhile finds
+ * the tree whole. */
 
 static struct entry *root[TABLES][STRIPES];
 

@@ -1,9 +1,15 @@
-/* What a process did with its mutexes, counted for tools and tests: in the library of `make -C c preload-report` alone.
+/* Counts what a process does with its mutexes, for tools and tests. Only the library of `make -C c preload-report` has
+ * this file.
  *
- * With QOLB_REPORT=/FOLDER/FILE each process of the program that ends by exit, not by _exit, quick_exit, exec or a
- * signal, appends a line to that file. The line says the barging limit; how many mutexes were ours in all, and at most
- * at a time; how often a mutex was granted, how often a call timed out, and how often a mutex was not free at once; and
- * how often two threads were in one mutex at the same time, which must be 0. The child of a fork counts from 0 on. */
+ * With QOLB_REPORT=/FOLDER/FILE, each process of the program appends a line to this file when it ends by exit. A
+ * process that ends by _exit, quick_exit, exec or a signal appends nothing. The line says:
+ *
+ * - the barging limit;
+ * - how many mutexes were replaced in all, and at most at a time;
+ * - how often a mutex was granted, how often a call timed out, and how often a mutex was not free at once;
+ * - how often two threads held one mutex at the same time, which must be 0.
+ *
+ * The child of a fork counts from 0 on. */
 #define _GNU_SOURCE
 #ifndef QOLB_REPORT
 #define QOLB_REPORT
@@ -17,13 +23,13 @@
 
 static struct {
     uint32_t barging;
-    char file[4096]; /* empty: nothing is counted */
+    char file[4096]; /* if it is empty, nothing is counted */
 } settings;
 
 static atomic_ullong mutexes, grants, timed_out, not_free, violations;
 static atomic_llong at_once, most_at_once;
 
-/* A copy of the name, as a program may write its title over its environment. */
+/* Copies the name, because a program may write its title over its environment. */
 void qolb_choose_report_(uint32_t barging) {
     const char *name = getenv("QOLB_REPORT");
     settings.barging = barging;
@@ -41,7 +47,8 @@ void qolb_count_(struct line *line, uint32_t got) {
     if (atomic_fetch_add(&line->inside, 1) != 0) violations++;
 }
 
-/* A mutex that nobody holds was not counted, nor one that was entered before the settings were read. */
+/* A thread may leave a mutex that nobody holds, or one that was entered before the settings were read. Neither was
+ * counted. */
 void qolb_count_leaving_(struct line *line) {
     if (settings.file[0] && atomic_load(&line->inside) > 0) atomic_fetch_sub(&line->inside, 1);
 }
@@ -61,7 +68,7 @@ void qolb_count_anew_(void) {
     at_once = most_at_once = 0;
 }
 
-/* It may run in the midst of the program's own end: so it allocates nothing. */
+/* It allocates nothing, because it may run while the program itself ends. */
 __attribute__((destructor)) static void report(void) {
     char text[200];
     qolb_process_();

@@ -1,10 +1,12 @@
-/* Entering and leaving a mutex's lock, for preload.c. Any thread may leave, and one that holds it and enters waits
- * until another leaves: so the turn is kept beside the lock and not in a thread's table. */
+/* Entering and leaving the lock of a mutex, for preload.c. As with a pthread mutex, any thread may leave the lock, and
+ * a thread that enters a lock which it holds waits until another thread leaves it. Therefore the turn of the holder is
+ * kept beside the lock, and not in a thread's table (../src/lock/turns.c). */
 #ifndef QOLB_PRELOAD_TURNS_H
 #define QOLB_PRELOAD_TURNS_H
 
 #include "preload.h"
 
+/* Keeps the turn of a thread that has entered. */
 static inline uint32_t owned(struct line *line, const struct turn *at, uint32_t got) {
     if (got != QOLB_GRANTED && got != QOLB_TIMEDOUT) return got;
     line->at = *at;
@@ -29,7 +31,7 @@ static inline uint32_t try_line(struct line *line) {
     return owned(line, &at, qolb_try_at_(lock_of(&line->lock), &at));
 }
 
-/* Whoever takes the owner away has its turn: 0 if none does. */
+/* Takes the holder's turn, for the thread that sets `owner` to 0. Returns 0 if no thread holds the line. */
 static inline int take_turn_of(struct line *line, struct turn *at) {
     uint64_t owner = atomic_load_explicit(&line->owner, memory_order_acquire);
     if (!owner || !atomic_compare_exchange_strong(&line->owner, &owner, 0)) return 0;
@@ -45,7 +47,8 @@ static inline void leave_line(struct line *line) {
 
 static inline int is_held_line(const struct line *line) { return atomic_load(&line->owner) != 0; }
 
-/* As in the C library, the turn may be another thread's; and if none has one, this thread enters first. */
+/* Waits at a condition. As in the C library, another thread may hold the mutex. If no thread does, this thread enters
+ * first. */
 static inline uint32_t wait_with_line(qolb_cond *cond, struct line *line, uint64_t nanoseconds) {
     struct turn at;
     while (!take_turn_of(line, &at)) (void)!enter_line(line, FOR_EVER);

@@ -1,11 +1,12 @@
-/* Prints the numbers of qolb_layout.h, one on each line in the header's order, as the proved part has them: NODES
- * numbers that crates/qolb_nodes/src/layout.rt tells, LOCKS numbers that crates/qolb_locks/src/layout.rt tells, and the
- * bytes of the blocks that opening a line or a lock allocates. tools/snapshot writes the header by this program, and
- * `make -C c check` compares the two.
+/* Prints the numbers of qolb_layout.h, one on each line in the order of the header. These are NODES numbers that the
+ * nodes return (crates/qolb_nodes/src/layout.rt), LOCKS numbers that the locks return
+ * (crates/qolb_locks/src/layout.rt), and the sizes of the blocks that opening a line or a lock allocates.
+ * tools/snapshot writes the header by this program, and `make -C c check` compares the two.
  *
  *   layout NODES LOCKS
  *
- * It is linked with the proved part alone: so it has its own functions for the proved part's memory. */
+ * The program is linked with the proved part alone, so it has functions of its own for the memory of the proved part.
+ */
 #include "../src/proved.h"
 #include <stdio.h>
 #include <stdlib.h>
@@ -106,7 +107,7 @@ static struct measured measure_lines(void) {
     return ring;
 }
 
-/* Prints the numbers that a crate tells, of which there are this many. */
+/* Prints the numbers that a crate returns, of which there are this many. */
 static void print_told(void (*tell)(uint64_t *numbers), const char *many_told) {
     enum { MOST_TOLD = 256 };
     uint64_t told[MOST_TOLD];

@@ -1,4 +1,4 @@
-//! Locks that are strict, in the order of tickets, or barging, with a limit. A [`Mutex`] guards a value, as `std::sync::Mutex` does.
+//! Queue locks, strict or barging, and lines, which hand over 64 bytes together with the lock. A [`Mutex`] protects a value, as `std::sync::Mutex` does.
 //!
 //! ```
 //! use qolb::{Condition, Mutex, Stopped};
@@ -17,41 +17,50 @@
 //! }
 //! ```
 //!
-//! A program takes the crate that is installed, `qolb = { path = "PREFIX/share/qolb/rust" }`, whose build script finds the library; or, from edition
-//! 2021 on, this file as a module, `#[path = ".../qolb.rs"] mod qolb;`, and links with `-lqolb` (a library's doc tests would try its examples, which
-//! name a crate). With the crate's feature `lock_api`, `lock_api::Mutex<RawQolb, T>` is a mutex as those of `parking_lot`, whose `lock` ends the process
-//! if this thread holds it or it was shut.
+//! A program can depend on the installed crate, `qolb = { path = "PREFIX/share/qolb/rust" }`, whose build script finds the library. From edition 2021 on
+//! it can instead contain this file as a module, `#[path = ".../qolb.rs"] mod qolb;`, and link with `-lqolb`. (If a library does so, its doc tests try the
+//! examples of this file, which name a crate.) With the crate's feature `lock_api`, `lock_api::Mutex<RawQolb, T>` is a mutex like those of `parking_lot`.
+//! Its `lock` ends the process if the calling thread holds the mutex, or if the mutex was shut.
 //!
-//! # Beside `std::sync::Mutex`
+//! # How it differs from `std::sync::Mutex`
 //!
-//! - A call draws a ticket by one step, and turns are in the order of tickets, so all wait until the next thread runs. A mutex made by
-//!   [`Mutex::with_barging`] lets arriving threads overtake, a bounded number of times: take it if more threads, of any program, want processors than there are.
-//! - [`Mutex::lock`] fails if the mutex was shut ([`MutexGuard::shut`]) or this thread holds it: [`Stopped`]. There is no poison.
+//! - A mutex made by [`Mutex::new`] is strict: a thread that locks it draws a ticket with one atomic step, and the mutex serves tickets in order. All
+//!   waiting threads wait until the next one runs.
+//! - A mutex made by [`Mutex::with_barging`] lets arriving threads overtake the queue, but only a bounded number of times. Use it if more threads, of any
+//!   program, want processors than there are.
+//! - [`Mutex::lock`] fails with [`Stopped`] if the mutex was shut ([`MutexGuard::shut`]) or the calling thread holds it. A mutex is never poisoned.
 //! - [`Mutex::try_lock_for`] has a timeout, and [`Mutex::lock_async`] is for tasks.
-//! - The lock's 320 bytes are put in a box at its first use: as at any allocation, the process ends if there is no memory.
+//! - The 320 bytes of the lock are put into a box at the first use. If there is no memory for the box, the process ends, as for any failed allocation.
 //!
 //! # What is proved
 //!
-//! What decides who is next in a lock, its core, is proved: it has at most one holder, it serves tickets in order, with a barging limit of B it counts at
-//! most B - 1 turns of threads without a ticket from one served waiter to the next, and it tells a releasing thread of a sleep that the next waiter has
-//! announced (with barging, announced while that thread was in). Of a line it is proved that it has at most one holder, that its requests end in their
-//! order, and which bytes each holder receives.
+//! What is proved of a lock is proved of its core, the part that decides which thread is next:
 //!
-//! Not proved: this file, and the C code below it, which waits, wakes, and has time limits, conditions and tasks. Both are tested. The C code was also
-//! model-checked, at the commit that PROVED names, in small scenes: two or three threads, at most two switches of the schedule, and stand-ins for the
-//! core and the lines. How many threads may overtake one waiter, and that a holder sees what earlier holders wrote, is argued. Nothing is proved of the
-//! guarded value itself, nor that a waiting thread is ever served.
+//! - The core has at most one holder.
+//! - It serves tickets in order.
+//! - With a barging limit of B it counts at most B - 1 acquisitions of barging threads, which enter without a ticket, between two consecutive grants to
+//!   waiting threads.
+//! - It tells a releasing thread whether the next waiter has announced that it is about to sleep. In a barging lock this covers announcements that were
+//!   made while the releasing thread held the lock.
+//!
+//! Of a line it is proved that it has at most one holder, that its requests end in the order in which they were made, and which bytes each holder
+//! receives.
+//!
+//! This file is not proved, and neither is the C code below it, which waits and wakes and implements timeouts, conditions and tasks. Both are tested. The
+//! C code was also model-checked, at the commit that PROVED names, in small scenes: two or three threads, at most one context switch for a lock and two
+//! for a line, and stand-ins for the core and the lines. Two claims are argued: how many threads may overtake one waiter, and that a holder sees what
+//! earlier holders wrote. Nothing is proved of the protected value itself, nor that a waiting thread is ever granted the lock.
 //!
 //! # Nodes
 //!
-//! A line is 64 bytes that 1 to 200 nodes share; whoever is granted the line is handed its bytes. A [`Node`] is moved and never copied.
+//! A line is 64 bytes that 1 to 200 nodes share. A node that is granted the line is handed its bytes. A [`Node`] is moved and never copied.
 //!
 //! ```
 //! use qolb::{Answer, Bytes, Kind};
 //!
 //! fn main() -> Result<(), Answer> {
 //!     let mut nodes = qolb::open(Kind::DEFAULT, 1, 2, None, &Bytes([0; 64]))?;
-//!     nodes[0].lock()?.add_to_lane(0, 1); // waits; the guard releases
+//!     nodes[0].lock()?.add_to_lane(0, 1); // lock() waits; the guard releases the line when it is dropped
 //!     let mut turn = nodes[1].lock()?;
 //!     assert_eq!(turn.lane(0), 1);
 //!     turn.shut();
@@ -62,21 +71,24 @@
 //!
 //! # Tasks
 //!
-//! A task of an executor waits without a thread: `node.turn().await` gives a node's turn ([`Node::turn`]), `mutex.lock_async().await` one of a [`Mutex`].
-//! These futures need no particular executor. They ask when they are first polled; tasks and threads are in one queue. A future that is dropped withdraws
-//! its request. The guards of `lock_async` may go from thread to thread, if the value may. A waker that panics in `wake` ends the process;
-//! one that polls the task at once, and keeps its guard, may keep it from the thread in whose leave or wait it is called.
+//! A task of an executor waits without blocking a thread: `node.turn().await` returns a guard of a node's line ([`Node::turn`]), and
+//! `mutex.lock_async().await` returns a guard of a [`Mutex`]. These futures work with any executor. They make their request when they are first polled,
+//! and tasks and threads wait in one queue. A future that is dropped withdraws its request. The guards of `lock_async` may go to another thread, if the
+//! value may.
+//!
+//! The thread that releases calls the task's waker. A waker that panics in `wake` ends the process. A waker that polls the task at once, and keeps the
+//! guard that it gets, may keep the lock from the thread in whose release or wait the waker is called.
 //!
 //! # A panic while a line or a mutex is held
 //!
-//! While the thread unwinds, the guard is dropped, which releases the line or the mutex; if a node's guard was leaked, the node releases the line when the
-//! node is dropped. The holder's writes until then stay, and no thread is told. If a half-made change must not be seen, change a copy and write it last.
-//! With `panic = "abort"` the process ends, and its lines with it.
+//! While the thread unwinds, the guard is dropped, and this releases the line or the mutex. If the guard of a node was leaked, the node releases the line
+//! when it is dropped. The writes that the holder has made stay, and no other thread is told of the panic. If no thread may see an unfinished change, make
+//! the change in a copy and write the copy back at the end. With `panic = "abort"` the process ends, and its lines end with it.
 //!
 //! # The thread sanitizer
 //!
-//! The sanitizer does not see into the library. With `--cfg qolb_tsan` beside `-Zsanitizer=thread` it is told of each turn of a [`Mutex`], and of a
-//! [`RawQolb`], and so does not report the data that these guard.
+//! The sanitizer does not see into the library. With `--cfg qolb_tsan` beside `-Zsanitizer=thread` it is told of each acquisition and each release of a
+//! [`Mutex`] and of a [`RawQolb`], and so it reports no race between accesses that these protect.
 #![allow(dead_code, unexpected_cfgs)]
 
 use std::cell::UnsafeCell;
@@ -98,22 +110,22 @@ use std::time::{Duration, Instant};
 #[derive(Clone, Copy, Debug, PartialEq, Eq)]
 #[repr(u32)]
 pub enum Kind {
-    /// An array queue: nodes take tickets and wait on cells.
+    /// A ring, whose nodes draw a ticket and wait on a cell of their own.
     Ring = 0,
-    /// A link line: each node links itself to its predecessor. Only this kind has the two calls `prepend` and `link`.
+    /// A link line, whose nodes link themselves to the node before them. Only this kind has requests in two calls, `prepend` and `link`.
     Link = 1,
-    /// Partitioned tickets: nodes wait on numbered cells. A release that passes no withdrawn request takes one step on shared words, where a ring's
-    /// takes two.
+    /// A ticket line (partitioned tickets), whose nodes wait on numbered cells. A release that passes no withdrawn request takes one atomic step on shared
+    /// words, where that of a ring takes two.
     Ticket = 2,
 }
 
 impl Kind {
-    /// The kind to take unless memory is short: a ticket line.
+    /// The kind to use unless memory is short: a ticket line.
     pub const DEFAULT: Kind = Kind::Ticket;
-    /// All kinds, each at the place of its number.
+    /// All kinds, in the order of their numbers.
     pub const ALL: [Kind; 3] = [Kind::Ring, Kind::Link, Kind::Ticket];
 
-    /// Returns the kind's name, as the program `qolb` takes it.
+    /// Returns the name of the kind, as the program `qolb` takes it.
     pub const fn name(self) -> &'static str {
         match self {
             Kind::Ring => "ring",
@@ -135,40 +147,40 @@ impl Default for Kind {
     }
 }
 
-/// The answer of a call.
+/// The result of a call.
 #[derive(Clone, Copy, Debug, PartialEq, Eq)]
 pub enum Answer {
-    /// Done.
+    /// The call did what it says.
     Done,
-    /// The node holds the line, or the thread the lock.
+    /// The node holds the line, or the thread or the task holds the lock.
     Granted,
-    /// The request waits.
+    /// The request waits in the queue.
     Queued,
     /// The request still waits.
     Waiting,
-    /// The request is behind another, and not linked yet.
+    /// The request is behind another one, and must be linked.
     Linking,
     /// The request is withdrawn.
     Withdrawn,
-    /// The line is closed or the lock shut, and the request has ended.
+    /// The line is closed or the lock is shut, and the request has ended.
     Closed,
-    /// Of a try: another has it. Of a node: its last request is not cleared yet.
+    /// The call would have to wait, or the node's last request is still in the queue.
     Busy,
-    /// The node or lock does not allow the call. Nothing changed.
+    /// The node or lock does not allow the call, and nothing changed.
     Misuse,
-    /// Out of memory. Nothing changed.
+    /// The library could not allocate memory, and nothing changed.
     NoMemory,
-    /// A line has 1 to 200 nodes.
+    /// The number of nodes is not 1 to 200.
     BadNodes,
-    /// A lease has at least one turn.
+    /// The lease is 0.
     BadLease,
-    /// No such kind of line.
+    /// There is no such kind of line.
     BadKind,
-    /// Fewer handles than nodes.
+    /// There are fewer handles than nodes.
     TooFew,
-    /// A handle has a node already.
+    /// A handle that the call would fill has a node.
     Occupied,
-    /// The time is over, and the request is withdrawn.
+    /// The timeout expired, and the request is withdrawn.
     TimedOut,
 }
 
@@ -195,10 +207,10 @@ impl fmt::Display for Answer {
     }
 }
 
-/// An error, so that [`open`] may be called with `?` in a function with any error type.
+/// An `Answer` is an error, so that a function with any error type can call [`open`] with `?`.
 impl std::error::Error for Answer {}
 
-/// So that `?` goes from a lock's error to that of [`open`].
+/// Converts the error of a lock, so that `?` works in a function that returns the error of [`open`].
 impl From<Stopped> for Answer {
     fn from(stopped: Stopped) -> Answer {
         match stopped {
@@ -208,12 +220,12 @@ impl From<Stopped> for Answer {
     }
 }
 
-/// The cause for which a line or a lock can't be had.
+/// The reason why a line or a lock cannot be acquired.
 #[derive(Clone, Copy, Debug, PartialEq, Eq)]
 pub enum Stopped {
-    /// The line is closed, or the lock shut.
+    /// The line is closed, or the lock is shut.
     Closed,
-    /// The node waits or holds already, or the thread holds the lock. Nothing changed.
+    /// The node has already requested the line, or the thread already holds the lock. Nothing changed.
     Misuse,
 }
 
@@ -233,19 +245,19 @@ impl std::error::Error for Stopped {}
 pub enum State {
     /// There is no node.
     Empty,
-    /// It has made no request, or its turn is over.
+    /// The node has made no request, or has released the line.
     Idle,
-    /// It has made a request and must link it.
+    /// The node has made a request by `prepend`, and must link it.
     Linking,
-    /// It waits.
+    /// The node's request waits.
     Queued,
-    /// It holds the line.
+    /// The node holds the line.
     Holding,
-    /// Its turn in a link line is over, and its successor had not linked yet.
+    /// The node has released a link line to which its successor had not linked itself.
     Left,
-    /// Its request was withdrawn.
+    /// The node's request was withdrawn.
     Rolled,
-    /// It knows that the line is closed.
+    /// The node was told that the line is closed.
     Shut,
 }
 
@@ -307,26 +319,31 @@ unsafe extern "C" {
     fn qolb_cond_broadcast(cond: *mut RawCond) -> u32;
 }
 
-/// The version of the library: 10,000 for each major version, 100 for each minor one.
+/// Returns the version of the library: 10,000 times the major version, plus 100 times the minor version, plus the patch version.
 pub fn version() -> u32 {
     qolb_version()
 }
 
-/// A node of a line. If it is dropped, it withdraws its request, or releases the line that it holds.
+/// A node of a line. A node that is dropped withdraws its request, or releases the line if it holds it.
 pub struct Node(UnsafeCell<Handle>);
 
-// SAFETY: a handle may go to another thread (qolb_node(3), WHAT YOU MUST KEEP). Of the proved part that is proved, as `send` of `Handle` in crates/qolb_nodes;
-// the C around it keeps what it has of a node in the node's block. No call takes a `&Node`, so nothing is shared.
+// SAFETY: a handle may go to another thread (qolb_node(3), WHAT YOU MUST KEEP). For the proved part this is proved, as `send` of `Handle` in
+// crates/qolb_nodes. The C code around it keeps what it has of a node in the node's block. No call takes a `&Node`, so nothing is shared.
 unsafe impl Send for Node {}
 
 /// Opens a line and returns its nodes in order.
 ///
-/// The line closes at the lease's last turn, if it has a lease. The caller chooses the label, which [`Node::label`] returns.
+/// `lease` is the number of acquisitions after which the line closes; a line without a lease has no such limit. `label` is any number, which
+/// [`Node::label`] returns.
+///
+/// # Errors
+///
+/// Returns the first that applies of `BadKind`, `BadNodes`, `BadLease` and `NoMemory`.
 pub fn open(kind: Kind, label: u64, nodes: u64, lease: Option<u64>, opening: &Bytes) -> Result<Vec<Node>, Answer> {
     let mut handles: Vec<Handle> = (0..200).map(|_| Handle { own: null_mut() }).collect();
-    // 2^64 - 1 means no lease; as a lease it is never used up.
+    // 2^64 - 1 means that there is no lease. As a lease it would never be used up.
     let lease = lease.unwrap_or(u64::MAX);
-    // SAFETY: the pointer is to this many handles, all empty.
+    // SAFETY: the pointer leads to this number of handles, which are all empty.
     let answer = unsafe { qolb_open(kind as u32, label, nodes, lease, opening, handles.as_mut_ptr(), handles.len()) };
     match told(answer) {
         Answer::Done => {
@@ -337,68 +354,82 @@ pub fn open(kind: Kind, label: u64, nodes: u64, lease: Option<u64>, opening: &By
     }
 }
 
-/// Returns the bytes of heap that an open line of this kind and this number of nodes keeps, as the library asks `malloc` for them.
+/// Returns the bytes of heap memory that an open line of this kind and number of nodes keeps, as the library requests them from `malloc`.
 ///
-/// `None` if [`open`] refuses: a line has 1 to 200 nodes. The `Vec` that [`open`] returns is not counted.
+/// Returns `None` if [`open`] would refuse the number of nodes. The `Vec` that [`open`] returns is not counted.
 pub fn memory(kind: Kind, nodes: u64) -> Option<u64> {
     Some(qolb_memory(kind as u32, nodes)).filter(|bytes| *bytes != 0)
 }
 
-/// The node's number, its line's label, and its state.
+/// Shows the number of the node, the label of its line, and its state.
 impl fmt::Debug for Node {
     fn fmt(&self, f: &mut fmt::Formatter<'_>) -> fmt::Result {
-        // SAFETY: no call has the handle now, as each borrows the node and returns it; nor does another thread, as a node is not `Sync`.
+        // SAFETY: no call uses the handle now, because each call borrows the node until it returns. No other thread does, because a node is not `Sync`.
         let handle = unsafe { &mut *self.0.get() };
         let (number, label, state) = unsafe { (qolb_number(handle), qolb_label(handle), qolb_state(handle)) };
         f.debug_struct("Node").field("number", &number).field("label", &label).field("state", &state_told(state)).finish()
     }
 }
 
-// SAFETY of all calls: only this node has the handle, by `&mut self`, and the other references overlap nothing.
+// SAFETY of all calls: only this node has the handle, by `&mut self`, and the other references do not overlap it.
 impl Node {
-    /// Requests the line, and does not wait: `Granted`, `Queued`, `Closed`, `Busy`; `Misuse` if it waits or holds.
+    /// Requests the line, and does not wait.
+    ///
+    /// Returns `Granted`, `Queued`, `Closed`, `Busy` (the last request is still in the queue), or `Misuse` (the node has already requested the line).
     #[must_use]
     pub fn enqolb(&mut self) -> Answer {
         told(unsafe { qolb_enqolb(self.0.get_mut()) })
     }
 
-    /// Polls whether the node is busy, and makes no request: `Done`, `Busy`; `Misuse` if it waits or holds.
+    /// Polls whether the node is busy, and makes no request.
+    ///
+    /// Returns `Done` (it is not busy), `Busy`, or `Misuse` (the node has already requested the line).
     #[must_use]
     pub fn settle(&mut self) -> Answer {
         told(unsafe { qolb_settle_node(self.0.get_mut()) })
     }
 
-    /// Polls whether the request is at its turn: `Granted`, `Waiting`, `Closed`; `Misuse` if there is none.
+    /// Polls once whether the request is at its turn.
+    ///
+    /// Returns `Granted`, `Waiting`, `Closed`, or `Misuse` (no request waits).
     #[must_use]
     pub fn poll(&mut self) -> Answer {
         told(unsafe { qolb_poll(self.0.get_mut()) })
     }
 
-    /// Polls at most `polls` times, and spins between two: `Granted`, `Waiting`, `Closed`, `Misuse`.
+    /// Polls at most `polls` times, with a short pause between two polls, until the request is at its turn.
+    ///
+    /// Returns `Granted`, `Waiting`, `Closed`, or `Misuse` (no request waits, or `polls` is 0). It does not sleep.
     #[must_use]
     pub fn spin(&mut self, polls: u64) -> Answer {
         told(unsafe { qolb_spin(self.0.get_mut(), polls) })
     }
 
-    /// Withdraws the request, unless it is at its turn: `Withdrawn`, `Granted`, `Closed`; `Misuse` if there is none.
+    /// Withdraws the request, unless it is at its turn.
+    ///
+    /// Returns `Withdrawn`, `Granted` (it was at its turn), `Closed`, or `Misuse` (no request waits).
     #[must_use]
     pub fn withdraw(&mut self) -> Answer {
         told(unsafe { qolb_withdraw(self.0.get_mut()) })
     }
 
-    /// Takes the place in the queue of a link line, the first half of [`Node::enqolb`]: `Granted`, `Linking`, `Closed`, `Busy`, `Misuse`.
+    /// Makes the first half of a request for a link line: takes a place in the queue.
+    ///
+    /// Returns `Granted`, `Linking` (call [`Node::link`]), `Closed`, `Busy`, or `Misuse` (also for a line of another kind).
     #[must_use]
     pub fn prepend(&mut self) -> Answer {
         told(unsafe { qolb_prepend(self.0.get_mut()) })
     }
 
-    /// Tells the predecessor of a request that was prepended: `Granted`, `Queued`, `Closed`, `Misuse`.
+    /// Makes the second half of a request for a link line: tells the predecessor which node is its successor.
+    ///
+    /// Returns `Granted`, `Queued`, `Closed`, or `Misuse` (the node is not in the state `Linking`).
     #[must_use]
     pub fn link(&mut self) -> Answer {
         told(unsafe { qolb_link(self.0.get_mut()) })
     }
 
-    /// Returns the line's bytes, if the node holds the line.
+    /// Returns the bytes of the line, or `None` if the node does not hold the line.
     pub fn read(&mut self) -> Option<Bytes> {
         let mut out = Bytes([0; 64]);
         match told(unsafe { qolb_read(self.0.get_mut(), &mut out) }) {
@@ -407,12 +438,14 @@ impl Node {
         }
     }
 
-    /// Writes byte k of `bytes` if bit k of `mask` is set: `Done`; `Misuse` if the node does not hold the line.
+    /// Writes byte k of `bytes` to the line if bit k of `mask` is set.
+    ///
+    /// Returns `Done`, or `Misuse` if the node does not hold the line.
     pub fn write(&mut self, mask: u64, bytes: &Bytes) -> Answer {
         told(unsafe { qolb_write(self.0.get_mut(), mask, bytes) })
     }
 
-    /// Returns a lane of the line, if the node holds it and the lane is below 8.
+    /// Returns one lane of the line, or `None` if the node does not hold the line or `lane` is above 7.
     pub fn read_lane(&mut self, lane: u64) -> Option<u64> {
         let mut out = 0;
         match told(unsafe { qolb_read_lane(self.0.get_mut(), lane, &mut out) }) {
@@ -421,12 +454,16 @@ impl Node {
         }
     }
 
-    /// Writes a lane: `Done`; `Misuse` if the node does not hold the line, or the lane is not below 8.
+    /// Writes one lane of the line.
+    ///
+    /// Returns `Done`, or `Misuse` if the node does not hold the line or `lane` is above 7.
     pub fn write_lane(&mut self, lane: u64, value: u64) -> Answer {
         told(unsafe { qolb_write_lane(self.0.get_mut(), lane, value) })
     }
 
-    /// Adds to a lane modulo 2^64, and returns what it had before, if the node holds the line and the lane is below 8.
+    /// Adds `by` to one lane modulo 2^64, and returns the number that the lane had before.
+    ///
+    /// Returns `None` if the node does not hold the line or `lane` is above 7.
     pub fn add_lane(&mut self, lane: u64, by: u64) -> Option<u64> {
         let mut was = 0;
         match told(unsafe { qolb_add_lane(self.0.get_mut(), lane, by, &mut was) }) {
@@ -435,37 +472,43 @@ impl Node {
         }
     }
 
-    /// Releases the line: `Done`; `Misuse` if the node does not hold it.
+    /// Releases the line, and hands it over to the oldest request.
+    ///
+    /// Returns `Done`, or `Misuse` if the node does not hold the line.
     pub fn deqolb(&mut self) -> Answer {
         told(unsafe { qolb_deqolb(self.0.get_mut()) })
     }
 
-    /// Releases the line and closes it: `Done`; `Misuse` if the node does not hold it.
+    /// Releases the line and closes it: no later request is served.
+    ///
+    /// Returns `Done`, or `Misuse` if the node does not hold the line.
     pub fn shut(&mut self) -> Answer {
         told(unsafe { qolb_shut(self.0.get_mut()) })
     }
 
-    /// Returns the node's number, from 1.
+    /// Returns the number of the node, from 1 on.
     pub fn number(&mut self) -> u64 {
         unsafe { qolb_number(self.0.get_mut()) }
     }
 
-    /// Returns the state after the node's last call.
+    /// Returns the state of the node after its last call.
     pub fn state(&mut self) -> State {
         state_told(unsafe { qolb_state(self.0.get_mut()) })
     }
 
-    /// Returns the number of turns left, with the holder's own: `u64::MAX` without a lease; 0 if the node does not hold the line.
+    /// Returns the number of acquisitions that the lease still allows, the holder's own among them.
+    ///
+    /// Returns `u64::MAX` if the line has no lease, and 0 if the node does not hold the line.
     pub fn turns_left(&mut self) -> u64 {
         unsafe { qolb_turns_left(self.0.get_mut()) }
     }
 
-    /// The label of the node's line.
+    /// Returns the label of the node's line.
     pub fn label(&mut self) -> u64 {
         unsafe { qolb_label(self.0.get_mut()) }
     }
 
-    /// Frees a node that neither waits nor holds. Any other is returned.
+    /// Frees the node. A node that has requested the line is not freed but returned.
     pub fn free(mut self) -> Result<(), Node> {
         match told(unsafe { qolb_node_free(self.0.get_mut()) }) {
             Answer::Done => Ok(()),
@@ -473,13 +516,17 @@ impl Node {
         }
     }
 
-    /// Requests the line, and waits as long as it takes, also while the node is busy: `Granted`, `Closed`, `Misuse`.
+    /// Requests the line, and waits until the node holds it, also while the node is busy.
+    ///
+    /// Returns `Granted`, `Closed`, or `Misuse` (the node has already requested the line).
     #[must_use]
     pub fn acquire(&mut self) -> Answer {
         told(unsafe { qolb_acquire(self.0.get_mut()) })
     }
 
-    /// Requests the line, and withdraws the request if it is not granted at once: `Granted`, `Busy`, `Closed`, `Misuse`.
+    /// Requests the line, and withdraws the request if it is not granted at once.
+    ///
+    /// Returns `Granted`, `Busy`, `Closed`, or `Misuse` (the node has already requested the line).
     #[must_use]
     pub fn try_acquire(&mut self) -> Answer {
         match self.enqolb() {
@@ -491,15 +538,32 @@ impl Node {
         }
     }
 
-    /// Requests the line, and waits at most `time`, also while the node is busy: `Granted`, `TimedOut`, `Closed`, `Misuse`.
+    /// Requests the line, and waits until the node holds it, but for at most `time`. Time in which the node is busy counts.
     ///
-    /// After `TimedOut` the node is withdrawn. It polls at least once.
+    /// Returns `Granted`, `TimedOut` (the request is withdrawn), `Closed`, or `Misuse` (the node has already requested the line). A request that waits is
+    /// polled at least once.
+    ///
+    /// ```
+    /// use qolb::{Answer, Bytes, Kind};
+    /// use std::time::Duration;
+    ///
+    /// let mut nodes = qolb::open(Kind::DEFAULT, 1, 2, None, &Bytes([0; 64])).unwrap();
+    /// let (first, second) = nodes.split_at_mut(1);
+    /// assert_eq!(first[0].acquire(), Answer::Granted);
+    /// assert_eq!(second[0].acquire_for(Duration::from_millis(1)), Answer::TimedOut);
+    /// assert_eq!(first[0].deqolb(), Answer::Done);
+    /// ```
     #[must_use]
     pub fn acquire_for(&mut self, time: Duration) -> Answer {
         told(unsafe { qolb_acquire_within(self.0.get_mut(), nanoseconds(time)) })
     }
 
-    /// Waits as long as it takes, and returns a guard that releases the line when it is dropped.
+    /// Waits until the node holds the line, and returns a guard that releases the line when it is dropped.
+    ///
+    /// # Errors
+    ///
+    /// Fails with [`Stopped::Closed`] if the line is closed, and with [`Stopped::Misuse`] if the node has already requested the line, as after a guard that was
+    /// leaked.
     pub fn lock(&mut self) -> Result<Guard<'_>, Stopped> {
         match self.acquire() {
             Answer::Granted => Ok(Guard(self)),
@@ -507,7 +571,7 @@ impl Node {
         }
     }
 
-    /// Returns a guard if the line is granted at once.
+    /// Returns a guard if the line is granted at once, and `None` otherwise.
     pub fn try_lock(&mut self) -> Result<Option<Guard<'_>>, Stopped> {
         match self.try_acquire() {
             Answer::Granted => Ok(Some(Guard(self))),
@@ -516,7 +580,7 @@ impl Node {
         }
     }
 
-    /// Returns a guard if the line is granted within this time.
+    /// Returns a guard if the line is granted within `time`, and `None` otherwise.
     pub fn try_lock_for(&mut self, time: Duration) -> Result<Option<Guard<'_>>, Stopped> {
         match self.acquire_for(time) {
             Answer::Granted => Ok(Some(Guard(self))),
@@ -525,65 +589,66 @@ impl Node {
         }
     }
 
-    /// Returns a guard if the line is granted by this time.
+    /// Returns a guard if the line is granted before `end`, and `None` otherwise.
     pub fn try_lock_until(&mut self, end: Instant) -> Result<Option<Guard<'_>>, Stopped> {
         self.try_lock_for(from_now_to(end))
     }
 }
 
-/// A turn of a node, which holds the line.
+/// A guard of a line that a node holds.
 ///
-/// When it is dropped it releases the line, also if a panic unwinds (see above). It writes nothing by itself.
+/// A guard that is dropped releases the line, also while a panic unwinds the stack ([above](crate#a-panic-while-a-line-or-a-mutex-is-held)). It writes no
+/// bytes by itself.
 #[derive(Debug)]
 #[must_use]
 pub struct Guard<'a>(&'a mut Node);
 
 impl Guard<'_> {
-    /// Returns the line's bytes.
+    /// Returns the bytes of the line.
     pub fn read(&mut self) -> Bytes {
         self.0.read().expect("a guard's node holds the line")
     }
 
-    /// Writes the bytes of the mask: byte k if bit k is set.
+    /// Writes byte k of `bytes` to the line if bit k of `mask` is set.
     pub fn write(&mut self, mask: u64, bytes: &Bytes) {
         assert_eq!(self.0.write(mask, bytes), Answer::Done);
     }
 
-    /// Returns lane k of the line.
+    /// Returns lane `k` of the line.
     ///
     /// # Panics
     ///
-    /// If `k` is not below 8.
+    /// Panics if `k` is above 7.
     pub fn lane(&mut self, k: u64) -> u64 {
         self.0.read_lane(k).expect("a line has eight lanes")
     }
 
-    /// Writes lane k of the line.
+    /// Writes lane `k` of the line.
     ///
     /// # Panics
     ///
-    /// If `k` is not below 8.
+    /// Panics if `k` is above 7.
     pub fn set_lane(&mut self, k: u64, value: u64) {
         assert_eq!(self.0.write_lane(k, value), Answer::Done, "a line has eight lanes");
     }
 
-    /// Adds to lane k of the line modulo 2^64, and returns what it had before.
+    /// Adds `by` to lane `k` of the line modulo 2^64, and returns the number that the lane had before.
     ///
     /// # Panics
     ///
-    /// If `k` is not below 8.
+    /// Panics if `k` is above 7.
     pub fn add_to_lane(&mut self, k: u64, by: u64) -> u64 {
         self.0.add_lane(k, by).expect("a line has eight lanes")
     }
 
-    /// Returns the number of turns left, with this one: `None` without a lease.
+    /// Returns the number of acquisitions that the lease still allows, this one among them, or `None` if the line has no lease.
     pub fn turns_left(&mut self) -> Option<u64> {
         Some(self.0.turns_left()).filter(|turns| *turns != u64::MAX)
     }
 
     /// Releases the line and closes it: no later request is served.
     pub fn shut(self) {
-        // The drop that follows finds nothing to release.
+        // The drop of `self` follows, and finds nothing to release.
         self.0.shut();
     }
 }
@@ -602,7 +667,7 @@ fn stopped(answer: Answer) -> Stopped {
 }
 
 impl Drop for Node {
-    /// Each of these calls leads to the next state, or is misuse and does nothing.
+    /// Frees the node in whatever state it is. A call that this state does not allow is misuse and does nothing.
     fn drop(&mut self) {
         unsafe {
             qolb_link(self.0.get_mut());
@@ -647,9 +712,9 @@ fn state_told(state: u32) -> State {
     }
 }
 
-// ---- Locks for threads that come and go ----
+// ---- Locks ----
 
-/// All of a lock lies here, and it does not move once it is used.
+/// The bytes of a lock, which must not move once the lock has been used.
 #[repr(C, align(16))]
 struct RawLock {
     own: *mut c_void,
@@ -666,15 +731,15 @@ fn nanoseconds(time: Duration) -> u64 {
     u64::try_from(time.as_nanos()).unwrap_or(u64::MAX)
 }
 
-/// Zero if the end is past.
+/// Returns the time from now until `end`, or zero if `end` has passed.
 fn from_now_to(end: Instant) -> Duration {
     end.saturating_duration_since(Instant::now())
 }
 
-/// A lock that guards nothing by itself, as a `RawMutex` of `lock_api`: [`Mutex`] uses it.
+/// A lock that protects no value by itself, like a `RawMutex` of `lock_api`. A [`Mutex`] consists of it and a value.
 ///
-/// It is made at compile time, and in a box from its first use on, since a value may move and a lock may not. The thread that entered must leave. If it is
-/// dropped while a thread holds it or waits for it, which a leaked guard may cause, its box stays.
+/// It can be made at compile time. From its first use on it is in a box, because a value in Rust may move and a lock must not. The thread that entered the
+/// lock must leave it. If the lock is dropped while a thread holds it or waits for it, which a leaked guard can cause, its box is not freed.
 pub struct RawQolb {
     boxed: AtomicPtr<RawLock>,
     limit: u16,
@@ -685,14 +750,14 @@ unsafe impl Sync for RawQolb {}
 unsafe impl Send for RawQolb {}
 
 impl RawQolb {
-    /// A strict lock: first come, first served.
+    /// Makes a strict lock, which is first come, first served.
     pub const fn new() -> RawQolb {
         RawQolb::with_barging(0)
     }
 
-    /// A lock with this barging limit, for threads that enter again and again; with 0 or 1 it is strict.
+    /// Makes a lock with this barging limit, for threads that enter again and again. A lock with a limit of 0 or 1 is strict.
     ///
-    /// With `p` threads before it, a waiter is overtaken by at most `(p + 1) * (limit - 1)` barging threads.
+    /// A waiter with `p` threads before it is overtaken by at most `(p + 1) * (limit - 1)` barging threads, which enter without waiting in the queue.
     pub const fn with_barging(limit: u16) -> RawQolb {
         RawQolb { boxed: AtomicPtr::new(null_mut()), limit }
     }
@@ -702,63 +767,75 @@ impl RawQolb {
         if at.is_null() { self.put_in_box() } else { at }
     }
 
-    /// Of threads that make one at the same time, one's is taken.
+    /// Puts the lock into a box. If several threads do so at the same time, all of them use the first box.
     #[cold]
     fn put_in_box(&self) -> *mut RawLock {
         let made = Box::into_raw(Box::new(RawLock { own: null_mut(), limit: self.limit.into(), more: [0; 38] }));
         match self.boxed.compare_exchange(null_mut(), made, Ordering::AcqRel, Ordering::Acquire) {
             Ok(_) => made,
             Err(at) => {
-                // SAFETY: no other thread has seen it.
+                // SAFETY: no other thread has seen this box.
                 drop(unsafe { Box::from_raw(made) });
                 at
             }
         }
     }
 
-    /// Enters, and waits as long as it takes: `Granted`, `Closed`; `Misuse` if the calling thread holds it.
+    /// Enters the lock, and waits until the calling thread holds it.
+    ///
+    /// Returns `Granted`, `Closed`, or `Misuse` (the calling thread already holds the lock).
     #[must_use]
     pub fn enter(&self) -> Answer {
         self.took(unsafe { qolb_lock_enter(self.at()) })
     }
 
-    /// Enters if no thread has it: `Granted`, `Busy` (also if the calling thread holds it), `Closed`.
+    /// Enters the lock if this needs no waiting.
+    ///
+    /// Returns `Granted`, `Busy` (also if the calling thread itself holds the lock), or `Closed`.
     #[must_use]
     pub fn try_enter(&self) -> Answer {
         self.took(unsafe { qolb_lock_try(self.at()) })
     }
 
-    /// Enters, and waits at most `time`: `Granted`, `TimedOut`, `Closed`; `Misuse` at once if the calling thread holds it.
+    /// Enters the lock, and waits until the calling thread holds it, but for at most `time`.
+    ///
+    /// Returns `Granted`, `TimedOut`, `Closed`, or at once `Misuse` (the calling thread already holds the lock).
     #[must_use]
     pub fn enter_for(&self, time: Duration) -> Answer {
         self.took(unsafe { qolb_lock_enter_within(self.at(), nanoseconds(time)) })
     }
 
-    /// Leaves: `Done`; `Misuse` if the calling thread does not hold it.
+    /// Leaves the lock.
+    ///
+    /// Returns `Done`, or `Misuse` if the calling thread does not hold the lock.
     pub fn leave(&self) -> Answer {
         self.gives();
         told(unsafe { qolb_lock_leave(self.at()) })
     }
 
-    /// Leaves and closes the lock: no later thread enters. `Done`; `Misuse` if the calling thread does not hold it.
+    /// Leaves the lock and shuts it: no later thread enters.
+    ///
+    /// Returns `Done`, or `Misuse` if the calling thread does not hold the lock.
     pub fn shut(&self) -> Answer {
         self.gives();
         told(unsafe { qolb_lock_shut(self.at()) })
     }
 
-    /// Whether the calling thread holds it.
+    /// Checks whether the calling thread holds the lock.
     pub fn is_mine(&self) -> bool {
         unsafe { qolb_lock_is_mine(self.at()) == 1 }
     }
 
-    /// Whether a thread or a task holds it, or is about to. It reads the lock and does not try it, so this may have changed when it returns.
+    /// Checks whether a thread or a task holds the lock, or is about to hold it.
+    ///
+    /// The call reads the lock and does not try to enter it, so another call may have changed the answer when this one returns.
     pub fn is_held(&self) -> bool {
         let at = self.boxed.load(Ordering::Acquire);
-        // SAFETY: a lock in a box lives as long as this does.
+        // SAFETY: the box lives as long as `self`.
         !at.is_null() && unsafe { qolb_lock_is_held(at) == 1 }
     }
 
-    /// Tells the thread sanitizer of an answer by which the thread may have entered.
+    /// Tells the thread sanitizer that the thread may have entered, and converts the result.
     fn took(&self, answer: u32) -> Answer {
         let answer = told(answer);
         if let Answer::Granted | Answer::Closed = answer {
@@ -775,7 +852,7 @@ impl RawQolb {
     }
 }
 
-/// The thread sanitizer's view of a lock.
+/// What the thread sanitizer is told of a lock.
 #[cfg(qolb_tsan)]
 mod tsan {
     use super::RawLock;
@@ -819,13 +896,13 @@ impl Drop for RawQolb {
     fn drop(&mut self) {
         let at = *self.boxed.get_mut();
         if !at.is_null() && told(unsafe { qolb_lock_destroy(at) }) == Answer::Done {
-            // SAFETY: it was made by a box, and nobody uses it any more.
+            // SAFETY: the pointer comes from a box, and the lock is destroyed, so nobody uses it any more.
             drop(unsafe { Box::from_raw(at) });
         }
     }
 }
 
-/// Returns whether it was entered. Without memory the program ends, as for any failed allocation.
+/// Returns whether the lock was entered. If there is no memory, the process ends, as for any failed allocation.
 fn entered(answer: Answer) -> Result<bool, Stopped> {
     match answer {
         Answer::Granted => Ok(true),
@@ -839,11 +916,11 @@ fn no_memory() -> ! {
     std::alloc::handle_alloc_error(std::alloc::Layout::new::<[Handle; 200]>())
 }
 
-/// A mutex for a value of any size. Threads get a strict one in the order in which they asked. The lock is in a box of its own.
+/// A mutex for a value of any size, strict ([`Mutex::new`]) or barging ([`Mutex::with_barging`]).
 ///
-/// Nothing is poisoned: a panic while it is held releases it, with the writes until then. A thread that locks a mutex that it holds is told
-/// [`Stopped::Misuse`], and holds it as before; but if a task of that thread holds it, it waits, and for ever if that thread would have to drop the task's
-/// guard.
+/// A mutex is never poisoned: a panic while it is held releases it, and the writes that the holder has made stay. A thread that locks a mutex which it
+/// already holds gets [`Stopped::Misuse`], and still holds the mutex. If a task of this thread holds the mutex, the thread waits, and waits for ever if it
+/// would have to drop the guard of the task.
 ///
 /// ```
 /// use qolb::{Mutex, Stopped};
@@ -868,52 +945,63 @@ pub struct Mutex<T: ?Sized> {
     value: UnsafeCell<T>,
 }
 
-// SAFETY: one thread at a time has the value.
+// SAFETY: only one thread at a time can use the value.
 unsafe impl<T: ?Sized + Send> Send for Mutex<T> {}
 unsafe impl<T: ?Sized + Send> Sync for Mutex<T> {}
 
 impl<T> Mutex<T> {
-    /// A strict mutex: first come, first served.
+    /// Makes a strict mutex, which is first come, first served.
     pub const fn new(value: T) -> Mutex<T> {
         Mutex::with_barging(value, 0)
     }
 
-    /// A mutex with this barging limit, for threads that lock it again and again ([`RawQolb::with_barging`]); with 0 or 1 it is strict.
+    /// Makes a mutex with this barging limit, for threads that lock it again and again ([`RawQolb::with_barging`]).
+    ///
+    /// A mutex with a limit of 0 or 1 is strict.
+    ///
+    /// ```
+    /// static VISITS: qolb::Mutex<u64> = qolb::Mutex::with_barging(0, 1024);
+    /// *VISITS.lock().unwrap() += 1;
+    /// assert_eq!(*VISITS.lock().unwrap(), 1);
+    /// ```
     pub const fn with_barging(value: T, limit: u16) -> Mutex<T> {
         Mutex { raw: RawQolb::with_barging(limit), value: UnsafeCell::new(value) }
     }
 
-    /// Returns the value.
+    /// Returns the value of a mutex that is no longer used.
     pub fn into_inner(self) -> T {
         self.value.into_inner()
     }
 }
 
 impl<T: ?Sized> Mutex<T> {
-    /// Waits as long as it takes, and returns a guard that leaves when it is dropped.
+    /// Waits until the calling thread holds the mutex, and returns a guard that releases it when it is dropped.
     ///
-    /// Fails with [`Stopped::Misuse`] if this thread holds the mutex, and with [`Stopped::Closed`] once it is shut. The first call of a mutex puts its lock in
-    /// a box, and ends the process if there is no memory for that.
+    /// The first call on a mutex puts its lock into a box, and ends the process if there is no memory for that.
+    ///
+    /// # Errors
+    ///
+    /// Fails with [`Stopped::Misuse`] if the calling thread already holds the mutex, and with [`Stopped::Closed`] once the mutex is shut.
     pub fn lock(&self) -> Result<MutexGuard<'_, T>, Stopped> {
         entered(self.raw.enter()).map(|_| self.guard())
     }
 
-    /// Returns a guard if no thread has it; `None` also if this thread does.
+    /// Returns a guard if the mutex is free, and `None` otherwise, also if the calling thread holds the mutex.
     pub fn try_lock(&self) -> Result<Option<MutexGuard<'_, T>>, Stopped> {
         entered(self.raw.try_enter()).map(|had| had.then(|| self.guard()))
     }
 
-    /// Returns a guard if it is granted within this time.
+    /// Returns a guard if the mutex is granted within `time`, and `None` otherwise.
     pub fn try_lock_for(&self, time: Duration) -> Result<Option<MutexGuard<'_, T>>, Stopped> {
         entered(self.raw.enter_for(time)).map(|had| had.then(|| self.guard()))
     }
 
-    /// Returns a guard if it is granted by this time.
+    /// Returns a guard if the mutex is granted before `end`, and `None` otherwise.
     pub fn try_lock_until(&self, end: Instant) -> Result<Option<MutexGuard<'_, T>>, Stopped> {
         self.try_lock_for(from_now_to(end))
     }
 
-    /// Returns the value, which no other thread can have now.
+    /// Returns the value without locking, because `&mut self` shows that no other thread uses the mutex.
     pub fn get_mut(&mut self) -> &mut T {
         self.value.get_mut()
     }
@@ -922,7 +1010,7 @@ impl<T: ?Sized> Mutex<T> {
     ///
     /// # Safety
     ///
-    /// It is not left, nor shut, while a guard of this mutex is there.
+    /// The caller must neither leave nor shut the lock while a guard of this mutex exists.
     pub unsafe fn raw(&self) -> &RawQolb {
         &self.raw
     }
@@ -944,14 +1032,14 @@ impl<T> From<T> for Mutex<T> {
     }
 }
 
-/// The value, if no thread has the mutex, which is locked meanwhile. It does not wait.
+/// Shows the value if the mutex is free. It locks the mutex meanwhile, and does not wait.
 impl<T: ?Sized + fmt::Debug> fmt::Debug for Mutex<T> {
     fn fmt(&self, f: &mut fmt::Formatter<'_>) -> fmt::Result {
         shown(f, "Mutex", self.try_lock())
     }
 }
 
-/// A panic while it is held releases it, with the holder's writes until then (see above).
+/// A panic while the mutex is held releases it, and the holder's writes stay ([above](crate#a-panic-while-a-line-or-a-mutex-is-held)).
 impl<T: ?Sized> UnwindSafe for Mutex<T> {}
 impl<T: ?Sized> RefUnwindSafe for Mutex<T> {}
 
@@ -965,7 +1053,7 @@ fn shown<G: Deref<Target: fmt::Debug>>(f: &mut fmt::Formatter<'_>, name: &str, g
     shown.finish()
 }
 
-/// A turn of a mutex, which ends when it is dropped. It stays with its thread, which must leave.
+/// A guard of a mutex, which releases the mutex when it is dropped. It stays with its thread, because this thread must leave the lock.
 #[must_use]
 pub struct MutexGuard<'a, T: ?Sized> {
     mutex: &'a Mutex<T>,
@@ -976,13 +1064,13 @@ pub struct MutexGuard<'a, T: ?Sized> {
 unsafe impl<T: ?Sized + Sync> Sync for MutexGuard<'_, T> {}
 
 impl<'a, T: ?Sized> MutexGuard<'a, T> {
-    /// Leaves and closes the mutex: no later thread enters.
+    /// Releases the mutex and shuts it: no later thread enters.
     pub fn shut(self) {
-        // The drop that follows finds nothing to leave.
+        // The drop of `self` follows, and finds nothing to leave.
         self.mutex.raw.shut();
     }
 
-    /// Returns a guard of a part of the value: `MutexGuard::map(guard, |it| &mut it.part)`. A condition can't wait with it.
+    /// Returns a guard of a part of the value: `MutexGuard::map(guard, |it| &mut it.part)`. A thread cannot wait at a condition with such a guard.
     pub fn map<U: ?Sized>(mut guard: Self, part: impl FnOnce(&mut T) -> &mut U) -> MappedMutexGuard<'a, U> {
         let value = NonNull::from(part(&mut guard));
         let raw = &guard.mutex.raw;
@@ -1023,7 +1111,7 @@ impl<T: ?Sized> Drop for MutexGuard<'_, T> {
     }
 }
 
-/// A turn of a mutex, for a part of its value (`MutexGuard::map`). It ends when it is dropped, and stays with its thread.
+/// A guard of a part of a mutex's value (`MutexGuard::map`), which releases the mutex when it is dropped. It stays with its thread.
 #[must_use]
 pub struct MappedMutexGuard<'a, T: ?Sized> {
     raw: &'a RawQolb,
@@ -1035,7 +1123,7 @@ pub struct MappedMutexGuard<'a, T: ?Sized> {
 unsafe impl<T: ?Sized + Sync> Sync for MappedMutexGuard<'_, T> {}
 
 impl<'a, T: ?Sized> MappedMutexGuard<'a, T> {
-    /// Returns a guard of a part of this part.
+    /// Returns a guard of a part of this guard's part.
     pub fn map<U: ?Sized>(mut guard: Self, part: impl FnOnce(&mut T) -> &mut U) -> MappedMutexGuard<'a, U> {
         let value = NonNull::from(part(&mut guard));
         let raw = guard.raw;
@@ -1076,19 +1164,37 @@ impl<T: ?Sized + fmt::Display> fmt::Display for MappedMutexGuard<'_, T> {
     }
 }
 
-/// Whether a wait at a condition ended at its time, and not by a signal: as of `std::sync::Condvar`.
+/// Tells whether a wait at a condition timed out, like the type of `std::sync::Condvar` that has the same name.
 #[derive(Clone, Copy, Debug, PartialEq, Eq)]
 pub struct WaitTimeoutResult(bool);
 
 impl WaitTimeoutResult {
-    /// Returns `true` if there was no signal in time.
+    /// Returns `true` if no signal came in time.
     #[must_use]
     pub fn timed_out(&self) -> bool {
         self.0
     }
 }
 
-/// A condition of a [`Mutex`], as a `std::sync::Condvar` is. It has no spurious wakeups, and wakes the thread that has waited longest first.
+/// A condition at which holders of a [`Mutex`] wait, like a `std::sync::Condvar`.
+///
+/// There are no spurious wake-ups, and the thread that has waited longest is woken first.
+///
+/// ```
+/// use qolb::{Condition, Mutex, Stopped};
+/// use std::thread;
+///
+/// static IS_READY: Mutex<bool> = Mutex::new(false);
+/// static CHANGED: Condition = Condition::new();
+///
+/// fn main() -> Result<(), Stopped> {
+///     let other = thread::spawn(|| CHANGED.wait_while(IS_READY.lock()?, |is_ready| !*is_ready).map(|guard| *guard));
+///     *IS_READY.lock()? = true;
+///     CHANGED.notify_one();
+///     assert_eq!(other.join().unwrap(), Ok(true));
+///     Ok(())
+/// }
+/// ```
 pub struct Condition(UnsafeCell<RawCond>);
 
 // SAFETY: as for `RawQolb`.
@@ -1111,37 +1217,41 @@ impl Default for Condition {
 }
 
 impl Condition {
-    /// A condition at which no thread waits.
+    /// Makes a condition, at which no thread waits.
     pub const fn new() -> Condition {
         Condition(UnsafeCell::new(RawCond { own: null_mut() }))
     }
 
-    /// Wakes the thread that has waited longest, if one waits. The caller may hold the mutex or not.
+    /// Wakes the thread that has waited longest, if a thread waits. The caller need not hold the mutex.
     pub fn notify_one(&self) {
         unsafe { qolb_cond_signal(self.0.get()) };
     }
 
-    /// Wakes all threads that wait.
+    /// Wakes all threads that wait. The caller need not hold the mutex.
     pub fn notify_all(&self) {
         unsafe { qolb_cond_broadcast(self.0.get()) };
     }
 
-    /// Waits for a signal. `Stopped::Closed` if the mutex was shut meanwhile.
+    /// Releases the mutex, waits for a signal, and locks the mutex again.
+    ///
+    /// # Errors
+    ///
+    /// Fails with [`Stopped::Closed`] if the mutex was shut meanwhile.
     pub fn wait<'a, T: ?Sized>(&self, guard: MutexGuard<'a, T>) -> Result<MutexGuard<'a, T>, Stopped> {
         self.waited(guard, None).map(|(guard, _)| guard)
     }
 
-    /// Waits for a signal at most `time`, and returns whether there was one.
+    /// Waits for a signal for at most `time`, and returns whether a signal came.
     pub fn wait_for<'a, T: ?Sized>(&self, guard: MutexGuard<'a, T>, time: Duration) -> Result<(MutexGuard<'a, T>, bool), Stopped> {
         self.waited(guard, Some(time))
     }
 
-    /// Waits as [`Condition::wait_for`], and tells the same as `std::sync::Condvar` does.
+    /// Waits as [`Condition::wait_for`] does, and returns the same as the call of `std::sync::Condvar`.
     pub fn wait_timeout<'a, T: ?Sized>(&self, guard: MutexGuard<'a, T>, time: Duration) -> Result<(MutexGuard<'a, T>, WaitTimeoutResult), Stopped> {
         self.wait_for(guard, time).map(|(guard, told)| (guard, WaitTimeoutResult(!told)))
     }
 
-    /// Waits until the value is not so.
+    /// Waits until `is_so` returns `false` for the value.
     pub fn wait_while<'a, T: ?Sized>(&self, mut guard: MutexGuard<'a, T>, mut is_so: impl FnMut(&mut T) -> bool) -> Result<MutexGuard<'a, T>, Stopped> {
         while is_so(&mut guard) {
             guard = self.wait(guard)?;
@@ -1149,7 +1259,7 @@ impl Condition {
         Ok(guard)
     }
 
-    /// Waits at most `time` until the value is not so. It has timed out if the value is so at the end.
+    /// Waits for at most `time` until `is_so` returns `false` for the value. The wait has timed out if it returns `true` at the end.
     pub fn wait_timeout_while<'a, T: ?Sized>(
         &self,
         mut guard: MutexGuard<'a, T>,
@@ -1189,7 +1299,7 @@ pub type Lock<T> = Mutex<T>;
 
 // ---- Tasks ----
 
-/// The waker of a task that waits. The library's call has a pointer to it, so it does not move.
+/// The waker of a task that waits. It must not move, because the notification has a pointer to it.
 #[derive(Default)]
 struct Slot(std::sync::Mutex<Option<Waker>>, PhantomPinned);
 
@@ -1198,7 +1308,7 @@ impl Slot {
         self.0.lock().unwrap_or_else(PoisonError::into_inner)
     }
 
-    /// A waker's clone and drop are its owner's code, which may wake this very task: neither runs while the slot is locked.
+    /// Stores the waker. To clone or drop a waker runs code of its owner, which may wake this very task, so neither happens while the slot is locked.
     fn set(&self, waker: &Waker) {
         let is_set = self.lock().as_ref().is_some_and(|it| it.will_wake(waker));
         if !is_set {
@@ -1213,9 +1323,10 @@ impl Slot {
     }
 }
 
-/// Takes the waker out, lets the slot go, and wakes: so the task may be dropped while it is woken, also under a lock that waking takes.
+/// The function of a notification: takes the waker out of the slot, and then wakes. It does not use the slot while it wakes, so the task may be dropped
+/// meanwhile, also under a lock that the waker takes.
 unsafe extern "C" fn wake(slot: *mut c_void) {
-    // SAFETY: the slot is there until `qolb_notify_off` or `qolb_task_cancel` has returned, which waits for `qolb_notify_done`.
+    // SAFETY: the slot exists until `qolb_notify_off` or `qolb_task_cancel` has returned, and these wait for `qolb_notify_done`.
     let waker = unsafe { &*slot.cast::<Slot>() }.lock().take();
     qolb_notify_done();
     if let Some(waker) = waker {
@@ -1224,31 +1335,36 @@ unsafe extern "C" fn wake(slot: *mut c_void) {
 }
 
 impl Node {
-    /// Requests the line when it is first polled, and is ready when the line is granted or closed. Dropped before, it withdraws the request.
+    /// Returns a future that requests the line when it is first polled, and is ready when the line is granted or closed.
     ///
-    /// While the node is busy, from a request that was withdrawn or, in a link line, for a moment after its turn, it wakes its task again and again. So let
-    /// tasks that give up often use a [`Mutex`].
+    /// A future that is dropped before it is ready withdraws the request. While the node is busy, the future wakes its task again and again. A node is busy
+    /// after a request that was withdrawn, and in a link line also for a moment after it has released the line. Therefore let tasks that often give up use
+    /// a [`Mutex`].
     pub fn turn(&mut self) -> TurnFuture<'_> {
         TurnFuture { node: Some(self), waits: false, slot: Slot::default() }
     }
 
-    /// Has 1 added to an eventfd when the request of this node is at its turn: `Waiting`; else as `poll`.
+    /// Requests a notification that adds 1 to an eventfd when the node's request is at its turn.
+    ///
+    /// Returns `Waiting` if the notification will be made, and what `poll` returns otherwise.
     ///
     /// # Safety
     ///
-    /// The descriptor is not closed before `notify_off` has returned, or the node is closed.
+    /// The caller must not close the descriptor before `notify_off` has returned or the node is freed.
     #[must_use]
     pub unsafe fn notify_fd(&mut self, fd: BorrowedFd<'_>) -> Answer {
         told(unsafe { qolb_notify_fd(self.0.get_mut(), fd.as_raw_fd()) })
     }
 
-    /// Takes back what `notify_fd` wanted: `Withdrawn`, or `Done` if it was told or wants nothing.
+    /// Takes back the notification that `notify_fd` requested.
+    ///
+    /// Returns `Withdrawn`, or `Done` if none was requested or it has been made.
     pub fn notify_off(&mut self) -> Answer {
         told(unsafe { qolb_notify_off(self.0.get_mut()) })
     }
 }
 
-/// A node's way to its turn ([`Node::turn`]).
+/// The future that [`Node::turn`] returns.
 #[must_use = "a future does nothing unless it is awaited"]
 pub struct TurnFuture<'a> {
     node: Option<&'a mut Node>,
@@ -1260,14 +1376,14 @@ impl<'a> Future for TurnFuture<'a> {
     type Output = Result<Guard<'a>, Stopped>;
 
     fn poll(self: Pin<&mut Self>, context: &mut Context<'_>) -> Poll<Self::Output> {
-        // SAFETY: the slot is not moved.
+        // SAFETY: this function does not move the slot.
         let this = unsafe { self.get_unchecked_mut() };
         let node = this.node.as_mut().expect("a future that was ready is not polled again");
         let mut answer = if this.waits { Answer::Queued } else { node.enqolb() };
         if answer == Answer::Queued {
             this.waits = true;
             this.slot.set(context.waker());
-            // SAFETY: the slot stays in its place until this is dropped, and the drop takes the wish back.
+            // SAFETY: the slot stays in its place until this future is dropped, and the drop takes the notification back.
             answer = told(unsafe { qolb_notify(node.0.get_mut(), wake, this.slot.arg()) });
         }
         match answer {
@@ -1303,7 +1419,7 @@ impl RawTask {
     }
 }
 
-/// A task's way into a lock.
+/// The task by which a future enters a lock.
 struct Entering<'a> {
     raw: &'a RawQolb,
     task: RawTask,
@@ -1316,14 +1432,14 @@ impl<'a> Entering<'a> {
         Entering { raw, task: RawTask::new(), waits: false, slot: Slot::default() }
     }
 
-    /// Ready with the task, which holds the lock then, and may be moved.
+    /// Enters the lock, or polls, and is ready with the task once the task holds the lock. This task may be moved.
     ///
     /// # Safety
     ///
-    /// It is not moved from the first call until it is ready or dropped.
+    /// The caller must not move `self` from the first call until it is ready or dropped.
     unsafe fn poll(&mut self, context: &mut Context<'_>) -> Poll<Result<RawTask, Stopped>> {
         self.slot.set(context.waker());
-        // SAFETY: task and slot stay in their places while the task waits.
+        // SAFETY: the task and the slot stay in their places while the task waits.
         let answer = unsafe {
             match self.waits {
                 true => qolb_task_poll(&raw mut self.task),
@@ -1343,7 +1459,7 @@ impl<'a> Entering<'a> {
     }
 }
 
-/// Then a task that is told otherwise found more than 12,280 open requests.
+/// Checks whether memory can be allocated. If so, a task that was answered `NoMemory` has found more than 12,280 open requests.
 fn is_memory_left() -> bool {
     Vec::<Handle>::new().try_reserve(1).is_ok()
 }
@@ -1351,13 +1467,13 @@ fn is_memory_left() -> bool {
 impl Drop for Entering<'_> {
     fn drop(&mut self) {
         if self.waits {
-            // SAFETY: it waits, and did not move.
+            // SAFETY: the task waits, and was not moved.
             unsafe { qolb_task_cancel(&raw mut self.task) };
         }
     }
 }
 
-/// Leaves, or shuts, for a task that holds the lock.
+/// Leaves the lock for a task that holds it, and shuts it if `shuts`.
 fn leave_by(raw: &RawQolb, task: &mut RawTask, shuts: bool) {
     tsan::release(raw.at());
     // SAFETY: the task holds the lock.
@@ -1370,23 +1486,23 @@ fn leave_by(raw: &RawQolb, task: &mut RawTask, shuts: bool) {
 }
 
 impl<T: ?Sized> Mutex<T> {
-    /// Asks when it is first polled, and is ready when the mutex is granted or shut. Dropped before, it gives up.
+    /// Returns a future that requests the mutex when it is first polled, and is ready when the mutex is granted or shut.
     ///
-    /// Tasks and threads have their turns in the order in which they asked, of a strict mutex. While more than 12,280 requests are open a task is in no
-    /// queue: it asks again whenever it is polled, and wakes itself for that. The guard may be dropped by another thread.
+    /// A future that is dropped before it is ready withdraws its request. A strict mutex serves tasks and threads in the order in which they asked. While more
+    /// than 12,280 requests are open, a task is in no queue: it wakes itself, and asks again whenever it is polled. Any thread may drop the guard.
     pub fn lock_async(&self) -> MutexFuture<'_, T> {
         MutexFuture { mutex: self, entering: Some(Entering::new(&self.raw)) }
     }
 }
 
-/// A task's way to a turn of a mutex ([`Mutex::lock_async`]).
+/// The future that [`Mutex::lock_async`] returns.
 #[must_use = "a future does nothing unless it is awaited"]
 pub struct MutexFuture<'a, T: ?Sized> {
     mutex: &'a Mutex<T>,
     entering: Option<Entering<'a>>,
 }
 
-// SAFETY: a task is of no thread, and only `&mut self` uses it. The guard that the future gives has the value.
+// SAFETY: a task belongs to no thread, and only `&mut self` uses it. The guard that the future returns gives access to the value.
 unsafe impl<T: ?Sized + Send> Send for MutexFuture<'_, T> {}
 unsafe impl<T: ?Sized + Send> Sync for MutexFuture<'_, T> {}
 
@@ -1394,32 +1510,32 @@ impl<'a, T: ?Sized> Future for MutexFuture<'a, T> {
     type Output = Result<MutexTaskGuard<'a, T>, Stopped>;
 
     fn poll(self: Pin<&mut Self>, context: &mut Context<'_>) -> Poll<Self::Output> {
-        // SAFETY: what enters is not moved before it is ready.
+        // SAFETY: `entering` is not moved before it is ready.
         let this = unsafe { self.get_unchecked_mut() };
         let entering = this.entering.as_mut().expect("a future that was ready is not polled again");
         let Poll::Ready(got) = (unsafe { entering.poll(context) }) else { return Poll::Pending };
-        // The guard first: with what entered a waker is dropped, which may panic.
+        // The guard is made first, because `entering` drops a waker, which may panic.
         let got = got.map(|task| MutexTaskGuard { mutex: this.mutex, task });
         this.entering = None;
         Poll::Ready(got)
     }
 }
 
-/// A task's turn of a mutex, which ends when it is dropped, by any thread.
+/// A guard of a mutex that a task holds, which releases the mutex when it is dropped. Any thread may drop it.
 #[must_use]
 pub struct MutexTaskGuard<'a, T: ?Sized> {
     mutex: &'a Mutex<T>,
     task: RawTask,
 }
 
-// SAFETY: the turn is of no thread, so it goes to another with the value; a shared guard gives only shared values.
+// SAFETY: a task belongs to no thread, so its guard may go to another thread if the value may. A shared guard gives only shared access to the value.
 unsafe impl<T: ?Sized + Send> Send for MutexTaskGuard<'_, T> {}
 unsafe impl<T: ?Sized + Sync> Sync for MutexTaskGuard<'_, T> {}
 
 impl<T: ?Sized> MutexTaskGuard<'_, T> {
-    /// Leaves and closes the mutex: nobody enters later.
+    /// Releases the mutex and shuts it: nobody enters later.
     pub fn shut(mut self) {
-        // The drop that follows finds nothing to leave.
+        // The drop of `self` follows, and finds nothing to leave.
         leave_by(&self.mutex.raw, &mut self.task, true);
     }
 }
@@ -1459,7 +1575,8 @@ mod api {
         }
     }
 
-    /// A guard that `unlocked` or `bump` has released is used again when `lock` ends, also by a panic: so a refusal ends the process.
+    /// Ends the process if the lock was not granted. A panic would not do: a guard that `unlocked` or `bump` has released is used again when `lock` ends,
+    /// even if it ends by a panic.
     fn surely_had(answer: Answer) {
         if answer != Answer::Granted {
             _ = writeln!(std::io::stderr(), "qolb: lock_api's lock is refused: {answer}");
@@ -1467,7 +1584,7 @@ mod api {
         }
     }
 
-    // SAFETY: one thread at a time holds it.
+    // SAFETY: only one thread at a time holds the lock.
     unsafe impl RawMutex for RawQolb {
         const INIT: RawQolb = RawQolb::new();
         type GuardMarker = GuardNoSend;
@@ -1486,7 +1603,7 @@ mod api {
         }
     }
 
-    // SAFETY: every release is as fair as the lock: strict or barging.
+    // SAFETY: every release is as fair as the lock is, strict or barging.
     unsafe impl RawMutexFair for RawQolb {
         unsafe fn unlock_fair(&self) {
             self.leave();

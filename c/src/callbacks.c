@@ -1,11 +1,15 @@
-/* Calls in place of wakes: who waits for a turn without a thread has a callback in a list, that of its line or that of
- * its task (callbacks.h). Tested and explored, not proved.
+/* Callbacks, which the library calls instead of waking a thread. A node or a task that waits without a thread has a
+ * callback in a list, that of its line or that of its task's row (callbacks.h). This file is tested and model-checked,
+ * and not proved.
  *
- * Under the list's guard a waiter puts its callback into the list, counts it, and polls. Who releases the line or lock
- * loads the count, and then takes the guard. So it finds a count of 0, and then the poll follows the release; or it
- * takes the guard, and finds the callback exactly if the poll was WAITING. It takes the callback out, notes the call
- * that it is about to make, which is on its stack, and makes the call without the guard. Once the call has begun the
- * callback is not touched: its node may be closed, and its task may no longer exist. */
+ * A waiter takes the list's guard, puts its callback into the list, counts it, and polls. The thread that releases the
+ * line or lock loads the count after its release. If the count is 0, the waiter polls after the release, and needs no
+ * call. Otherwise the releasing thread takes the guard, and finds the callback in the list exactly if the poll returned
+ * WAITING.
+ *
+ * The releasing thread takes the callback out of the list, notes the call that it is about to make (the note is on its
+ * stack), and makes the call without the guard. Once the call has begun, the thread does not touch the callback,
+ * because its node may be freed, and its task may no longer exist. */
 #define _GNU_SOURCE
 #include "callbacks.h"
 #include "qolb.h"
@@ -17,8 +21,8 @@
 #include <sys/syscall.h>
 #endif
 
-/* The sanitizer of threads, if the program has it, sees nothing inside this library. It is told what a wish for a call
- * hands over, and what a call does. */
+/* The thread sanitizer does not see into this library. If the program has it, it is told that the request for a
+ * notification happens before the call of its function. */
 void __tsan_acquire(void *address) __attribute__((weak));
 void __tsan_release(void *address) __attribute__((weak));
 
@@ -33,32 +37,32 @@ void qolb_tell_release_(const void *at) {
 /* A call that is being made. */
 struct running {
     struct running *next;
-    const struct callback *callback; /* to compare, and not to follow */
+    const struct callback *callback; /* is compared and never followed */
     const void *thread;
     int awaited;
 };
 
-/* The most calls that a thread puts off until the call that it is in has returned. A call that would be one more is
- * made inside that call. */
+/* The most calls that a thread puts off until the callback that it is in has returned. A further call is made inside
+ * that callback. */
 enum { PUT_OFF = 32 };
 
-/* A thread that makes calls. A call that releases a line makes no call inside itself: else calls that go on with turn
- * after turn would use up the stack. But a node that is told BUSY there may wait for one of those: then they are
- * made. */
+/* A thread that makes calls. If a callback releases a line, the calls of that release are put off until the callback
+ * has returned. Otherwise a chain of callbacks, each of which releases a line, would use up the stack. They are made
+ * earlier if a node is told BUSY in the callback, because the node may be waiting for one of them. */
 struct caller {
-    struct running *running; /* the call that it is in; NULL if nobody waits for it any more */
+    struct running *running; /* the call that the thread is in, or NULL after qolb_notify_done */
     struct callbacks *noted; /* where that call is noted */
-    unsigned made, wanted;   /* of the calls put off, modulo 2^32 */
+    unsigned made, wanted;   /* count the calls that are put off, modulo 2^32 */
     struct {
-        struct callbacks *of; /* used until the call was made: its line may have no open node any more */
+        struct callbacks *of; /* counted as a user until the call is made, because its line may have no node left */
         uint64_t key;
     } put_off[PUT_OFF];
 };
 
-/* Of each thread, while it makes a call. */
+/* What each thread has of its calls while it makes one. */
 static BY_THREAD struct caller *in_call;
 
-/* Nobody lets go of these. */
+/* Nobody ends the use of these, so they are never freed. */
 struct task_row qolb_task_rows_[TASK_ROWS];
 
 void qolb_let_go_(struct callbacks *of) {
@@ -85,21 +89,21 @@ int qolb_take_out_of_list_(struct callbacks *of, struct callback *it) {
     return 1;
 }
 
-/* The callback of this key that was put in last: older ones are of requests that are over. */
+/* Returns the latest callback with this key. Older ones belong to requests that have ended. */
 static struct callback *of_key(struct callbacks *of, uint64_t key) {
     struct callback *it = atomic_load_explicit(&of->first, memory_order_relaxed);
     while (it && it->key != key) it = it->next;
     return it;
 }
 
-/* A call of the callback that another thread is in. */
+/* Returns a call of the callback that another thread is in, or NULL. */
 static struct running *running_elsewhere(const struct callbacks *of, const struct callback *callback) {
     struct running *it = of->running;
     while (it && (it->callback != callback || it->thread == &in_call)) it = it->next;
     return it;
 }
 
-/* ---- Wanting a call ---- */
+/* ---- Requesting a call ---- */
 
 void qolb_list_(struct callbacks *of, struct callback *it) {
     qolb_tell_release_(it);
@@ -108,7 +112,7 @@ void qolb_list_(struct callbacks *of, struct callback *it) {
     return_guard(&of->guard);
 }
 
-/* Waits, without the guard meanwhile, until another call that was awaited has ended. */
+/* Waits until some call that a thread waits for has ended. The guard is returned meanwhile. */
 static void await_end(struct callbacks *of, struct running *call) {
     call->awaited = 1;
     unsigned ended = atomic_load(&of->ended);
@@ -129,7 +133,7 @@ uint32_t qolb_unlist_(struct callbacks *of, struct callback *it) {
 
 /* ---- Making a call ---- */
 
-/* By syscall, which is no cancellation point, as write is. The thread that releases the line keeps its errno. */
+/* It uses syscall, because write is a cancellation point. The thread that releases the line keeps its errno. */
 void qolb_add_to_descriptor_(void *fd) {
     uint64_t one = 1;
     int error = errno;
@@ -196,7 +200,7 @@ static void make_put_off(struct caller *from) {
     }
 }
 
-/* A thread is not cancelled in a call: what it notes is on its stack. */
+/* A thread is not cancelled in a callback, because its notes are on its stack. */
 void qolb_make_call_(struct callbacks *of, uint64_t key) {
     struct caller *outer = in_call, me;
     int cancels;
@@ -211,7 +215,7 @@ void qolb_make_call_(struct callbacks *of, uint64_t key) {
     pthread_setcancelstate(cancels, &cancels);
 }
 
-/* In a call of its own: what these calls put off is made behind them. */
+/* The calls are made as if in another callback, so that what they put off is made after them. */
 void qolb_make_put_off_(void) {
     struct caller *outer = in_call, me;
     if (!outer || outer->made == outer->wanted) return;

@@ -1,32 +1,33 @@
-/* The calls on nodes, as the library exports them: each is the proved one, and a call that releases the line wakes the
- * next holder (line.h). Opening and closing are in line.c. Only these two write to a handle, so threads may have theirs
- * side by side.
+/* The calls on nodes, as the library exports them. Each makes the proved call of the same name. A call that releases
+ * the line then wakes the next holder (line.h). This file also has the waits for a turn, and the requests for a
+ * callback (callbacks.h).
  *
- * Waiting for a turn is here, and having a callback made at it (callbacks.h). Tested and explored, not proved. */
+ * line.c opens lines and frees nodes. Only these two calls write to a handle, so handles of different threads may lie
+ * side by side. This file is tested and model-checked, and not proved. */
 #define _GNU_SOURCE
 #include "hints.h"
 #include "line.h"
 #include "probes.h"
 #include "spin.h"
 
-/* The longest sleep of a busy node in nanoseconds: no call wakes it. */
+/* The longest sleep of a thread whose node is busy, in nanoseconds. No call wakes it. */
 enum { LONGEST_NAP = 200000 };
 
-/* An address for each label, for the tools that qolb.h tells of turns. */
+/* An address for each label, for the tools that qolb.h tells of grants and releases. */
 extern char qolb_lines_[1021];
 char qolb_lines_[1021];
 
 /* ---- Releasing a line ---- */
 
-/* Wakes all sleepers of the place. */
+/* Wakes all threads that sleep at the place. */
 static void wake_at(struct place *place) {
     if (!atomic_load(&place->sleepers)) return;
     atomic_fetch_add(&place->word, 1);
     qolb_wake_at_(&place->word, INT32_MAX);
 }
 
-/* Wakes the next holder, and the waiter behind it, which gets up during the holder's turn. The call of a callback comes
- * last, as it may take a while. */
+/* Wakes the next holder, and the waiter behind it, whose wake-up then overlaps the holder's critical section. A
+ * callback is called last, because it may take a while. */
 __attribute__((noinline)) static uint32_t woken(struct node *my, uint32_t got) {
     struct line *line = my->line;
     struct qolb_look look = look_at(my);
@@ -36,22 +37,25 @@ __attribute__((noinline)) static uint32_t woken(struct node *my, uint32_t got) {
     return got;
 }
 
-/* The answer of a call that released the line, unless it was a misuse. The load is behind the release: the proved call
- * hands the line over by an instruction that no load passes. */
+/* Ends a call that released the line, unless it was a misuse: wakes the threads that have to be woken. The load takes
+ * place after the release, because the proved call hands the line over by an instruction that no later load overtakes.
+ */
 static inline uint32_t let_go(struct node *my, uint32_t got) {
     return atomic_load(&my->line->callbacks.waiting) && got != QOLB_MISUSE ? woken(my, got) : got;
 }
 
-/* The answer of any other call. A node that is told that the line is closed has forwarded it. */
+/* Ends any other call. A node that is told that the line is closed has passed the line on, so it wakes as well. */
 static inline uint32_t told(struct node *my, uint32_t got) { return got == QOLB_CLOSED ? let_go(my, got) : got; }
 
-/* The answer of a call that asks, unless it was granted the line. In a notification's call, a node that is busy may be
- * so until another such call has released. Not inlined, so that a call that is granted the line saves nothing for it. */
+/* Ends a call that makes a request which was not granted the line. In the function of a notification, a node may stay
+ * busy until another notification, which this thread has put off, has released its line. Therefore the notifications
+ * that are put off are made here. Not inlined, so that a call that is granted the line saves no registers for it. */
 __attribute__((noinline)) static uint32_t not_granted(struct node *my, uint32_t got) {
     if (got == QOLB_BUSY) qolb_make_put_off_();
     return told(my, got);
 }
 
+/* Ends a call that makes a request. */
 static inline uint32_t asked(struct node *my, uint32_t got) { return got == QOLB_GRANTED ? got : not_granted(my, got); }
 
 enum qolb_result qolb_enqolb(qolb_node *node) {
@@ -108,13 +112,15 @@ static inline struct probed of_node(struct node *my) {
     return (struct probed){look.label, look.number, (uintptr_t)my->line};
 }
 
-/* The most nodes that may be before one that waits: all others on a line of few, else unknown. */
+/* Returns an upper bound on the nodes before one that waits: all others, if the line has few nodes, and otherwise that
+ * it is unknown. */
 static uint64_t most_before(const struct node *my) {
     uint32_t others = my->line->nodes - 1;
     return others < 2 * processors() ? others : UNKNOWN_TURNS;
 }
 
-/* Polls until it is time to sleep, or the timeout is over: GRANTED, CLOSED, WAITING. It polls at least once. */
+/* Polls until it is time to sleep, or the timeout has expired. It polls at least once. Returns GRANTED, CLOSED or
+ * WAITING. */
 static uint32_t spin(struct node *my, const char *slot, const struct limit *limit, struct spin *spun) {
     uint64_t before = most_before(my);
     for (;;) {
@@ -124,6 +130,7 @@ static uint32_t spin(struct node *my, const char *slot, const struct limit *limi
     }
 }
 
+/* Sleeps at the node's place. It polls once between counting itself as a sleeper and the sleep. */
 static uint32_t sleep_at(struct node *my, struct place *place, const struct limit *limit) {
     atomic_fetch_add(&place->sleepers, 1);
     atomic_fetch_add(&my->line->callbacks.waiting, 1);
@@ -145,7 +152,8 @@ static uint32_t give_up_turn(struct node *my) {
     return got == QOLB_WITHDRAWN ? (uint32_t)QOLB_TIMEDOUT : got;
 }
 
-/* Waits until the request is at its turn: GRANTED, CLOSED, TIMEDOUT. Its word does not change until then. */
+/* Waits until the request is at its turn. The word of the node, and so its place, does not change until then. Returns
+ * GRANTED, CLOSED or TIMEDOUT. */
 static uint32_t await_turn(struct node *my, const struct limit *limit) {
     uint64_t word = look_at(my).wait_word;
     const char *slot = slot_at(my, word);
@@ -163,7 +171,7 @@ static void nap_busy(uint64_t most) {
     qolb_sleep_at_(&nobody_wakes, 0, most < LONGEST_NAP ? most : LONGEST_NAP);
 }
 
-/* Repeats the request while the node is busy: the final answer, or TIMEDOUT. */
+/* Repeats the request while the node is busy. Returns the last result, or TIMEDOUT. */
 static uint32_t ask_again(struct node *my, const struct limit *limit) {
     struct spin spun = {0};
     uint32_t got = QOLB_BUSY;
@@ -176,8 +184,8 @@ static uint32_t ask_again(struct node *my, const struct limit *limit) {
     return got;
 }
 
-/* The answer of a waiting call, for a node that made a request and was not granted the line at once: the wait of one
- * that is busy, or whose request waits. */
+/* Goes on with a call that waits, if the line was not granted at once: waits while the node is busy or its request
+ * waits. */
 __attribute__((noinline)) static uint32_t acquired(struct node *my, uint32_t got, struct limit limit) {
     if (got == QOLB_BUSY || got == QOLB_QUEUED) {
         PROBE(wait, of_node(my));
@@ -202,8 +210,8 @@ enum qolb_result qolb_acquire_within(qolb_node *node, uint64_t nanoseconds) { re
 
 /* ---- Having a callback made (callbacks.h) ---- */
 
-/* Puts the callback into the line's list and polls: WAITING, and the call will be made; any other answer, and it will
- * not. */
+/* Puts the callback into the line's list and polls. The callback will be called if the result is WAITING, and only
+ * then. */
 static uint32_t want_call(struct node *my) {
     struct callbacks *of = &my->line->callbacks;
     qolb_tell_release_(&my->callback);
@@ -288,5 +296,5 @@ uint32_t qolb_state(qolb_node *node) {
     return my ? look_at(my).state : (uint32_t)QOLB_STATE_EMPTY;
 }
 
-/* The version of the library that the program runs with, which may be another than that of its header. */
+/* The library that a program runs with may have another version than the header that it was compiled with. */
 uint32_t qolb_version(void) { return QOLB_VERSION; }

@@ -1,19 +1,22 @@
-/* What all internal files of the library need of the compiler. */
+/* What all internal files of the library use of the compiler: the visibility of names, thread-local data, and the
+ * distance that keeps data apart. */
 #ifndef QOLB_COMMON_H
 #define QOLB_COMMON_H
 
-#include <stdint.h> /* a header of the C library says whether it is GNU's */
+#include <stdint.h> /* a header of the C library defines __GLIBC__ if this is glibc */
 
 #define HIDDEN __attribute__((visibility("hidden")))
 
-/* A library that is opened at run time has room for these few bytes of the GNU C library; others may have none. */
+/* Marks thread-local data. The initial-exec model needs no call to find them. glibc reserves room for a few bytes of
+ * such data in libraries that are opened at run time. Other C libraries may have no such room. */
 #ifdef __GLIBC__
 #define BY_THREAD _Thread_local __attribute__((tls_model("initial-exec")))
 #else
 #define BY_THREAD _Thread_local
 #endif
 
-/* The distance in bytes at which two objects share no cache line, nor a pair of lines that is fetched together. */
+/* The distance in bytes at which two objects share neither a cache line nor a pair of lines that is fetched together.
+ */
 enum { APART = 128 };
 
 #endif

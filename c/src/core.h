@@ -1,24 +1,28 @@
-/* For the library's internal files: the proved lock, as crates/qolb_locks/src/exports.rt exports it. Many threads may
- * call with one lock at a time. No call waits; each takes at most three atomic steps, a ticket's first call at a lock
- * one more, and a release two more for each withdrawn request that it passes, of which there are at most 64. Only
- * opening allocates.
+/* The proved core of a lock, which decides which thread is next. crates/qolb_locks/src/exports.rt exports these calls,
+ * and the files of lock/ make them. Any number of threads may call for one lock at a time. No call waits. A call takes
+ * at most three atomic steps; a ticket's first call at a lock takes one more, and a release takes two more for each
+ * withdrawn request that it passes, of which there are at most 64. Only opening allocates.
  *
- * A lock has a queue of tickets, and a *lock word*. A strict lock (a barging limit of at most 1): draw, wait for the
- * ticket's turn, check_open, be served, release. With barging: a barging thread goes in by the lock word and leaves;
- * else it draws a ticket; at its turn it is the queue head, takes the lock word, releases its turn of the queue (it
- * stays in), is served, and leaves.
+ * A lock has a queue of tickets and a *lock word*.
  *
- * The answers are those of qolb.h where it has one, and these. MISUSE always means that nothing changed.
+ * In a strict lock (a barging limit of at most 1) a thread draws a ticket, waits for the ticket's turn, checks that the
+ * lock is open, and is served. Then it releases the ticket's turn.
  *
- * What no call can see, and the caller owes (docs/PROVED.md):
+ * In a barging lock a barging thread takes the lock word, is served, and leaves the lock word. A thread that does not
+ * get the lock word draws a ticket. At the ticket's turn it is the queue head. It takes the lock word, releases its
+ * turn of the queue while it stays inside, is served, and leaves the lock word.
  *
- * - a `qolb_core` that opening wrote, or a copy of it;
- * - a ticket of zeros, or as its last call left it but for `lock_word`, in one call at a time, and not copied: it may
- *   be moved. One that is not WAITING may be kept as its number, label and state, and made of them again with zeros: of
- *   the rest a call reads the guess `lock_word` alone;
- * - for each opening a label of its own;
- * - nothing else in the lock's bytes while a call on it may be made, and none afterwards. A FREE ticket of such a lock
- *   may be used for another. */
+ * A call returns a result of qolb.h, or one of those below. MISUSE always means that nothing changed.
+ *
+ * No call can check these rules, which the callers must keep (docs/PROVED.md):
+ *
+ * - A `qolb_core` is one that opening wrote, or a copy of it.
+ * - A ticket consists of zeros, or is as its last call left it, except for `lock_word`. It is used by one call at a
+ *   time, and is not copied, but it may be moved. A ticket that is not WAITING may be kept as its number, label and
+ *   state, and be rebuilt from these with zeros elsewhere: of the other fields a call reads only the guess `lock_word`.
+ * - Each opening has a label of its own.
+ * - Nothing else is in the lock's bytes while a call on the lock may be made, and no call is made afterwards. A FREE
+ *   ticket of such a lock may be used for another lock. */
 #ifndef QOLB_CORE_H
 #define QOLB_CORE_H
 
@@ -27,126 +31,141 @@
 #include <stdbool.h>
 
 enum qolb_core_answer {
-    QOLB_FAR_ = LAYOUT_ANSWER_FAR,       /* too many rounds are before it (ticket.rounds) to withdraw it */
-    QOLB_ASLEEP_ = LAYOUT_ANSWER_ASLEEP, /* the sleep is announced: sleep now, at the address and value named below */
-    QOLB_FULL_ = LAYOUT_ANSWER_FULL,     /* 65,535 have announced a sleep at this cell: sleep by time */
-    QOLB_UNFINISHED_ = LAYOUT_ANSWER_UNFINISHED /* the turn is still the ticket's: call again */
+    QOLB_FAR_ = LAYOUT_ANSWER_FAR,       /* too many rounds (ticket.rounds) are before the ticket to withdraw it */
+    QOLB_ASLEEP_ = LAYOUT_ANSWER_ASLEEP, /* the sleep is announced: sleep now, at the address and value of the call */
+    QOLB_FULL_ = LAYOUT_ANSWER_FULL,     /* 65,535 threads have announced a sleep at this cell: sleep for a time */
+    QOLB_UNFINISHED_ = LAYOUT_ANSWER_UNFINISHED /* the ticket still has the turn: call again */
 };
 
-/* What the ticket has, in `state`. */
+/* The state of a ticket. */
 enum qolb_ticket_state {
-    QOLB_TICKET_FREE_ = LAYOUT_STATE_FREE,               /* no request; it may have been used before */
+    QOLB_TICKET_FREE_ = LAYOUT_STATE_FREE,               /* it has no request, and may have been used before */
     QOLB_TICKET_WAITING_ = LAYOUT_STATE_WAITING,         /* it waits */
     QOLB_TICKET_ASLEEP_ = LAYOUT_STATE_ASLEEP,           /* it waits, and its sleep is announced */
-    QOLB_TICKET_AT_TURN_ = LAYOUT_STATE_AT_TURN,         /* at its turn; with barging: the queue head */
-    QOLB_TICKET_SERVED_ = LAYOUT_STATE_SERVED,           /* at its turn in a strict lock, and told that this is open */
-    QOLB_TICKET_SERVED_SHUT_ = LAYOUT_STATE_SERVED_SHUT, /* the same, told that it is shut */
-    QOLB_TICKET_ENDING_ = LAYOUT_STATE_ENDING,           /* a release that was UNFINISHED: only release goes on */
-    /* the queue head, in by the lock word: open. It has a turn of the queue to release */
+    QOLB_TICKET_AT_TURN_ = LAYOUT_STATE_AT_TURN,         /* it is at its turn: in a barging lock, the queue head */
+    QOLB_TICKET_SERVED_ = LAYOUT_STATE_SERVED,           /* it is served by a strict lock, which is open */
+    QOLB_TICKET_SERVED_SHUT_ = LAYOUT_STATE_SERVED_SHUT, /* it is at its turn in a strict lock, which is shut */
+    QOLB_TICKET_ENDING_ = LAYOUT_STATE_ENDING,           /* its release was UNFINISHED: only release is allowed */
+    /* it has the lock word of an open lock as the queue head, and must release its turn of the queue */
     QOLB_TICKET_HEAD_INSIDE_ = LAYOUT_STATE_HEAD_INSIDE,
-    QOLB_TICKET_HEAD_INSIDE_SHUT_ = LAYOUT_STATE_HEAD_INSIDE_SHUT, /* the same, of a lock that is shut */
-    QOLB_TICKET_INSIDE_ = LAYOUT_STATE_INSIDE,                     /* in by the lock word alone: open */
-    QOLB_TICKET_INSIDE_SHUT_ = LAYOUT_STATE_INSIDE_SHUT            /* the same, of a lock that is shut */
+    QOLB_TICKET_HEAD_INSIDE_SHUT_ = LAYOUT_STATE_HEAD_INSIDE_SHUT, /* the same in a lock that is shut */
+    QOLB_TICKET_INSIDE_ = LAYOUT_STATE_INSIDE,                     /* it has only the lock word, of an open lock */
+    QOLB_TICKET_INSIDE_SHUT_ = LAYOUT_STATE_INSIDE_SHUT            /* the same in a lock that is shut */
 };
 
-/* A reference to a lock. May be copied. */
+/* A reference to a core, which may be copied. */
 struct qolb_core {
     const void *at;
 };
 
-/* A ticket, all zeros at first. The head of this file says what its caller owes, who may write `lock_word`, and no
- * other field. A FREE ticket may go to another lock, or be set to zeros. */
+/* A ticket, which consists of zeros at first. The head of this file has the rules for its caller, who may write
+ * `lock_word` and no other field. A FREE ticket may be used for another lock, or be set to zeros. */
 struct qolb_ticket {
-    uint64_t number;    /* from draw on: the ticket's number. After a release: the last number whose turn ended, so that
-                            number + 1 is the ticket that was granted */
-    uint64_t rounds;    /* while it waits: the most rounds that were to be granted yet when it last looked (4 tickets
-                            a round; 1: at most four are before it); also after FAR */
-    uint64_t lock_word; /* a guess of the lock word, for the next barge or leave_lock_word, where no call says more. A
-                            wrong guess costs a call */
-    uint64_t word;      /* after an ASLEEP of announce_sleep: the cell's word to sleep at */
+    uint64_t number;    /* since it was drawn: the ticket's number. After a release: the last number whose turn has
+                            ended, so that ticket number + 1 was granted */
+    uint64_t rounds;    /* while it waits, and after FAR: an upper bound on the rounds of four tickets that were still
+                            to be granted when it last looked. With 1, at most four tickets are before it */
+    uint64_t lock_word; /* a guess of the lock word, for the next barge or leave_lock_word, unless a call says more. A
+                            wrong guess costs one more call */
+    uint64_t word;      /* after an ASLEEP of announce_sleep: the value of the cell at which to sleep */
     uint64_t sleepers;  /* after a release: how many had announced their sleep at the granted ticket's cell */
-    uint64_t label;     /* the label of its lock, 0 if none: by this it is known whether a ticket is of the lock */
+    uint64_t label;     /* the label of its lock, or 0. A call with a ticket of another lock is refused by it */
     uint32_t state;     /* enum qolb_ticket_state */
-    bool head_sleeps;   /* after a leave: the queue head sleeps at the lock word, and is to be woken */
-    uint8_t claim;      /* represents what the proof says of the ticket */
+    bool head_sleeps;   /* after a leave: the queue head sleeps at the lock word, and must be woken */
+    uint8_t claim;      /* stands for what the proof knows of the ticket */
 };
 
 _Static_assert(sizeof(struct qolb_ticket) == LAYOUT_TICKET_BYTES, "a ticket has the proved size");
 
-/* Opens a lock in a block of the heap, or in the calling thread's room (heap.h). `barging`: the most turns from
- * one take of the lock word by a queue head until the next; 0 or 1 is a strict lock. `label`: not 0, and given to
- * no other lock of the process, ever. DONE; BAD_NODES (barging above 65,535), MISUSE (label 0), NO_MEMORY: nothing
- * changed. */
+/* Opens a core in a block of the heap, or in the memory that the calling thread has prepared (heap.h).
+ *
+ * `barging` is the barging limit: the most acquisitions from that of one queue head until that of the next. With 0 or 1
+ * the lock is strict. `label` is not 0, and no other lock of the process ever gets it. Returns DONE; or BAD_NODES
+ * (`barging` is above 65,535), MISUSE (`label` is 0) or NO_MEMORY, and nothing changed. */
 uint32_t qolb_core_open_proved_(uint64_t barging, uint64_t label, struct qolb_core *out);
 
-/* Draws the next ticket, and looks: GRANTED (at its turn) or WAITING. MISUSE: the ticket has a request, or is in. */
+/* Draws the next ticket, and looks whether it is at its turn. Returns GRANTED (it is), WAITING, or MISUSE (the ticket
+ * has a request or is inside). */
 uint32_t qolb_core_draw_proved_(const struct qolb_core *, struct qolb_ticket *);
-/* In a strict lock, draw, and check_open (below) if it is granted: GRANTED (SERVED), CLOSED (SERVED_SHUT) or WAITING.
- * MISUSE as draw, and in a barging lock. */
+/* Draws a ticket of a strict lock, and makes check_open (below) if it is granted. Returns GRANTED (SERVED), CLOSED
+ * (SERVED_SHUT), WAITING, or MISUSE (as draw does, and for a barging lock). */
 uint32_t qolb_core_draw_and_check_proved_(const struct qolb_core *, struct qolb_ticket *);
-/* As draw, if the request could still be withdrawn: GRANTED, or WAITING (rounds at most 15); FAR; BUSY (another drew
- * at that moment): no ticket drawn. MISUSE as draw. */
+/* Draws a ticket if its request can still be withdrawn. Returns GRANTED, WAITING (`rounds` is at most 15), or MISUSE as
+ * draw does; or FAR or BUSY (another thread drew at that moment), and then no ticket is drawn. */
 uint32_t qolb_core_draw_near_proved_(const struct qolb_core *, struct qolb_ticket *);
-/* As draw, if it would be at its turn: GRANTED, or BUSY: no ticket drawn. Says nothing of whether the lock is shut.
- * MISUSE as draw. */
+/* Draws a ticket if it is at its turn at once. Returns GRANTED, BUSY (no ticket is drawn), or MISUSE as draw does. The
+ * result does not say whether the lock is shut. */
 uint32_t qolb_core_try_draw_proved_(const struct qolb_core *, struct qolb_ticket *);
-/* Looks at the ticket's cell: GRANTED or WAITING. MISUSE unless it is WAITING (state). */
+/* Looks whether the ticket is at its turn. Returns GRANTED, WAITING, or MISUSE (its state is not WAITING). */
 uint32_t qolb_core_poll_proved_(const struct qolb_core *, struct qolb_ticket *);
 
-/* Counts the waiter as a sleeper of its cell, unless it is at its turn: ASLEEP, then sleep while the upper 32 bits
- * of the cell are those of ticket.word, and call retract_sleep afterwards; GRANTED; WAITING (the cell changed at
- * that moment, not counted); FULL (not counted). MISUSE unless it is WAITING. */
+/* Counts the waiter as a sleeper of its cell, unless it is at its turn.
+ *
+ * After ASLEEP, sleep while the upper 32 bits of the cell are those of ticket.word, and then call retract_sleep.
+ * Returns GRANTED if the ticket is at its turn. After WAITING (the cell changed at that moment) and FULL the waiter is
+ * not counted. Returns MISUSE if the state is not WAITING. */
 uint32_t qolb_core_announce_sleep_proved_(const struct qolb_core *, struct qolb_ticket *);
-/* Takes the count back: GRANTED or WAITING. MISUSE unless it is ASLEEP (state). */
+/* Takes back what announce_sleep has counted. Returns GRANTED, WAITING, or MISUSE (the state is not ASLEEP). */
 uint32_t qolb_core_retract_sleep_proved_(const struct qolb_core *, struct qolb_ticket *);
-/* WITHDRAWN: the ticket has no request any more, and the lock may no longer exist. GRANTED: it is at its turn. FAR:
- * ticket.rounds is above 15, nothing changed. MISUSE unless it is WAITING: a sleep is retracted first. */
+/* Withdraws the request. Returns WITHDRAWN (the ticket has no request any more, and the lock may no longer exist),
+ * GRANTED (it is at its turn), FAR (ticket.rounds is above 15, and nothing changed), or MISUSE (the state is not
+ * WAITING; a sleep must be retracted first). */
 uint32_t qolb_core_withdraw_proved_(const struct qolb_core *, struct qolb_ticket *);
-/* Ends the turn of the queue, passes withdrawn requests, and grants the next ticket: DONE (ticket.number + 1 is
- * granted, ticket.sleepers; a head that is in is INSIDE then, else the ticket is FREE and the lock may no longer
- * exist). UNFINISHED: it passed 64. MISUSE unless it is AT_TURN, SERVED, SERVED_SHUT, ENDING, HEAD_INSIDE or
- * HEAD_INSIDE_SHUT. */
+/* Ends the turn of the queue, passes withdrawn requests, and grants the next ticket.
+ *
+ * After DONE, ticket number + 1 is granted, and ticket.sleepers says how many sleep there. A head that is inside is
+ * then INSIDE. Any other ticket is FREE, and the lock may no longer exist. Returns UNFINISHED after 64 withdrawn
+ * requests, and MISUSE unless the state is AT_TURN, SERVED, SERVED_SHUT, ENDING, HEAD_INSIDE or HEAD_INSIDE_SHUT. */
 uint32_t qolb_core_release_proved_(const struct qolb_core *, struct qolb_ticket *);
 
-/* At the turn of a strict lock: GRANTED (open: SERVED) or CLOSED (SERVED_SHUT: pass the turn on by release, or
- * reopen). MISUSE unless it is AT_TURN, SERVED or SERVED_SHUT in a strict lock. */
+/* Looks, at the turn of a strict lock, whether the lock is open. Returns GRANTED (the ticket is SERVED), CLOSED (it is
+ * SERVED_SHUT: pass the turn on by release, or reopen), or MISUSE unless the state is AT_TURN, SERVED or SERVED_SHUT in
+ * a strict lock. */
 uint32_t qolb_core_check_open_proved_(const struct qolb_core *, struct qolb_ticket *);
-/* A barging thread takes the lock word, if that is ticket.lock_word, free for anyone, and open: GRANTED (INSIDE;
- * ticket.lock_word is the word as it was left). BUSY: ticket.lock_word is the word that the step found. MISUSE: the
- * ticket has a request or is in, or the lock is strict. */
+/* Takes the lock word for a barging thread, if the word equals ticket.lock_word, is free for anyone, and is open.
+ *
+ * Returns GRANTED (the ticket is INSIDE, and ticket.lock_word is the word as the step left it), BUSY (ticket.lock_word
+ * is the word that the step found), or MISUSE (the ticket has a request or is inside, or the lock is strict). */
 uint32_t qolb_core_barge_proved_(const struct qolb_core *, struct qolb_ticket *);
-/* The queue head takes the lock word, if it is free: GRANTED (HEAD_INSIDE) or CLOSED (HEAD_INSIDE_SHUT): in, and
- * ticket.lock_word is the word as it was left; release the turn of the queue next. WAITING: it is held, or changed at
- * that moment; ticket.lock_word is the word that the last step found. MISUSE unless it is AT_TURN in a barging lock. */
+/* Takes the lock word for the queue head, if the word is free.
+ *
+ * After GRANTED (HEAD_INSIDE) and CLOSED (HEAD_INSIDE_SHUT) the head is inside, and ticket.lock_word is the word as the
+ * step left it. Release the turn of the queue next. After WAITING the word is held, or changed at that moment, and
+ * ticket.lock_word is the word that the last step found. Returns MISUSE unless the state is AT_TURN in a barging lock.
+ */
 uint32_t qolb_core_take_lock_word_proved_(const struct qolb_core *, struct qolb_ticket *);
-/* Leaves the lock word, if that is ticket.lock_word: DONE (FREE; ticket.head_sleeps; the lock may no longer exist).
- * BUSY: the word is another, which ticket.lock_word has then: call again. MISUSE unless it is INSIDE or INSIDE_SHUT. */
+/* Leaves the lock word, if it equals ticket.lock_word. Returns DONE (the ticket is FREE, ticket.head_sleeps is set, and
+ * the lock may no longer exist), BUSY (the word is another, which is now in ticket.lock_word: call again), or MISUSE
+ * unless the state is INSIDE or INSIDE_SHUT. */
 uint32_t qolb_core_leave_lock_word_proved_(const struct qolb_core *, struct qolb_ticket *);
-/* The queue head asks whoever is in to leave the lock word for the head alone: DONE, or BUSY (it changed at that
- * moment). MISUSE unless it is AT_TURN in a barging lock. */
+/* Requests a handoff for the queue head: the thread inside is to leave the lock word to the head alone. Returns DONE,
+ * BUSY (the word changed at that moment), or MISUSE unless the state is AT_TURN in a barging lock. */
 uint32_t qolb_core_request_handoff_proved_(const struct qolb_core *, struct qolb_ticket *);
-/* The queue head notes at the lock word that it sleeps: ASLEEP, then sleep while the lower 32 bits of the lock
- * word are those of ticket.lock_word. WAITING: the word is not held, or changed at that moment, and ticket.lock_word is
- * as before. MISUSE unless it is AT_TURN in a barging lock. */
+/* Announces at the lock word that the queue head sleeps. After ASLEEP, sleep while the lower 32 bits of the lock word
+ * are those of ticket.lock_word. Returns WAITING if the word is not held, or changed at that moment; then
+ * ticket.lock_word is unchanged. Returns MISUSE unless the state is AT_TURN in a barging lock. */
 uint32_t qolb_core_announce_head_sleep_proved_(const struct qolb_core *, struct qolb_ticket *);
 
-/* Who is served shuts the lock: DONE (SERVED becomes SERVED_SHUT, and so on). From then on nobody goes in by barge,
- * and who is granted a turn is told CLOSED. MISUSE unless it is SERVED, HEAD_INSIDE or INSIDE. */
+/* Shuts the lock for the caller that is served. After DONE (SERVED becomes SERVED_SHUT, and so on) no thread barges,
+ * and each ticket that is granted a turn is told CLOSED. Returns MISUSE unless the state is SERVED, HEAD_INSIDE or
+ * INSIDE. */
 uint32_t qolb_core_shut_proved_(const struct qolb_core *, struct qolb_ticket *);
-/* Who was told CLOSED at a turn opens the lock again, if nobody asked after it: GRANTED (SERVED_SHUT becomes SERVED,
- * HEAD_INSIDE_SHUT becomes HEAD_INSIDE), or BUSY. MISUSE unless it is SERVED_SHUT or HEAD_INSIDE_SHUT. */
+/* Opens the lock again for a ticket that was told CLOSED at its turn, if no ticket was drawn after it. Returns GRANTED
+ * (SERVED_SHUT becomes SERVED, HEAD_INSIDE_SHUT becomes HEAD_INSIDE), BUSY, or MISUSE in any other state. */
 uint32_t qolb_core_reopen_proved_(const struct qolb_core *, struct qolb_ticket *);
 
-/* Where to sleep and wake. The words of an open lock; they never move. Word 0 is the lock word: bit 0 handoff
- * requested, bit 1 the head sleeps, bits 2 and 3 free (0), held (1) or reserved for the head (2), bit 4 shut, from
- * bit 5 on the barging threads since the last head. A thread may read it. When the lock may no longer exist, the
- * address is used only to wake. */
+/* The words of an open lock, where threads sleep and are woken. They never move.
+ *
+ * Word 0 is the lock word, which any thread may read. Bit 0 says that the handoff is requested, and bit 1 that the head
+ * sleeps. Bits 2 and 3 are 0 (free), 1 (held) or 2 (reserved for the head). Bit 4 says that the lock is shut. From bit
+ * 5 on it counts the barging threads since the last head. Once the lock may no longer exist, the address is used only
+ * to wake. */
 static inline uint64_t *qolb_core_words_(const struct qolb_core *core) { return *(uint64_t *const *)core->at; }
-/* The upper 32 bits of the cell of this ticket: sleep while they are (uint32_t)(ticket.word >> 32). */
+/* The upper 32 bits of this ticket's cell, at which a waiter sleeps while they are (uint32_t)(ticket.word >> 32). */
 static inline uint32_t *qolb_core_cell_(const struct qolb_core *core, uint64_t number) {
     return (uint32_t *)(qolb_core_words_(core) + LAYOUT_FIRST_CELL + number % LAYOUT_CELLS) + 1;
 }
-/* The lower 32 bits of the lock word: sleep while they are (uint32_t)ticket.lock_word. */
+/* The lower 32 bits of the lock word, at which the head sleeps while they are (uint32_t)ticket.lock_word. */
 static inline uint32_t *qolb_core_outer_(const struct qolb_core *core) { return (uint32_t *)qolb_core_words_(core); }
 
 #endif

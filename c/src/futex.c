@@ -1,5 +1,6 @@
-/* The clock, and the system calls of sleeping: Linux's futex, for locks by classes (futex.h). On other systems a
- * sleeper polls again after 200 us. Tested, not proved. */
+/* The clock, and the system calls by which threads sleep and wake (futex.h). On Linux these are futex calls, and those
+ * for locks use a bit set of classes. On other systems a sleeper polls again after 200 us. This file is tested and not
+ * proved. */
 #define _GNU_SOURCE
 #include "futex.h"
 #include <errno.h>
@@ -46,7 +47,7 @@ void qolb_unpark_(uint32_t *half, uint32_t classes) {
 
 #else
 
-/* A thread that is cancelled meanwhile sleeps on: else its request would stay in the queue. */
+/* A thread that is cancelled meanwhile sleeps on, because otherwise its request would stay in the queue. */
 void qolb_sleep_at_(atomic_uint *word, unsigned value, uint64_t nanoseconds) {
     struct timespec nap = {0, nanoseconds < 200000 ? (long)nanoseconds : 200000};
     int cancels, kept = errno;

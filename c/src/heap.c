@@ -1,10 +1,11 @@
-/* The functions by which the proved part allocates, over the program's malloc and free. The proved part calls them by
- * these names.
+/* The functions by which the proved part allocates memory. The proved part calls them by the names that begin with
+ * rattle_, and they call the program's malloc and free.
  *
- * A thread writes to its node's block in each call, and to the words and slots of a table. Each of these blocks begins
- * at a multiple of 128 bytes, and no other begins in its last 128: so no cache line has data of two nodes, nor has a
- * pair of lines that is fetched together, and a slot of a table, with its 64 bytes and what goes with them, is in one
- * pair. What all nodes of a line read, and none writes, is a smaller block. */
+ * Two nodes should not share a cache line, because each call of a thread writes to the block of its node, and to words
+ * and slots of the line. Therefore each of these blocks begins at a multiple of 128 bytes, and no other block begins in
+ * its last 128 bytes. So no cache line has data of two nodes, and neither has a pair of lines that is fetched together.
+ * A slot, which has the 64 bytes of a line and what belongs to them, lies within one such pair. Data that all nodes of
+ * a line read and none writes are in a smaller block. */
 #include "heap.h"
 #include <stdint.h>
 #include <stdlib.h>
@@ -12,7 +13,8 @@
 
 BY_THREAD struct core_arena *qolb_core_arena_;
 
-/* The answer of an allocation. `at` is never NULL: without memory it is the address of a byte that nobody uses. */
+/* The result of an allocation. `at` is never NULL: if there is no memory, it is the address of a byte that nobody uses.
+ */
 struct tried {
     uint64_t is_there;
     void *at;
@@ -22,8 +24,8 @@ HIDDEN struct tried rattle_alloc(size_t size, size_t align);
 HIDDEN struct tried rattle_realloc(void *block, size_t kept, size_t size, size_t align);
 HIDDEN void rattle_dealloc(void *block);
 
-/* The next block of the lock's core that the thread opens, which must be as large as the arena's next one; else NULL.
- * */
+/* Returns the next block of the core that the thread opens, or NULL if the thread opens no lock. The block must be as
+ * large as the arena's next one. */
 static void *given_by_lock(size_t size) {
     static const size_t sizes[CORE_BLOCKS] = {LAYOUT_CORE_WORDS_BYTES, LAYOUT_CORE_SLOTS_BYTES,
                                               LAYOUT_CORE_BLOCK_BYTES};
@@ -33,7 +35,7 @@ static void *given_by_lock(size_t size) {
     return arena->block[arena->taken++];
 }
 
-/* malloc gives multiples of 16 bytes, so there is room for a `struct before`. */
+/* Allocates a block by malloc, which returns a multiple of 16 bytes, so that there is room for a `struct before`. */
 static void *block_of(size_t size) {
     char *given = size <= SIZE_MAX - 2 * APART ? malloc(asked_bytes(size)) : NULL;
     if (!given) return NULL;
@@ -51,14 +53,14 @@ void qolb_free_(void *block) {
     if (block) free(((struct before *)block - 1)->given);
 }
 
-/* A block of no bytes has as many as its alignment, which is at most 16. */
+/* A block of 0 bytes gets as many bytes as its alignment, which is at most 16. */
 struct tried rattle_alloc(size_t size, size_t align) {
     static char nothing;
     void *block = qolb_malloc_(size ? size : align);
     return block ? (struct tried){1, block} : (struct tried){0, &nothing};
 }
 
-/* `kept`: the bytes that the block has. */
+/* `kept` is the number of bytes that the block has. */
 struct tried rattle_realloc(void *block, size_t kept, size_t size, size_t align) {
     struct tried moved = rattle_alloc(size, align);
     if (!moved.is_there) return moved;

@@ -1,33 +1,35 @@
-/* Hints: the cache lines that a node is about to read or write, so that the processor fetches them meanwhile. Nothing
- * depends on a hint: a wrong one costs time alone. One of the library's internal files.
+/* Prefetches the cache lines that a node is about to read or write. Nothing depends on a prefetch: a wrong one only
+ * costs time. calls.c uses this file for polls and releases.
  *
- * A node of a ring or a ticket line that is granted the line reads its bytes from a slot, which its predecessor wrote
- * just before the grant. So it asks for the slot with each poll: with the poll that finds the grant, the slot travels
- * beside the cell. What it gets with an earlier poll costs the predecessor nothing, whose store fetches the slot beside
- * the cell of the next one.
+ * A node of a ring or a ticket line that is granted the line reads the bytes from a slot, which its predecessor wrote
+ * just before the grant. Therefore the node prefetches the slot with each poll. With the poll that finds the grant, the
+ * slot arrives at the same time as the cell. A prefetch by an earlier poll costs the predecessor nothing, because its
+ * store fetches the slot at the same time as the next node's cell.
  *
- * A handoff of a link line writes four cache lines that other threads wrote last: the line's bytes, the word of the
- * last request, the holder's entry, and its successor's (crates/link_line). Each step begins when the one before it is
- * done, so the four lines travel one after the other. Asked for in advance they travel at the same time. */
+ * A hand-over of a link line writes four cache lines that other threads wrote last: the line's bytes, the word of the
+ * last request, the holder's entry, and its successor's entry (crates/link_line). Each step begins when the step before
+ * it is done, so without prefetching the four cache lines arrive one after the other. With prefetching they arrive at
+ * the same time. */
 #ifndef QOLB_HINTS_H
 #define QOLB_HINTS_H
 
 #include "line.h"
 #include <stdatomic.h>
 
-/* In an entry: whether its node is granted the line; and the unit of the number of the successor. */
+/* In an entry: the bit that says whether its node is granted the line, and the unit of the successor's number. */
 enum { IS_GRANTED = LAYOUT_ENTRY_GRANTED, LINK_UNIT = LAYOUT_ENTRY_LINK };
 
 static inline void will_read(const volatile void *at) {
     __asm__ volatile("prefetcht0 %0" : : "m"(*(const volatile char *)at));
 }
 
-/* Processors that can't do it do nothing. */
+/* A processor that does not have this instruction does nothing. */
 static inline void will_write(const volatile void *at) {
     __asm__ volatile("prefetchw %0" : : "m"(*(const volatile char *)at));
 }
 
-/* The address that lies in a block of the proved part behind so many bytes: ../proved/layout.c finds them. */
+/* Reads an address that lies `behind` bytes from the beginning of a block of the proved part. ../proved/layout.c finds
+ * these distances. */
 static inline char *address_in(const void *block, size_t behind) {
     return *(char *const *)((const char *)block + behind);
 }
@@ -36,18 +38,19 @@ static inline const char *proved_line_of(const struct node *my) {
     return address_in(my->proved.own, LAYOUT_NODE_TO_LINE);
 }
 
-/* The first slot of the node's line. */
+/* Returns the first slot of the node's line. */
 static inline const char *slots_of(const struct node *my) {
     return address_in(proved_line_of(my), LAYOUT_LINE_TO_SLOTS);
 }
 
-/* The slot that a node will read which waits at this word: that of its cell, or the line's one. */
+/* Returns the slot that a node which waits at this word will read: that of the word's cell in a ticket line, and the
+ * only slot in others. */
 static inline const char *slot_at(const struct node *my, uint64_t word) {
     if (my->line->kind != QOLB_TICKET) return slots_of(my);
     return slots_of(my) + word / LAYOUT_PLACE_WORDS * LAYOUT_SLOT_BYTES;
 }
 
-/* Of a link line: the word of the last request, and each node's entry. */
+/* Return the word of the last request of a link line, and the entry of a node. */
 static inline _Atomic uint64_t *home_of_link(const struct node *my) {
     return (_Atomic uint64_t *)address_in(proved_line_of(my), LAYOUT_LINE_TO_WORDS);
 }
@@ -60,8 +63,9 @@ static inline _Atomic uint64_t *own_entry(const struct node *my) {
     return entry_of(my, (uint64_t)(my - my->line->node) + 1);
 }
 
-/* A link line's node that is granted the line will write the bytes and its own entry. The word of the last request is
- * still wanted by the node that handed over, to ask again. */
+/* Prefetches for a node of a link line that is granted the line: it will write the bytes and its own entry. It leaves
+ * the word of the last request alone, because the node that handed the line over may need it to request the line again.
+ */
 static inline void hint_turn_of_link(const struct node *my, const char *slot) {
     _Atomic uint64_t *own = own_entry(my);
     if (!(atomic_load_explicit(own, memory_order_relaxed) & IS_GRANTED)) return;
@@ -69,13 +73,13 @@ static inline void hint_turn_of_link(const struct node *my, const char *slot) {
     will_write(own);
 }
 
-/* Before a poll, with slot_at of the node's word. */
+/* Prefetches before a poll. `slot` is slot_at of the node's word. */
 static inline void hint_turn(const struct node *my, const char *slot) {
     if (my->line->kind == QOLB_LINK) hint_turn_of_link(my, slot);
     else will_read(slot);
 }
 
-/* Before a release of a link line: a node may have linked, by the entry. */
+/* Prefetches before a release of a link line. The entry says whether a successor has linked itself. */
 static inline void hint_release(const struct node *my) {
     _Atomic uint64_t *own = own_entry(my);
     will_write(own);

@@ -1,4 +1,5 @@
-/* Opening a line, and closing its nodes: the memory of what C has of it (line.h). Tested and explored, not proved. */
+/* Opening a line and freeing its nodes: the memory that the C code keeps for a line (line.h). This file is tested and
+ * model-checked, and not proved. */
 #include "line.h"
 #include "heap.h"
 #include <stdlib.h>
@@ -9,7 +10,7 @@ static size_t line_bytes(uint32_t nodes) {
     return sizeof(struct line) + nodes * sizeof(struct node) + places_for(nodes) * sizeof(struct place);
 }
 
-/* A line of these proved nodes, which are moved into it, or NULL. */
+/* Makes a line of these proved nodes, which are moved into it. Returns NULL if there is no memory. */
 static struct line *new_line(uint32_t kind, uint32_t nodes, qolb_node *proved) {
     struct line *line = malloc(line_bytes(nodes));
     if (!line) return NULL;
@@ -25,8 +26,8 @@ static int is_occupied(const qolb_node *out, uint64_t nodes) {
     return 0;
 }
 
-/* Only the proved part knows whether such a line may be opened. What it opened is closed again if a handle is occupied,
- * or if there is no memory here. */
+/* The proved part is called first, because it decides whether such a line may be opened. If a handle has a node, or if
+ * there is no memory for the C part of the line, the proved nodes are closed again. */
 enum qolb_result qolb_open(uint32_t kind, uint64_t label, uint64_t nodes, uint64_t lease, const qolb_bytes *opening,
                            qolb_node *out, size_t handles) {
     qolb_node proved[MOST_NODES] = {{0}};
@@ -59,8 +60,8 @@ enum qolb_result qolb_node_free(qolb_node *handle) {
     return got;
 }
 
-/* The bytes that an open line keeps, as its blocks are allocated. The proved part returns those of its table's blocks;
- * the others always have the same sizes, as c/tests/memory.c counts. */
+/* Adds up the bytes of all blocks of an open line. The proved part returns those of its table's blocks. The other
+ * blocks always have the same sizes, which c/tests/memory.c counts. */
 uint64_t qolb_memory(uint32_t kind, uint64_t nodes) {
     enum { TABLE_BLOCKS = 2 };
     uint64_t table = qolb_memory_proved_(kind, nodes);

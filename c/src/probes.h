@@ -1,13 +1,13 @@
-/* Probes of threads that wait: places in the library at which bpftrace, perf and gdb can look (USDT). One of the
- * library's internal files.
+/* Probes (USDT): places in the library at which bpftrace, perf and gdb can observe threads that wait. calls.c and
+ * lock/enter.c have them.
  *
- * Their provider is qolb. `wait`: a thread begins to wait for its turn. `sleep` and `wake`: it sleeps meanwhile. Then
- * one of `granted`, `withdrawn` (it was late, also if it is told that the lock was shut) and `closed`. The arguments of
- * each are the line's label, the number of the node (0 while the thread has none), and a number by which lines of one
- * label differ. A call that does not wait passes no probe. Where no tracer looks, a probe is an instruction that does
- * nothing.
+ * The provider of the probes is qolb. A thread that begins to wait for its turn passes `wait`, and passes `sleep` and
+ * `wake` each time that it sleeps meanwhile. At the end it passes one of `granted`, `withdrawn` (it timed out, also if
+ * it is told that the lock is shut) and `closed`. The arguments of a probe are the line's label, the number of the node
+ * (0 while the thread has none), and a number that distinguishes lines of one label. A call that does not wait passes
+ * no probe. While no tracer is attached, a probe is an instruction that does nothing.
  *
- * They are there if the library is built with <sys/sdt.h> (Debian's systemtap-sdt-dev), and not with
+ * The library has the probes if it is built with <sys/sdt.h> (Debian's systemtap-sdt-dev) and without
  * -DQOLB_NO_PROBES. */
 #ifndef QOLB_PROBES_H
 #define QOLB_PROBES_H
@@ -20,11 +20,13 @@
 #endif
 #endif
 
+/* The arguments of a probe. */
 struct probed {
     uint64_t label, number, line;
 };
 
-/* The number goes into a register: perf adds no probe that has a constant at one place and none at another. */
+/* Passes a probe. The number is put into a register, because perf refuses a probe that has a constant at one place and
+ * a register at another. */
 #ifdef DTRACE_PROBE3
 #define PROBE(name, of)                                             \
     do {                                                            \
@@ -36,7 +38,7 @@ struct probed {
 #define PROBE(name, of) ((void)sizeof(of))
 #endif
 
-/* The probe of a wait's end. */
+/* Passes the probe of the end of a wait. */
 #define PROBE_END(got, of)                                     \
     do {                                                       \
         if ((got) == QOLB_GRANTED) PROBE(granted, of);         \

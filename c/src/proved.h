@@ -1,9 +1,9 @@
-/* For the library's internal files: the proved calls on nodes, as crates/qolb_nodes/src/lib.rt exports them. A call
- * of qolb.h has the same name without _proved_, and is in calls.c. The calls on locks are in core.h.
+/* The proved calls on nodes, as crates/qolb_nodes/src/lib.rt exports them. calls.c and line.c make them: a call of
+ * qolb.h has the same name without _proved_. The proved calls on locks are in core.h.
  *
- * What no call can see, and the caller owes (docs/PROVED.md): a handle of zeros, or as its last call left it, in one
- * call at a time, and not copied: it may be moved; other arguments that point to what their types say, and overlap
- * neither one another nor the handle. */
+ * No call can check these rules, which the callers must keep (docs/PROVED.md): a handle consists of zeros, or is as its
+ * last call left it. It is used by one call at a time, and is not copied, but it may be moved. Other arguments point to
+ * what their types say, and overlap neither one another nor the handle. */
 #ifndef QOLB_PROVED_H
 #define QOLB_PROVED_H
 
@@ -27,22 +27,22 @@ uint32_t qolb_deqolb_proved_(qolb_node *node);
 uint32_t qolb_shut_proved_(qolb_node *node);
 uint32_t qolb_close_proved_(qolb_node *node);
 uint64_t qolb_memory_proved_(uint32_t kind, uint64_t nodes);
-/* Writes the first LAYOUT_TOLD_OF_NODES numbers of ../proved/qolb_layout.h, in its order. */
+/* Writes the first LAYOUT_TOLD_OF_NODES numbers of ../proved/qolb_layout.h, in the order of that file. */
 void qolb_layout_proved_(uint64_t *numbers);
 
-/* What a node is, and where it waits; of an empty handle zeros, and UINT64_MAX for each word. The words are numbers of
- * the node's line, on which nodes wait; they name a place and nothing more. */
+/* What a node is, and where it waits. For an empty handle all numbers are 0, and each word is UINT64_MAX. A word is the
+ * number of a word of the node's line on which nodes wait. The number only names a place. */
 struct qolb_look {
-    uint64_t number, label, turns_left; /* as the calls of these names tell */
+    uint64_t number, label, turns_left; /* as the calls of qolb.h with these names return them */
     uint64_t wait_word;                 /* of the node's own request; the same from the request until its grant */
-    /* After the node's last release, or after it was told that the line is closed: the word of the next holder, and
-     * that of the waiter behind it. The first is proved, the second is not. If there is none, a number at which no node
-     * waits. */
+    /* The words of the next holder, and of the waiter behind the next holder, after the node's last release or after it
+     * was told that the line is closed. The first is proved, the second is not. If there is no such node, these are
+     * numbers at which no node waits. */
     uint64_t went_to, went_ahead;
     uint32_t state; /* enum qolb_node_state */
 };
 
-/* Reads no word of the line. */
+/* Looks at a node. Reads no word of the line. */
 void qolb_look_proved_(qolb_node *node, struct qolb_look *out);
 
 #endif

@@ -1,5 +1,6 @@
-/* Each access of a call to words of one page of memory, as it is made: the page is protected, an access to it faults,
- * and is then made as a single step. Before each access another call may be made. For x86-64. */
+/* Observes each access of a call to the words of one page of memory, and can make another call before each access. The
+ * page is protected, so an access faults. The handler then lets the access take place as a single step. This works on
+ * x86-64. core_calls.c uses it. */
 #ifndef ACCESSES_H
 #define ACCESSES_H
 #define _GNU_SOURCE
@@ -16,9 +17,9 @@
 enum { PAGE = 4096, MOST_ACCESSES = 256, TRAP_FLAG = 0x100, IS_WRITE = 2 };
 
 static struct accesses {
-    char *page; /* NULL: none is watched */
+    char *page; /* NULL if no page is watched */
     void (*before)(unsigned access);
-    unsigned left_out, count; /* the number of a word whose accesses are not noted */
+    unsigned left_out, count; /* `left_out` is the number of a word whose accesses are not noted */
     struct access {
         unsigned word;
         bool writes;
@@ -34,7 +35,7 @@ static void on_access(int signal, siginfo_t *info, void *context) {
     size_t offset = (size_t)((char *)info->si_addr - accesses.page);
     if (!accesses.page || offset >= PAGE || accesses.count == MOST_ACCESSES) {
         struct sigaction usual = {.sa_handler = SIG_DFL};
-        sigaction(signal, &usual, NULL); /* it faults again, which ends the process */
+        sigaction(signal, &usual, NULL); /* the access faults again, and this ends the process */
         return;
     }
     protect_page(PROT_READ | PROT_WRITE);
@@ -52,7 +53,7 @@ static void on_step(int signal, siginfo_t *info, void *context) {
     protect_page(PROT_NONE);
 }
 
-/* From here on, until `watch_none`, each access to the page is noted, and `before` is called before it. */
+/* Begins to watch a page. Until `watch_none`, each access to it is noted, and `before` is called before the access. */
 static void watch_page(void *page, unsigned left_out, void (*before)(unsigned access)) {
     accesses.page = page, accesses.before = before;
     accesses.left_out = left_out, accesses.count = 0;

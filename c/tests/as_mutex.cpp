@@ -1,6 +1,6 @@
-// A program that is written for std::mutex and std::condition_variable, compiled with both and with the library's: a
-// queue of bounded length, a counter that ends by a deadline, an account for each thread under two locks at a time, and
-// a value that is made once. Both programs print the same numbers, which are worked out below.
+// Tests a program that is written for std::mutex and std::condition_variable. It is compiled once with these, and once
+// with the types of the library. It has a queue of bounded length, waits with deadlines, accounts under two locks at a
+// time, and guards that are moved. Both programs must print the same numbers, which are worked out below.
 #ifdef STD
 #include <condition_variable>
 #include <mutex>
@@ -25,7 +25,7 @@ static_assert(!std::is_copy_constructible<Mutex>::value && !std::is_move_constru
 static_assert(!std::is_copy_constructible<Cond>::value && !std::is_move_constructible<Cond>::value, "as its condition");
 static_assert(std::is_nothrow_default_constructible<Mutex>::value, "as std::mutex");
 
-// ---- A queue of at most eight numbers, of which the last is followed by none ----
+// ---- A queue of at most eight numbers ----
 
 class Queue {
   public:
@@ -58,7 +58,7 @@ class Queue {
     bool ended_ = false;
 };
 
-// The sum of 1 to 6,000, by three threads that put and two that take: 18,003,000.
+// Returns the sum of 1 to 6,000, with three threads that put and two that take: 18,003,000.
 static long sum_by_queue() {
     Queue queue;
     long sums[2] = {0, 0};
@@ -77,9 +77,9 @@ static long sum_by_queue() {
     return std::accumulate(sums, sums + 2, 0L);
 }
 
-// ---- Waits that end in time or not ----
+// ---- Waits that time out or not ----
 
-// 7: a wait without a signal times out, by a length and by a point in time, and one with a signal does not.
+// Returns 7: a wait without a signal times out, by a length and by a point in time, and one with a signal does not.
 static int waits_in_time() {
     Mutex mutex;
     Cond cond;
@@ -106,7 +106,7 @@ struct Account {
     long coins = 1000;
 };
 
-// What four accounts have when four threads have moved coins to and fro: 4,000.
+// Returns what four accounts have after four threads have moved coins to and fro: 4,000.
 static long moves_coins() {
     Account accounts[4];
     std::vector<std::thread> threads;
@@ -129,7 +129,8 @@ static long moves_coins() {
 
 // ---- Trying, deferring and moving guards ----
 
-// 15: a try of a held mutex fails, of a free one succeeds, a deferred guard owns nothing, and a moved one all.
+// Returns 15: trying a held mutex fails, trying a free one succeeds, a deferred guard owns nothing, and a guard that
+// was moved to owns the mutex.
 static int tries() {
     Mutex mutex;
     int found = 0;

@@ -1,6 +1,6 @@
-// Coroutines that are resumed inside the call of a release, by qolb::Inline, in one thread. One gives a request up
-// there and asks again: it is busy until the node behind it, whose call is put off, has had the line. Prints only
-// errors.
+// Tests coroutines that are resumed inside a release, by qolb::Inline, in one thread. One of them gives a request up
+// there and requests again. Its node is busy until the node behind it, whose notification is put off, has released the
+// line. Prints only errors.
 #include <cstdio>
 #include <cstdlib>
 #include <qolb.hpp>

@@ -1,6 +1,6 @@
-/* A thread that is cancelled while it waits goes on waiting: it is granted the line, or is late, and ends at its next
- * cancellation point. So no request of an ended thread is in the queue, and the line is handed on. Prints only
- * errors. */
+/* Tests that a thread which is cancelled while it waits goes on waiting: it is granted the line or times out, and ends
+ * at its next cancellation point. So no request of an ended thread is in the queue, and the line is handed over. Prints
+ * only errors. */
 #define _POSIX_C_SOURCE 200809L
 #include "want.h"
 #include <pthread.h>
@@ -30,13 +30,13 @@ static void *waits(void *argument) {
     me->got = me->how == FOR_EVER ? qolb_acquire(&me->node)
                                   : qolb_acquire_within(&me->node, me->how == LONG ? 60000000000 : 80000000);
     if (me->got == QOLB_GRANTED) me->released = qolb_deqolb(&me->node);
-    while (!me->is_cancelled) sched_yield(); /* on a busy machine it may be late before it is cancelled */
+    while (!me->is_cancelled) sched_yield(); /* on a busy machine it may time out before it is cancelled */
     pthread_testcancel();
     return NULL;
 }
 
-/* The waiter is cancelled while another node holds the line; `busy` if a request of its node is withdrawn and not
- * passed yet. */
+/* The waiter is cancelled while another node holds the line. With `busy`, the waiter's node has a withdrawn request
+ * that no release has passed yet. */
 static int cancelled(uint32_t kind, int how, int busy) {
     qolb_bytes zeros = {{0}};
     qolb_node n[3] = {{0}};
@@ -48,7 +48,7 @@ static int cancelled(uint32_t kind, int how, int busy) {
     if (busy) WANT(qolb_try(&n[1]), QOLB_BUSY);
     waiter.node = qolb_move(&n[1]);
     WANT(pthread_create(&id, NULL, waits, &waiter), 0);
-    nap(20); /* it waits by now, or will be cancelled before it does */
+    nap(20); /* now it waits, or will be cancelled before it does */
     WANT(pthread_cancel(id), 0);
     waiter.is_cancelled = 1;
     if (how == SHORT) WANT(pthread_join(id, &told), 0);
@@ -56,7 +56,7 @@ static int cancelled(uint32_t kind, int how, int busy) {
     WANT(qolb_deqolb(&n[0]), QOLB_DONE);
     WANT(qolb_acquire_within(&n[2], 30000000000), QOLB_GRANTED);
     if (how != SHORT) {
-        /* By now it has had its turn, or has it after this one. */
+        /* It has had its turn, or will have it after this one. */
         WANT(qolb_deqolb(&n[2]), QOLB_DONE);
         WANT(pthread_join(id, &told), 0);
         WANT(qolb_acquire_within(&n[2], 30000000000), QOLB_GRANTED);
@@ -73,7 +73,7 @@ static int cancelled(uint32_t kind, int how, int busy) {
 }
 
 int main(void) {
-    alarm(300); /* if a thread that has ended still holds the line, its waiters wait for ever */
+    alarm(300); /* if a thread that has ended still holds the line, other threads wait for ever */
     for (uint32_t kind = 0; kind < QOLB_KINDS; kind++)
         for (int how = FOR_EVER; how <= SHORT; how++)
             if (cancelled(kind, how, 0) || cancelled(kind, how, 1)) return 1;

@@ -1,6 +1,6 @@
-/* Two copies of the library in one program: the static one of this program, and the shared one, which it opens at run
- * time as a plugin would bring it. Each has locks and lines of its own, which threads use by turns and inside one
- * another; no call of one copy touches what the other has of a thread or a line. Prints only errors. */
+/* Tests two copies of the library in one program: the static copy of this program, and the shared library, which it
+ * opens at run time as a plugin would. Each copy has locks and lines of its own, which threads use alternately and
+ * nested. No call of one copy may touch what the other copy keeps of a thread or a line. Prints only errors. */
 #define _GNU_SOURCE
 #include <dlfcn.h>
 #include <qolb.h>
@@ -29,7 +29,7 @@ static void *named(void *library, const char *name) {
     return found;
 }
 
-/* The result of dlsym is not a pointer to a function by C, but by POSIX. */
+/* Finds the calls of the shared library. POSIX, and not C, allows a pointer to a function as the result of dlsym. */
 static int find_both(void) {
     void *library = dlopen(LIBRARY, RTLD_NOW | RTLD_LOCAL);
     if (!library) return puts(dlerror()), 1;
@@ -58,7 +58,7 @@ static void is_in(struct copy *it, int k) {
     MUST(it->is_mine(&it->lock[k]), 1);
 }
 
-/* More locks than a thread's table has, of both copies, and a turn of a line of each. */
+/* Uses more locks than a thread's table has room for, of both copies, and a line of each copy. */
 static void *uses_both(void *number) {
     int self = (int)(intptr_t)number;
     struct copy *const outer = self % 2 ? &own : &other, *const inner = self % 2 ? &other : &own;

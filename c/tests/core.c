@@ -1,9 +1,13 @@
-/* The proved lock (src/core.h) by many threads at once, strict and with barging: sums are exact, no two are served,
- * turns are in the order of tickets, no more newcomers overtake than the bound, nobody is served while the lock is
- * shut; who sleeps by the announced address and value is woken. And by one thread: each call that a ticket's state does
- * not allow is misuse and changes nothing; a lock lies in the room that it is opened in.
+/* Tests the proved core of a lock (src/core.h), strict and barging.
  *
- *   build/core_c [ROUNDS [THREADS]]       400 rounds by two threads, as many in all by more, up to 64 threads */
+ * Many threads use it at once. The sums are exact, no two threads are served at once, and tickets have their turns in
+ * order. No more barging threads overtake than the bound allows. Nobody is served while the lock is shut. A thread that
+ * sleeps at the announced address and value is woken.
+ *
+ * One thread checks that each call which a ticket's state does not allow is misuse and changes nothing, and that a core
+ * lies in the memory in which it is opened.
+ *
+ *   build/core_c [ROUNDS [THREADS]]       400 rounds with two threads; with more, up to 64, as many rounds in all */
 #define _GNU_SOURCE
 #include "../src/core.h"
 #include "../src/heap.h"
@@ -22,7 +26,7 @@
         if (!(it)) printf("line %d: not so: %s\n", __LINE__, #it), abort(); \
     } while (0)
 
-/* What the proved steps order, as the sanitizer of threads does not see them. */
+/* Tells the thread sanitizer what the proved steps order, because it does not see them. */
 #ifdef __SANITIZE_THREAD__
 void __tsan_acquire(void *at);
 void __tsan_release(void *at);
@@ -33,9 +37,9 @@ void __tsan_release(void *at);
 
 enum { MOST_THREADS = 64, MOST_LOCKS = 256, NEAR = 15, FEW_LOOKS = 4 };
 
-static uint64_t labels; /* each lock has one of its own */
+static uint64_t labels; /* each lock has a label of its own */
 
-/* Opens a lock, in a room of its own: a lock on the heap would be there for ever. */
+/* Opens a core in memory of its own, because a core on the heap is never freed. */
 static struct qolb_core opened(uint64_t barging) {
     static _Alignas(128) struct { char words[256], slots[128], block[128]; } rooms[MOST_LOCKS];
     static int used;
@@ -51,7 +55,7 @@ static struct qolb_core opened(uint64_t barging) {
 
 /* ---- Many threads ---- */
 
-/* What a scene's threads do: by bits. */
+/* What the threads of a scene do, as bits. */
 enum { TRIES = 1, NEARS = 2, WITHDRAWS = 4, SLEEPS = 8, SHUTS = 16 };
 
 static struct scene {
@@ -59,7 +63,7 @@ static struct scene {
     uint64_t barging;
     int does;
     long rounds;
-    /* Guarded by the lock. */
+    /* These are protected by the lock. */
     long shared, newcomers, most_newcomers;
     int64_t last_number;
     int is_shut;
@@ -88,7 +92,7 @@ static void wake_at(uint32_t *at) { syscall(SYS_futex, at, FUTEX_WAKE_PRIVATE, 0
 
 static int is_barging(void) { return scene.barging > 1; }
 
-/* A turn: nobody else is served, and the order and the bound are kept. */
+/* Checks an acquisition: nobody else is served, and the order and the bound are kept. */
 static void is_served(struct caller *caller, int is_head) {
     __tsan_acquire(&scene);
     CHECK(!atomic_exchange(&scene.in_service, 1));
@@ -108,13 +112,13 @@ static void is_served(struct caller *caller, int is_head) {
         scene.is_shut = 1;
         scene.shut++;
     }
-    if (draw(caller, 8) == 0) sched_yield(); /* so others come and wait */
+    if (draw(caller, 8) == 0) sched_yield(); /* so that other threads wait */
     atomic_store(&scene.in_service, 0);
     __tsan_release(&scene);
     scene.turns++;
 }
 
-/* Told that the lock is shut: opens it again, unless others asked after this one. */
+/* Is told that the lock is shut, and opens it again, unless tickets were drawn after this one. */
 static void is_told_shut(struct caller *caller) {
     __tsan_acquire(&scene);
     CHECK(scene.is_shut);
@@ -139,14 +143,14 @@ static void leave(struct caller *caller) {
     if (caller->ticket.head_sleeps) wake_at(qolb_core_outer_(&scene.core));
 }
 
-/* At the turn of a strict lock. */
+/* Goes on at a turn of a strict lock. */
 static void strict_turn(struct caller *caller) {
     if (qolb_core_check_open_proved_(&scene.core, &caller->ticket) == QOLB_GRANTED) is_served(caller, 1);
     else is_told_shut(caller);
     pass_on(caller);
 }
 
-/* The queue head of a barging lock. */
+/* Goes on as the queue head of a barging lock. */
 static void head_turn(struct caller *caller) {
     uint32_t got;
     for (int looks = 0; (got = qolb_core_take_lock_word_proved_(&scene.core, &caller->ticket)) == QOLB_WAITING;
@@ -166,7 +170,7 @@ static void head_turn(struct caller *caller) {
     leave(caller);
 }
 
-/* Waits with a ticket; whether it is at its turn then, and not withdrawn. */
+/* Waits with a ticket. Returns whether it is then at its turn, and not withdrawn. */
 static int waits(struct caller *caller) {
     struct qolb_ticket *ticket = &caller->ticket;
     uint32_t got = QOLB_WAITING;
@@ -190,7 +194,7 @@ static int waits(struct caller *caller) {
     return got == QOLB_GRANTED;
 }
 
-/* Draws a ticket; whether it did. */
+/* Draws a ticket, and returns whether it has drawn one. */
 static int asks(struct caller *caller) {
     if (does(caller, TRIES)) {
         scene.tried++;
@@ -228,7 +232,7 @@ static void *calls(void *of) {
     return NULL;
 }
 
-/* Of all scenes: what is in each run, what is of luck, and the most in a row. */
+/* What is counted over all scenes: what each run must have, what depends on luck, and the longest row. */
 static const char *const counted[] = {"turns",           "by the lock word",       "tried", "shut", "withdrawn",
                                       "slept",           "slept at the lock word", "far",   "told", "reopened",
                                       "drawn by another"};
@@ -268,7 +272,7 @@ typedef uint32_t call(const struct qolb_core *core, struct qolb_ticket *ticket);
 static const struct {
     const char *name;
     call *call;
-    int allowed; /* the states that allow it, as bits */
+    int allowed; /* the states that allow the call, as bits */
     uint64_t least_barging, most_barging;
 } every[] = {
 #define FREE (1 << QOLB_TICKET_FREE_)
@@ -300,7 +304,7 @@ enum { CALLS = sizeof every / sizeof every[0], WORDS = 21 };
 
 static long misused;
 
-/* The call is misuse, and neither the ticket nor a word of the lock changes. */
+/* Checks that the call is misuse, and that neither the ticket nor a word of the lock changes. */
 static void is_misuse(const struct qolb_core *core, struct qolb_ticket *ticket, int k) {
     struct qolb_ticket was = *ticket;
     uint64_t words[WORDS];
@@ -312,7 +316,8 @@ static void is_misuse(const struct qolb_core *core, struct qolb_ticket *ticket, 
     misused++;
 }
 
-/* With a ticket in this state: each call that the state or the lock does not allow, and each call of another lock. */
+/* Makes, with a ticket in this state, each call that the state or the lock does not allow, and each call for another
+ * lock. */
 static void misuses(const struct qolb_core *core, uint64_t barging, struct qolb_ticket *ticket, uint32_t state) {
     struct qolb_core other = opened(barging);
     CHECK(ticket->state == state);
@@ -354,7 +359,7 @@ static void all_misuse(uint64_t barging) {
     misuses(&core, barging, &b, barging > 1 ? QOLB_TICKET_HEAD_INSIDE_SHUT_ : QOLB_TICKET_SERVED_SHUT_);
     CHECK(qolb_core_reopen_proved_(&core, &b) == QOLB_GRANTED && qolb_core_release_proved_(&core, &b) == QOLB_DONE);
     if (barging > 1) CHECK(qolb_core_leave_lock_word_proved_(&core, &b) == QOLB_DONE);
-    /* A free ticket may go to another lock. */
+    /* A free ticket may be used for another lock. */
     struct qolb_core other = opened(barging);
     CHECK(qolb_core_draw_proved_(&other, &b) == QOLB_GRANTED && qolb_core_release_proved_(&other, &b) == QOLB_DONE);
     CHECK(qolb_core_try_draw_proved_(&core, &c) == QOLB_GRANTED && qolb_core_release_proved_(&core, &c) == QOLB_DONE);
@@ -366,7 +371,7 @@ static void opens(void) {
     struct qolb_core core = {&labels};
     CHECK(qolb_core_open_proved_(65536, 1, &core) == QOLB_BAD_NODES && core.at == &labels);
     CHECK(qolb_core_open_proved_(1, 0, &core) == QOLB_MISUSE && core.at == &labels);
-    /* In a room: its blocks are there, and a later opening is on the heap again. */
+    /* The blocks lie in the prepared memory, and a later opening uses the heap again. */
     static _Alignas(128) char words[256], slots[64], block[128];
     struct qolb_ticket ticket;
     memset(&ticket, 0, sizeof ticket);
@@ -377,7 +382,7 @@ static void opens(void) {
         CHECK(arena.taken == CORE_BLOCKS);
         qolb_core_arena_ = NULL;
         CHECK(core.at == (void *)block && qolb_core_words_(&core) == (void *)words);
-        /* The second time the ticket is of the lock that lay there before. */
+        /* The second time, the ticket belongs to the lock that was there before. */
         CHECK(qolb_core_draw_proved_(&core, &ticket) == QOLB_GRANTED && ticket.number == 0);
         CHECK(qolb_core_take_lock_word_proved_(&core, &ticket) == QOLB_GRANTED);
         CHECK(qolb_core_release_proved_(&core, &ticket) == QOLB_DONE);

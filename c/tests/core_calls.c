@@ -1,18 +1,20 @@
-/* Random calls of the proved lock (src/core.h) by one thread, each compared with the stand-in on which the lock's C is
- * explored (tools/explorer/core.c): the answer, what the ticket says, and each word of the lock.
+/* Compares the proved core of a lock (src/core.h) with the stand-in over which the C code of the lock is model-checked
+ * (tools/explorer/core.c), by random calls of one thread. After each call it compares the result, the ticket, and each
+ * word of the lock.
  *
  *   build/core_calls_c [SCHEDULES [SEED]]        1,000,000 schedules, seed 1
  *
- * A schedule is some calls on a new lock by some tickets, most of them such as the ticket's state allows. Now and then
- * another ticket's call is made in the course of a call, as another thread's could be: before each of its accesses to
- * the lock's words in turn, and then the accesses are compared, too (not with the sanitizer of threads, which makes
- * some of its own). At the end each answer of each call must have been given 1,000 times. */
+ * A schedule consists of some calls on a new lock with some tickets. Most calls are such that the ticket's state allows
+ * them. Sometimes another ticket's call is made in the course of a call, as another thread could make it: once before
+ * each access of the first call to the lock's words. Then the accesses are compared, too, except with the thread
+ * sanitizer, which makes accesses of its own. At the end, each call must have returned each of its results 1,000
+ * times. */
 #include "accesses.h"
 
 #include "../src/core.h"
 #include "../src/heap.h"
 
-/* The stand-in, by other names. */
+/* The stand-in, whose calls get other names. */
 #define qolb_core_open_proved_ stand_in_open
 #define qolb_core_draw_proved_ stand_in_draw
 #define qolb_core_draw_and_check_proved_ stand_in_draw_and_check
@@ -53,8 +55,8 @@
 
 typedef uint32_t call(const struct qolb_core *core, struct qolb_ticket *ticket);
 
-/* The states that allow a call, as bits, and its answers, as bits by their numbers: some by another call in its course
- * alone. */
+/* For each call, the states that allow it, as bits, and its results, as bits by their numbers. A call returns some of
+ * these only if another call is made in its course. */
 #ifdef __SANITIZE_THREAD__
 enum { WATCHES = 0 };
 #else
@@ -95,7 +97,7 @@ enum {
     MOST_TICKETS = 96,
     OFTEN = 1000,
     FAR_OFF = 80,
-    BETWEEN = 500, /* one call in BETWEEN has another in its course; one in SELDOM of those that seldom meet one */
+    BETWEEN = 500, /* one call in BETWEEN has another in its course; for calls that rarely have one, one in SELDOM */
     SELDOM = 30
 };
 
@@ -110,7 +112,7 @@ static uint64_t draw(uint64_t below) {
     return (z ^ z >> 31) % below;
 }
 
-/* A lock, and its tickets: the proved one and the stand-in's. */
+/* A lock and its tickets. There is one of the proved core, and one of the stand-in. */
 struct side {
     struct qolb_core core;
     struct qolb_ticket tickets[MOST_TICKETS];
@@ -133,7 +135,7 @@ static void differs(int k, const char *what, uint64_t got, uint64_t wanted) {
     exit(1);
 }
 
-/* What both tickets say. Some fields mean something after some answers alone. */
+/* Compares both tickets. Some fields have a meaning only after some results. */
 static void compares(int k, uint32_t got, const struct qolb_ticket *ticket, const struct qolb_ticket *other) {
 #define SAME(field) \
     if (ticket->field != other->field) differs(k, #field, ticket->field, other->field)
@@ -163,14 +165,14 @@ static void calls(int k, unsigned ticket) {
 
 /* ---- Another call in the course of a call ---- */
 
-/* A ticket's first call at a lock reads this word, which is never written; the stand-in does not. */
+/* The first call of a ticket at a lock reads this word, which is never written. The stand-in does not read it. */
 enum { UNWRITTEN = 8 };
 
-/* The call and the other: which, of which ticket, and what it answered. */
+/* The call and the other call: which calls they are, of which tickets, and what they returned. */
 static struct course {
     struct side *side;
     bool is_proved;
-    unsigned at; /* the other call is made before this access; behind the last if there are fewer */
+    unsigned at; /* the other call is made before this access, or at the end if there are fewer */
     struct one {
         int call;
         unsigned ticket;
@@ -187,7 +189,7 @@ static void calls_other(unsigned access) {
     if (access == course.at) call_one(&course.other);
 }
 
-/* Returns the accesses of the call. */
+/* Makes the call, and returns its accesses. */
 static struct accesses calls_in_course(struct side *side, bool is_proved) {
     course.side = side, course.is_proved = is_proved;
     watch_page(side->words, UNWRITTEN, calls_other);
@@ -207,7 +209,7 @@ static void same_accesses(int k, const struct accesses *by, const struct accesse
     }
 }
 
-/* Both calls of both locks, the other before the access `at`. Returns the number of accesses. */
+/* Makes both calls on both locks, the other call before the access `at`. Returns the number of accesses. */
 static unsigned plays(int k, unsigned ticket, int other, unsigned other_ticket, unsigned at) {
     struct one wanted[2];
     course.at = at, course.this = (struct one){k, ticket, 0}, course.other = (struct one){other, other_ticket, 0};
@@ -224,14 +226,14 @@ static unsigned plays(int k, unsigned ticket, int other, unsigned other_ticket, 
     return by.count;
 }
 
-/* The same with the other call before each access, and at last behind them all. */
+/* Does the same with the other call before each access, and at last after all of them. */
 static void between(int k, unsigned ticket, int other, unsigned other_ticket) {
     static struct side was[2];
     was[0] = proved, was[1] = stand_in;
     for (unsigned at = 0; at < plays(k, ticket, other, other_ticket, at); at++) proved = was[0], stand_in = was[1];
 }
 
-/* A call that the ticket's state allows, mostly. */
+/* Draws a call, in most cases one that the ticket's state allows. */
 static int drawn_call(const struct qolb_ticket *ticket, int far_off) {
     if (draw(8) == 0) return (int)draw(CALLS);
     for (;;) {
@@ -248,12 +250,12 @@ static int seldom_meets(int k) {
 
 static void schedule(uint64_t label) {
     static const uint64_t limits[] = {0, 1, 2, 3, 16};
-    int far_off = label % FAR_OFF == 0; /* enough tickets that some can't be withdrawn */
+    int far_off = label % FAR_OFF == 0; /* enough tickets that some cannot be withdrawn */
     unsigned tickets = far_off ? MOST_TICKETS : 2 + (unsigned)draw(5);
     uint64_t barging = limits[draw(5)];
     opens(&proved, qolb_core_open_proved_, barging, label);
     opens(&stand_in, stand_in_open, barging, label);
-    /* A ticket that is free may have been of another lock. */
+    /* A free ticket may have been used for another lock. */
     for (unsigned t = 0; t < MOST_TICKETS; t++)
         if (proved.tickets[t].state != QOLB_TICKET_FREE_ || draw(2)) {
             memset(&proved.tickets[t], 0, sizeof proved.tickets[t]);
@@ -268,7 +270,7 @@ static void schedule(uint64_t label) {
     }
 }
 
-/* ---- What random calls don't come to ---- */
+/* ---- What random calls do not reach ---- */
 
 static int number_of(call *proved_call) {
     int k = 0;
@@ -279,7 +281,8 @@ static int number_of(call *proved_call) {
 enum { HOLDER, WITHDRAWER, PASSED = 64 };
 static int asks, asks_near, withdraws, releases;
 
-/* While a ticket releases its turn another asks and withdraws, after each grant: so there is always one to pass. */
+/* While a ticket releases its turn, another draws and withdraws after each grant, so that there is always one to pass.
+ */
 static void asks_and_withdraws(unsigned access) {
     if (access % 2 == 0) return;
     course.other.call = asks_near;
@@ -318,7 +321,7 @@ static void unfinished(uint64_t label, uint64_t barging) {
     if (holder->state != (barging > 1 ? QOLB_TICKET_INSIDE_ : QOLB_TICKET_FREE_)) abort();
 }
 
-/* The calls, with 65,535 sleepers counted at a cell. */
+/* Makes the calls while 65,535 sleepers are counted at a cell. */
 static void full(uint64_t label) {
     enum { SLEEPERS = 65535, ALL = 4 * (SLEEPERS + 1) + 1 };
     static struct qolb_ticket tickets[2][ALL];

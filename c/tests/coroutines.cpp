@@ -1,10 +1,10 @@
-// Ten thousand coroutines over four loops, a thread each, that share lines and a lock; some are destroyed while they
-// wait. And without a loop, each in the thread that releases, and what it is told that may not ask, gives up, or finds
-// its line closed. Prints only errors.
+// Tests ten thousand coroutines over four loops with a thread each. They share lines and a lock, and some are destroyed
+// while they wait. It also tests coroutines without a loop, which run in the releasing thread, and what a coroutine is
+// told that may not request, gives up, or finds its line closed. Prints only errors.
 //
 //   build/coroutines_cpp [COROUTINES [ROUNDS [SEED [SECONDS]]]]
 //
-// Another seed follows while there is time.
+// Until SECONDS have passed, the test is repeated with other seeds.
 #include <qolb.hpp>
 
 #include <algorithm>
@@ -40,7 +40,7 @@ class Loop {
         std::lock_guard<std::mutex> held(mutex_);
         if (it.posted) out(it);
     }
-    // Runs one, if there is one within this time.
+    // Runs one posted object, if there is one within this time.
     bool one(std::chrono::microseconds time) {
         std::unique_lock<std::mutex> held(mutex_);
         if (!first_) some_.wait_for(held, time);
@@ -63,7 +63,7 @@ class Loop {
     qolb::Ready *first_ = nullptr, *last_ = nullptr;
 };
 
-// Comes again behind all that is posted.
+// Resumes the coroutine after everything that is posted already.
 template <class L> struct Later : qolb::Ready {
     explicit Later(L &loop) : loop(loop) {}
     bool await_ready() { return false; }
@@ -80,7 +80,7 @@ template <class L> struct Later : qolb::Ready {
 
 static std::atomic<long> added_nodes, added_lock, destroyed, suspended;
 static long guarded;
-static long counts[64]; // of each line
+static long counts[64]; // for each line
 
 Job by_node(qolb::Node node, int line, int rounds, Loop &loop, int &left) {
     while (rounds > 0) {
@@ -100,7 +100,7 @@ Job by_lock(qolb::Lock &lock, int rounds, Loop &loop, int &left) {
         qolb::Entered turn = co_await qolb::enter(lock, loop);
         if (!turn) std::abort();
         guarded++, added_lock++;
-        if (rounds % 16 == 0) co_await Later<Loop>(loop); // holds meanwhile
+        if (rounds % 16 == 0) co_await Later<Loop>(loop); // the line is held meanwhile
     }
     left--;
 }
@@ -131,7 +131,7 @@ static void work(std::vector<Share> &shares, qolb::Lock &lock, int each, int rou
 
 enum { THREADS = 4, NODES = 160, MOST_LINES = 64 };
 
-// Half of the coroutines have a node each, as far as there are lines, and the others the lock.
+// Half of the coroutines have a node each, as far as there are lines. The others use the lock.
 static int many(int coroutines, int rounds, unsigned seed) {
     int lines = std::min<int>(MOST_LINES, (coroutines / 2 + NODES - 1) / NODES),
         at_lock = std::max(0, coroutines - lines * NODES);
@@ -160,7 +160,7 @@ static int many(int coroutines, int rounds, unsigned seed) {
     return sum != added_nodes || guarded != added_lock ? 3 : 0;
 }
 
-// In the thread that releases: a chain of coroutines over one line, without a loop, each of which releases inline.
+// A chain of coroutines over one line, without a loop. Each runs in the thread that releases, and releases the line.
 static Job chain(qolb::Node &node, int rounds, qolb::Inline &now, int &depth, int &deepest, long &turns) {
     while (rounds-- > 0) {
         qolb::Got got = co_await qolb::turn(node, now);
@@ -172,7 +172,7 @@ static Job chain(qolb::Node &node, int rounds, qolb::Inline &now, int &depth, in
     }
 }
 
-// What one is told that asks for a turn, by whether it may.
+// Requests the line, and notes what it is told.
 struct Asker {
     qolb::Inline now;
     qolb::Got got{};
@@ -182,7 +182,7 @@ struct Asker {
         got = co_await qolb::turn(node, now);
         answers++;
     }
-    // Whether it has this number of answers now, of which the last is this.
+    // Returns whether it has this number of results now, of which the last is `last`.
     bool has(int many, qolb::Got last) const { return answers == many && got == last; }
 };
 
@@ -196,9 +196,9 @@ static int turns_are_told() {
         jobs.back().handle.resume();
     };
     if (ask(nodes[0]); !me.has(1, qolb::Got::granted)) return 1;
-    if (ask(nodes[0]); !me.has(2, qolb::Got::misuse)) return 1; // it holds
+    if (ask(nodes[0]); !me.has(2, qolb::Got::misuse)) return 1; // it already holds the line
     if (ask(nodes[1]); me.answers != 2) return 1;
-    if (ask(nodes[1]); !me.has(3, qolb::Got::misuse)) return 1; // it waits
+    if (ask(nodes[1]); !me.has(3, qolb::Got::misuse)) return 1; // it already waits
     if (ask(nodes[2]); me.answers != 3) return 1;
     jobs.back().handle.destroy(), jobs.pop_back();
     if (nodes[2].state() != QOLB_STATE_ROLLED) return 1;
@@ -209,7 +209,7 @@ static int turns_are_told() {
     return 0;
 }
 
-// Of wishes that are no coroutine's: a second one replaces the first, and a node that is closed has none.
+// Tests notifications without coroutines: a second one replaces the first, and a node that is freed has none.
 static int wishes_end() {
     auto [opened, nodes] = qolb::Node::open(QOLB_TICKET, 1, 3, qolb_bytes{});
     if (opened != QOLB_DONE || nodes[0].acquire() != qolb::Got::granted) return 1;
@@ -240,10 +240,10 @@ static int entering_is_told() {
     std::vector<Job> jobs;
     if (lock.enter() != QOLB_GRANTED) return 1;
     for (int k = 0; k < 3; k++) jobs.push_back(enters(lock, now, told, k == 1)), jobs.back().handle.resume();
-    jobs[0].handle.destroy(); // it gives up
+    jobs[0].handle.destroy(); // this gives the request up
     lock.leave();
     if (told != std::vector<qolb_result>{QOLB_GRANTED}) return 1;
-    jobs[1].handle.destroy(); // it leaves
+    jobs[1].handle.destroy(); // this releases the line
     if (told != std::vector<qolb_result>{QOLB_GRANTED, QOLB_GRANTED} || lock.enter() != QOLB_GRANTED ||
         lock.shut() != QOLB_DONE)
         return 1;
@@ -260,7 +260,7 @@ static Job enters_again(qolb::Lock &lock, qolb::Inline &now, int &turns) {
     }
 }
 
-// One object is awaited again and again, the first time while another thread would wait.
+// One object is awaited several times, the first time while the lock is held.
 static int an_enter_lasts() {
     qolb::Lock lock;
     qolb::Inline now;
@@ -273,7 +273,7 @@ static int an_enter_lasts() {
     return turns != 3;
 }
 
-// One release begins 300,000 turns, each inline.
+// One release starts 300,000 acquisitions, each in the same thread.
 static int chains() {
     auto [opened, nodes] = qolb::Node::open(QOLB_TICKET, 1, 4, qolb_bytes{});
     if (opened != QOLB_DONE || nodes[3].acquire() != qolb::Got::granted) return 1;

@@ -1,9 +1,8 @@
-/* A lock with many that want it: calls that give up, tasks and threads by the thousand, and locks by the
- * million on the stack.
+/* Tests locks with great numbers: of calls that give up, of tasks and threads that wait, and of locks on the stack.
  *
  *   build/crowds [SECONDS [THREADS [LOCKS]]]     1 second of calls that give up at once, 1,000 threads, 20,000 locks
  *
- * Prints only errors; with arguments also what was measured. */
+ * Prints only errors; with arguments, it also prints what it measured. */
 #define _GNU_SOURCE
 #include <malloc.h>
 #include <qolb.h>
@@ -13,7 +12,7 @@
 
 enum { GIVEN_UP = 10000, MOST_OPEN = 12288, PASSED_IN_MS = 2, MOST_BYTES = 1 << 20 };
 
-/* A sanitizer has a heap of its own, and takes more time. */
+/* With a sanitizer there is less, because it has a heap of its own and takes more time. */
 #if defined(__SANITIZE_THREAD__) || defined(__SANITIZE_ADDRESS__)
 enum { SANITIZED = 1 };
 #else
@@ -41,7 +40,7 @@ struct waiter {
 static pthread_mutex_t mutex = PTHREAD_MUTEX_INITIALIZER;
 static pthread_barrier_t together;
 
-/* How many milliseconds after its limit the call returned. */
+/* Returns how many milliseconds after its timeout the call returned. */
 static double is_late(int with_mutex) {
     struct timespec until;
     clock_gettime(CLOCK_REALTIME, &until);
@@ -82,8 +81,8 @@ static void all_are_late(int with_mutex, double *late) {
     qsort(late, WAITERS * ROUNDS, sizeof *late, by_value);
 }
 
-/* The median is within a millisecond, or twice a mutex's in the same try, as the machine may have other work; in the
- * best of some tries. */
+/* In the best of some tries the median is within a millisecond, or within twice that of a mutex in the same try,
+ * because the machine may have other work. */
 static int late_in_time(uint32_t barging) {
     enum { ALL = WAITERS * ROUNDS, MEDIAN = ALL / 2, P99 = ALL * 99 / 100, TRIES = 5 };
     static double late[2][ALL];
@@ -106,7 +105,7 @@ static int late_in_time(uint32_t barging) {
     return 0;
 }
 
-/* ---- Tasks that have their turns in calls ---- */
+/* ---- Tasks that acquire and release in callbacks ---- */
 
 static qolb_task tasks[GIVEN_UP];
 static int had, depth;
@@ -121,7 +120,7 @@ static void has_turn(void *argument) {
     depth--;
 }
 
-/* So many of them wait, in order. */
+/* Lets `many` tasks wait, in order. */
 static void tasks_wait(int many) {
     memset(tasks, 0, sizeof tasks);
     had = depth = 0;
@@ -130,7 +129,7 @@ static void tasks_wait(int many) {
 
 /* ---- Requests that gave up, far from their turns ---- */
 
-/* So many nanoseconds are enough to draw a ticket, and too few to sleep. */
+/* A timeout in nanoseconds that suffices to draw a ticket, and is too short to sleep. */
 enum { SHORT = 1500 };
 
 static void *gives_up_often(void *times) {
@@ -146,9 +145,9 @@ static void in_another(void *(*does)(void *), int times) {
 
 static size_t bytes_in_use(void) { return SANITIZED ? 0 : mallinfo2().uordblks; }
 
-/* Nobody waits for them, and one leave passes them all: by the thread's own time, and the best of three tries, or of
- * ten where the machine has other work. Of more than may be open the others draw no ticket. A task is before them: with
- * barging it is the queue head, which each would be otherwise. */
+/* Nobody waits for requests that gave up, and one leave passes all of them. The time is that of the thread, in the best
+ * of three tries, or of ten if the machine has other work. If more calls give up than requests may be open, the others
+ * draw no ticket. A task is before them, because in a barging lock each of them would otherwise be the queue head. */
 static int passes(int given_up, uint32_t barging) {
     double best = 1e9, wall = 1e9;
     size_t taken = 0;
@@ -187,7 +186,7 @@ static void *looks_often(void *limit) {
     return NULL;
 }
 
-/* Calls that give up at once, again and again, beside a holder that is stalled. */
+/* Makes calls that give up at once, again and again, while the holder is stalled. */
 static int looks_in_vain(double length, int limit, uint32_t barging) {
     begin(barging);
     MUST(qolb_lock_enter(&lock), QOLB_GRANTED);
@@ -241,7 +240,8 @@ static void starts(struct comer *it, uint64_t limit) {
     until_asleep(&number);
 }
 
-/* One with a limit has drawn its ticket while fewer than may be are open: none that asks later is before it. */
+/* A call with a timeout has drawn its ticket while few requests are open. No request that is made later is before it.
+ */
 static int keeps_the_order(void) {
     struct comer comer[4];
     begin(0);
@@ -260,7 +260,8 @@ static int keeps_the_order(void) {
 
 /* ---- Threads by the thousand ---- */
 
-/* In order; and woken for their turn, for one in 128 of those before them, and once ahead. */
+/* Many threads are served in order. Each is woken for its turn, once for every 128 threads before it, and once ahead.
+ */
 static int by_the_thousand(int threads) {
     struct comer *comers = calloc((size_t)threads, sizeof *comers);
     long sleeps = 0, most = 0;
@@ -286,7 +287,8 @@ static int by_the_thousand(int threads) {
 
 /* ---- Tasks by the thousand ---- */
 
-/* Each has its turn in the call of the one before, without a call in another; of some each other gave up. */
+/* Each task acquires and releases in the callback of the one before, and callbacks are not nested. In some runs every
+ * other task gives up. */
 static int tasks_by_the_thousand(uint32_t barging, int gives_up) {
     begin(barging);
     MUST(qolb_lock_enter(&lock), QOLB_GRANTED);
@@ -301,7 +303,7 @@ static int tasks_by_the_thousand(uint32_t barging, int gives_up) {
     return 0;
 }
 
-/* More tasks than may be open are told that there is no memory, and may ask again. */
+/* If more tasks wait than requests may be open, the others are answered NO_MEMORY, and may enter again. */
 static int too_many_tasks(void) {
     begin(0);
     MUST(qolb_lock_enter(&lock), QOLB_GRANTED);
@@ -321,7 +323,7 @@ static int too_many_tasks(void) {
 enum { USERS = 4, SHUTS = 1, CLOSES = 2 };
 
 static struct {
-    qolb_lock *lock; /* of a round */
+    qolb_lock *lock; /* the lock of a round */
     atomic_int round, gone;
     int inside, last;
 } stack;
@@ -330,7 +332,7 @@ static void await(atomic_int *word, int value) {
     while (atomic_load(word) < value) sched_yield();
 }
 
-/* Whoever is in last leaves last of all that were granted the lock: then its bytes may go. */
+/* The thread that was granted the lock last leaves it, and then its bytes may be used for something else. */
 static void *uses(void *rounds) {
     for (int k = 1; k <= (int)(intptr_t)rounds; k++) {
         await(&stack.round, k);

@@ -1,5 +1,5 @@
-// Times and deadlines at the ends of their types, for a node, a lock and a condition: each is late at once, or waits
-// until it is granted. Prints only errors.
+// Tests timeouts and deadlines at the ends of their types, for a node, a lock and a condition. Each call times out at
+// once, or waits until it is granted. Prints only errors.
 #include <qolb.hpp>
 
 #include <chrono>
@@ -15,8 +15,8 @@ using namespace std::chrono;
 
 enum Ends { late, waits };
 
-// Something that this thread has and another wants, within a time or until a deadline; and that can be had after the
-// last call.
+// Something that this thread holds and another thread wants, within a time or until a deadline. After the last call the
+// other thread can have it.
 struct Node {
     qolb::Node has, wants;
 
@@ -36,7 +36,7 @@ struct Node {
     }
 };
 
-// Where nodes have lines of three kinds, locks are strict, or have one of two barging limits.
+// Returns a barging limit for each kind of line, so that locks are tested as strict locks and with two barging limits.
 qolb::barging barging_for(qolb_kind kind) { return qolb::barging{static_cast<std::uint16_t>(kind * 32)}; }
 
 struct Lock {
@@ -54,7 +54,7 @@ struct Lock {
     }
 };
 
-// What is wanted is a signal.
+// The same for a condition, where the other thread wants a signal.
 struct Signal {
     qolb::lock lock;
     qolb::Condition cond;
@@ -88,8 +88,8 @@ struct Predicate : Signal {
     }
 };
 
-// Whether a call by another thread ends as wanted: before it can be had, or by having it. Who waits although it is late
-// is ended by the alarm.
+// Returns whether a call of another thread ends as wanted: before the thing is released, or by having it. A thread that
+// waits although it should time out is ended by the alarm.
 template <class Thing, class Call> bool ends(qolb_kind kind, Ends wanted, Call call) {
     Thing thing(kind);
     bool got = false;
@@ -133,7 +133,7 @@ template <class Thing> bool times(const char *what, qolb_kind kind) {
 template <class Clock> using by_hours = time_point<Clock, hours>;
 template <class Clock> using by_seconds = time_point<Clock, seconds>;
 
-// The last second of the year 9999, which no 64-bit number of nanoseconds has.
+// The last second of the year 9999, which no 64-bit number of nanoseconds can represent.
 constexpr seconds year_9999(253402300799);
 
 template <class Thing, class Clock> bool deadlines(const char *what, qolb_kind kind) {
@@ -150,7 +150,7 @@ template <class Thing> bool all(const char *what, qolb_kind kind) {
            deadlines<Thing, system_clock>(what, kind);
 }
 
-// A clock that is set back by 100 ms once it was read twice: for the deadline, and for the time that is left.
+// A clock that is set back by 100 ms after it was read twice: for the deadline, and for the time that is left.
 struct SetBack {
     using duration = steady_clock::duration;
     using rep = duration::rep;
@@ -164,7 +164,7 @@ struct SetBack {
 };
 int SetBack::reads;
 
-// A deadline is by its own clock, as with std::timed_mutex.
+// A deadline follows its own clock, as with std::timed_mutex.
 template <class Thing> bool follows_its_clock() {
     SetBack::reads = 0;
     auto since = steady_clock::now();

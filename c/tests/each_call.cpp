@@ -1,6 +1,6 @@
-// Each call of a node in each of its states, over a line of each kind: its answer or exception, and the state after it.
-// Linked with --wrap for clock_gettime and syscall, so that time passes only in sleeps with a limit. Prints only
-// errors.
+// Tests each call of a node in each of its states, over a line of each kind: its result or exception, and the state
+// after it. Linked with --wrap for clock_gettime and syscall, so that time passes only in sleeps with a timeout. Prints
+// only errors.
 #include <qolb.hpp>
 
 #include <chrono>
@@ -18,7 +18,7 @@
 
 namespace {
 
-std::uint64_t now; // nanoseconds that were slept, by the thread that makes the calls
+std::uint64_t now; // the nanoseconds for which the thread that makes the calls has slept
 
 } // namespace
 
@@ -30,7 +30,7 @@ extern "C" int __wrap_clock_gettime(clockid_t, struct timespec *out) {
 
 extern "C" long __real_syscall(long number, ...);
 
-// The library's system calls: sleeping at a word, and waking its sleepers.
+// Replaces the system calls of the library: sleeping at a word, and waking its sleepers.
 extern "C" long __wrap_syscall(long number, ...) {
     constexpr int wait = 128;
     if (number != SYS_futex) return __real_syscall(number);
@@ -54,8 +54,8 @@ constexpr qolb_node_state every_state[states] = {QOLB_STATE_EMPTY,  QOLB_STATE_I
                                                  QOLB_STATE_QUEUED, QOLB_STATE_HOLDING, QOLB_STATE_LEFT,
                                                  QOLB_STATE_ROLLED, QOLB_STATE_SHUT};
 
-// A line of three nodes. The second is `node`, in the wanted state: if it waits or was withdrawn, the first holds the
-// line, and if it has left, the third has not linked yet.
+// A line of three nodes. The second is `node`, in the wanted state. If its request waits or was withdrawn, the first
+// node holds the line. If it has left, the third node has not linked itself yet.
 struct Line {
     std::vector<qolb::Node> nodes;
     qolb::Node node;
@@ -76,7 +76,7 @@ struct Line {
         if (state == QOLB_STATE_SHUT) node.shut();
     }
 
-    // A node that is busy in this state may be granted the line after this.
+    // Ends what makes the node busy, so that it can be granted the line.
     void goes_on() {
         (void)nodes[2].link();
         nodes[2].deqolb();
@@ -93,7 +93,7 @@ constexpr qolb_result DONE = QOLB_DONE, GRANTED = QOLB_GRANTED, CLOSED = QOLB_CL
 // The outcome of a call that may throw.
 enum Ended { has = 100, has_not, throws_closed, throws_misuse, does };
 
-// A call, its answer in each state, in the order of the states' numbers, and the state after it.
+// A call, its result in each state, in the order of the states' numbers, and the state after it.
 struct Row {
     const char *name;
     std::function<int(Line &)> call;
@@ -111,7 +111,7 @@ template <class Call> int ended(Call call) {
     }
 }
 
-// Another thread releases the line meanwhile, so that a call that waits as long as it takes does not wait for ever.
+// Makes the call while another thread releases the line, so that a call without a timeout does not wait for ever.
 template <class Call> int meanwhile(Line &line, Call call) {
     std::thread other([&line] {
         usleep(2000);
@@ -223,8 +223,8 @@ const std::vector<Row> rows = {
 };
 // clang-format on
 
-// The further rows of a line of this kind: only a link line has the first half of a request, and the state of a node
-// that is not busy any more.
+// The further rows of a line of this kind. Only a link line has the first half of a request, and a node whose state
+// changes once it is not busy any more.
 struct Of {
     Row prepend, clear;
 };
@@ -247,7 +247,7 @@ const Of of_others = {
 };
 
 bool holds(const Row &row, qolb_kind kind, std::size_t k) {
-    // States of a link line alone.
+    // Only a link line has these states.
     if (kind != QOLB_LINK && (every_state[k] == LINK || every_state[k] == LEFT)) return true;
     Line line(kind, every_state[k]);
     if (line.node.state() != every_state[k]) return std::printf("kind %d: no node in the state %zu\n", kind, k), false;
@@ -258,7 +258,7 @@ bool holds(const Row &row, qolb_kind kind, std::size_t k) {
     return false;
 }
 
-// A time with a part of a nanosecond is rounded up: late is not answered before it.
+// A time with a fraction of a nanosecond is rounded up, so that no call times out before it.
 bool rounds_up(qolb_kind kind) {
     using namespace std::chrono;
     Line line(kind, ROLLED);
@@ -274,7 +274,7 @@ bool rounds_up(qolb_kind kind) {
                                static_cast<unsigned long long>(now - since)),
                    false;
     }
-    // The same for a period as fine as can be, where an hour would not fit its number; and for a coarse one.
+    // The same for the finest period, in which an hour does not fit into its number, and for a coarse one.
     std::uint64_t since = now;
     if (line.node.acquire_for(duration<std::int64_t, std::atto>(1)) != qolb::Got::timed_out || now - since != 1)
         return false;
@@ -286,8 +286,9 @@ bool rounds_up(qolb_kind kind) {
            now - since == 60000000000;
 }
 
-// The bytes of a ticket line of two nodes: the words and the slots of four cells and 128 more for each, what the nodes
-// share, two nodes, of a multiple of 128 less 16 and 128 more; and in C the line, two nodes and two places.
+// Checks the bytes of a ticket line of two nodes: the words and the slots of four cells, with 128 more for each; what
+// the nodes share; two nodes, each a multiple of 128 less 16, and 128 more; and in C the line, two nodes and two
+// places.
 bool tells_memory() {
     constexpr std::uint64_t keeps = 2 * (4 * 128 + 128) + 128 + 2 * (256 - 16 + 128) + 40 + 2 * 48 + 2 * 8;
     return qolb::memory(QOLB_TICKET, 2) == keeps && qolb::memory(QOLB_TICKET, 0) == 0 &&
@@ -297,7 +298,7 @@ bool tells_memory() {
 } // namespace
 
 int main() {
-    alarm(300); // where a turn is lost, who waits for it does not end
+    alarm(300); // if a grant is lost, the thread that waits for it does not end
     if (!tells_memory()) return std::puts("what a line keeps of memory"), 1;
     for (std::uint32_t number = 0; number < QOLB_KINDS; number++) {
         auto kind = static_cast<qolb_kind>(number);

@@ -1,5 +1,5 @@
-//! Each call of a node in each of its states, over a line of each kind: its answer, and the state after it; each future of a mutex and of a lock that is free,
-//! held or shut; the text of nodes and answers; and that a thread that is cancelled while it waits goes on. Prints only errors.
+//! Tests each call of a node in each of its states, over a line of each kind: its result, and the state after it. It also tests each future of a mutex that is
+//! free, held or shut, the text of nodes and results, and that a thread which is cancelled while it waits goes on. Prints only errors.
 #[path = "../rust/qolb.rs"]
 mod qolb;
 
@@ -22,8 +22,8 @@ const SHORT: Duration = Duration::from_micros(50);
 /// The states of a node, in the order of the columns below. Only a link line has `Linking` and `Left`.
 const STATES: [State; 7] = [State::Idle, State::Linking, State::Queued, State::Holding, State::Left, State::Rolled, State::Shut];
 
-/// A line of three nodes. `node` is the second, in the wanted state: if it waits or was withdrawn, the first holds the line, and if it has left, the
-/// third has not linked yet.
+/// A line of three nodes. The second is `node`, in the wanted state. If its request waits or was withdrawn, the first node holds the line. If it has left, the
+/// third node has not linked itself yet.
 struct Line {
     node: Node,
     first: Node,
@@ -64,7 +64,7 @@ impl Line {
         Line { node, first, third }
     }
 
-    /// Makes the call while another thread releases the line, so that a call that waits as long as it takes does not wait for ever.
+    /// Makes the call while another thread releases the line, so that a call without a timeout does not wait for ever.
     fn meanwhile<T>(&mut self, call: impl FnOnce(&mut Node) -> T) -> T {
         let Line { node, first, third } = self;
         thread::scope(|scope| {
@@ -79,7 +79,7 @@ impl Line {
     }
 }
 
-/// The result of a call of a guard: whether there was one, or the cause.
+/// Returns as text what a call that makes a guard returned: whether there was a guard, or the error.
 fn of_guard(told: Result<Option<Guard<'_>>, Stopped>) -> String {
     match told {
         Ok(Some(turn)) => format!("{turn:?}").contains("Holding").to_string(),
@@ -88,7 +88,7 @@ fn of_guard(told: Result<Option<Guard<'_>>, Stopped>) -> String {
     }
 }
 
-/// What a future is ready with, of one poll; then it is dropped.
+/// Polls a future once, drops it, and returns as text what it was ready with.
 fn polled<T>(future: impl Future<Output = Result<T, Stopped>>) -> String {
     match pin!(future).poll(&mut Context::from_waker(Waker::noop())) {
         Poll::Ready(Ok(_)) => "Ready".to_string(),
@@ -97,19 +97,19 @@ fn polled<T>(future: impl Future<Output = Result<T, Stopped>>) -> String {
     }
 }
 
-/// A wish for what outlives it.
+/// Requests a notification by `end`, which must exist longer than the notification.
 fn wants(node: &mut Node, end: &UnixStream) -> Answer {
-    // SAFETY: each test takes the wish back, or closes the node, before it drops the end.
+    // SAFETY: each test takes the notification back, or frees the node, before it drops the end.
     unsafe { node.notify_fd(end.as_fd()) }
 }
 
-/// A wish, and what takes it back, twice.
+/// Requests a notification, and takes it back twice.
 fn wants_and_wants_no_more(node: &mut Node) -> String {
     let (end, _other) = UnixStream::pair().unwrap();
     format!("{:?} {:?} {:?}", wants(node, &end), node.notify_off(), node.notify_off())
 }
 
-/// A call, its answer in each state, as `Debug` writes it, and the state after it.
+/// A call, its result in each state as `Debug` writes it, and the state after it.
 type Row = (&'static str, fn(&mut Line) -> String, [&'static str; 7], [State; 7]);
 
 fn told(answer: Answer) -> String {
@@ -161,7 +161,7 @@ fn prepends(line: &mut Line) -> String {
     told(line.node.prepend())
 }
 
-/// A busy node is not busy any more.
+/// Ends what makes the node busy, and settles it.
 fn is_clear_then(line: &mut Line) -> String {
     let _ = line.third.link();
     line.third.deqolb();
@@ -169,7 +169,7 @@ fn is_clear_then(line: &mut Line) -> String {
     told(line.node.settle())
 }
 
-/// Only a link line has the first half of a request, and the state of a node that is not busy any more.
+/// Only a link line has the first half of a request, and a node whose state changes once it is not busy any more.
 #[rustfmt::skip]
 const OF_LINK: [Row; 2] = [
     ("prepend", prepends, ["Granted", NO, NO, NO, "Busy", "Busy", "Closed"], [Holding, Linking, Queued, Holding, Left, Rolled, Shut]),
@@ -184,7 +184,7 @@ fn holds(kind: Kind, state: State, row: &Row, column: usize) {
     assert_eq!((got.as_str(), line.node.state()), (tells[column], then[column]), "{name} of a {kind:?} in the state {state:?}");
 }
 
-/// A node is closed if it neither waits nor holds, and is given back if it does.
+/// A node that neither waits nor holds is freed. Any other node is returned.
 fn closes(kind: Kind, state: State) {
     let line = Line::new(kind, state);
     let may = matches!(state, Idle | Left | Rolled | Shut);
@@ -207,9 +207,9 @@ fn each_call(kind: Kind) {
     }
 }
 
-// ---- Wishes to be told, and futures ----
+// ---- Notifications and futures ----
 
-/// Whether the descriptor was told, by the 8 bytes that an eventfd takes.
+/// Returns whether a notification was written to the descriptor: the 8 bytes that an eventfd takes.
 fn is_told(mut end: &UnixStream) -> bool {
     end.set_nonblocking(true).unwrap();
     match end.read(&mut [0; 16]) {
@@ -218,7 +218,7 @@ fn is_told(mut end: &UnixStream) -> bool {
     }
 }
 
-/// A second wish replaces the first, and closing takes a wish back.
+/// A second notification replaces the first, and freeing the node takes a notification back.
 fn wishes_end(kind: Kind) {
     let [(first, told_first), (second, told_second), (third, told_third)] = [(); 3].map(|()| UnixStream::pair().unwrap());
     let Line { mut node, first: mut holder, third: mut last } = Line::new(kind, Queued);
@@ -231,7 +231,7 @@ fn wishes_end(kind: Kind) {
     assert_eq!((is_told(&told_second), is_told(&told_third)), (false, false));
 }
 
-/// A future that is dropped while it waits takes its request back.
+/// A future that is dropped while it waits withdraws its request.
 fn a_dropped_future_withdraws(kind: Kind) {
     let Line { mut node, mut first, .. } = Line::new(kind, Idle);
     assert_eq!(first.acquire(), Answer::Granted);
@@ -239,7 +239,7 @@ fn a_dropped_future_withdraws(kind: Kind) {
     assert_eq!((first.deqolb(), first.try_acquire()), (Answer::Done, Answer::Granted));
 }
 
-/// Of a strict mutex and of one with barging: free, held by a thread, held by a task, free again though a future gave up, and shut.
+/// Polls a future of a strict and of a barging mutex that is free, held by a thread, held by a task, free again after a future gave up, or shut.
 fn each_future() {
     let (mutex, lock) = (Mutex::new(0), Mutex::with_barging(0, 64));
     let both = || (polled(mutex.lock_async()), polled(lock.lock_async()));
@@ -261,7 +261,7 @@ fn each_future() {
     assert_eq!(both(), all("Closed"));
 }
 
-/// What each answer is called where it is printed, by `Display`.
+/// The text of each result by `Display`.
 #[rustfmt::skip]
 const TEXTS: [(Answer, &str); 16] = [
     (Answer::Done, "done"),
@@ -282,7 +282,7 @@ const TEXTS: [(Answer, &str); 16] = [
     (Answer::TimedOut, "the time is over, and the request is withdrawn"),
 ];
 
-/// `?` takes what opening and a lock refuse, in a function whose error is any.
+/// `?` passes on the errors of opening and of a lock, in a function with any error type.
 fn asks(nodes: u64, shuts: bool) -> Result<u64, Box<dyn Error>> {
     let mut opened = qolb::open(Kind::Ring, LABEL, nodes, None, &Bytes([0; 64]))?;
     if shuts {
@@ -313,8 +313,8 @@ fn says() {
     assert_eq!(held.node.lock().unwrap().turns_left(), Some(LEASE - 1));
 }
 
-/// What a link line of three nodes keeps: 256 bytes and 128 for each node, the line, three nodes, each a multiple of 128, and 128 more for each of
-/// six blocks.
+/// Checks what a link line of three nodes keeps: 256 bytes and 128 for each node, the line, three nodes (each a multiple of 128), and 128 more for each of six
+/// blocks.
 fn tells_memory() {
     assert_eq!(qolb::memory(Kind::Link, 3), Some(4 * 128 + 128 + 256 + 128 + 3 * (256 - 16 + 128) + 40 + 3 * 48 + 4 * 8));
     assert_eq!((qolb::memory(Kind::Link, 0), qolb::memory(Kind::Link, 201)), (None, None));
@@ -335,12 +335,12 @@ fn is_cancelled(kind: Kind) {
     let waiter = thread::spawn(move || {
         let got = node.acquire_for(Duration::from_secs(60));
         let mut was = 0;
-        // SAFETY: it changes this thread's own state alone. Nothing before it since the wait is a cancellation point.
+        // SAFETY: it changes only this thread's own state. No cancellation point is between the wait and this call.
         unsafe { pthread_setcancelstate(DISABLE, &mut was) };
         tells.send((got, was, node.deqolb())).unwrap();
     });
     thread::sleep(Duration::from_millis(20));
-    // SAFETY: the thread is not joined yet.
+    // SAFETY: the thread has not been joined yet.
     assert_eq!(unsafe { pthread_cancel(waiter.as_pthread_t()) }, 0);
     thread::sleep(Duration::from_millis(20));
     assert_eq!(first.deqolb(), Answer::Done);
@@ -350,7 +350,7 @@ fn is_cancelled(kind: Kind) {
 }
 
 fn main() {
-    alarm(300); // where a turn is lost, who waits for it does not end
+    alarm(300); // if a grant is lost, the thread that waits for it does not end
     says();
     tells_memory();
     each_future();

@@ -1,13 +1,13 @@
-/* Real-time threads at a lock: one of SCHED_FIFO never waits for a thread of SCHED_OTHER on the same processor by
- * spinning, as that one would not run meanwhile. At a strict lock and at one with barging:
+/* Tests real-time threads at a lock. A thread of SCHED_FIFO must not spin while it waits for a thread of SCHED_OTHER on
+ * the same processor, because that thread would not run meanwhile. At a strict and at a barging lock:
  *
- * - Others leave and are preempted in that call by the thread that they wake; that one, in its turn, wakes another of a
- *   higher priority, which enters.
- * - A thread that was woken has its turn, leaves, and closes the lock, while the one that woke it is still in its call.
+ * - Threads leave, and are preempted in this call by the thread that they wake. While that thread has the lock, it
+ *   wakes another thread of a higher priority, which enters.
+ * - A thread that was woken acquires, leaves and destroys the lock, while the thread that woke it is still in its call.
  *
- * No wait may take a tenth of a second of a processor. With the argument `mutex` the first is done with a mutex of
- * the C library, for the library that is preloaded. Where the system gives no such priorities nothing is tried.
- * Prints only errors. */
+ * No wait may take a tenth of a second of processor time. With the argument `mutex` the first part uses a mutex of the
+ * C library, to test the preload library. If the system does not allow such priorities, nothing is tested. Prints only
+ * errors. */
 #define _GNU_SOURCE
 #include <qolb.h>
 #include <semaphore.h>

@@ -1,5 +1,5 @@
-/* After a fork parent and child have a line each, both in the same state, and neither sees what the other does. Prints
- * only errors. */
+/* Tests that after a fork the parent and the child have a line each, both in the same state, and that neither sees what
+ * the other does. The same is tested with a lock. Prints only errors. */
 #define _POSIX_C_SOURCE 200809L
 #include "want.h"
 #include <qolb.h>
@@ -8,8 +8,8 @@
 #include <sys/wait.h>
 #include <unistd.h>
 
-/* The first node holds the line, with this in its lane 0, and the second waits: it continues from there, and leaves its
- * own number in the line. */
+/* The first node holds the line, which has `was` in lane 0, and the second node waits. Both go on from there, and leave
+ * `leaves` in the line. */
 static int goes_on(qolb_node *n, uint64_t was, uint64_t leaves) {
     uint64_t lane;
     WANT(qolb_state(&n[0]), QOLB_STATE_HOLDING);
@@ -42,7 +42,7 @@ static int forks(uint32_t kind) {
     pid_t child = fork();
     if (child < 0) return perror("fork"), 1;
     if (child == 0) {
-        /* The child's copy is its own, and so is a line that it opens. */
+        /* The child has a copy of its own, and can open a line of its own. */
         int wrong = goes_on(n, 5, 6) || closes(n);
         wrong = wrong || qolb_open(kind, 2, 1, QOLB_NO_LEASE, &zeros, &fresh, 1) != QOLB_DONE ||
                 qolb_acquire(&fresh) != QOLB_GRANTED;
@@ -51,13 +51,13 @@ static int forks(uint32_t kind) {
     }
     WANT(waitpid(child, &ended, 0) == child, 1);
     WANT(WIFEXITED(ended) && WEXITSTATUS(ended) == 0, 1);
-    /* The parent sees nothing of all that: its node still holds the line, unchanged. */
+    /* The parent sees nothing of this: its node still holds the line, which is unchanged. */
     return goes_on(n, 5, 7) || closes(n);
 }
 
 static uint64_t guarded;
 
-/* The same test with a lock, which is held at the fork. */
+/* Makes the same test with a lock that is held at the fork. */
 static int lock_goes_on(qolb_lock *lock, uint64_t was, uint64_t leaves) {
     WANT(qolb_lock_try(lock), QOLB_BUSY);
     WANT(qolb_lock_is_mine(lock), 1);

@@ -1,12 +1,13 @@
-/* Locks that threads and a task hold, or nobody, for held.gdb to ask of each which thread holds it. In a debugger the
- * thread that ends is number 2, and the others in the order in which they begin. */
+/* A program for held.gdb, which asks for each of its locks which thread holds it. The locks are held by threads, by a
+ * task, or by nobody. In the debugger the thread that ends has number 2, and the others are numbered in the order in
+ * which they begin. */
 #define _GNU_SOURCE
 #include "want.h"
 #include <pthread.h>
 #include <qolb.h>
 #include <unistd.h>
 
-enum { MANY = 12 }; /* more than a thread's table has room for */
+enum { MANY = 12 }; /* more locks than a thread's table has room for */
 
 static qolb_lock unopened, left, of_main, of_third, of_fourth[MANY], of_task, of_ended;
 static qolb_task task;
@@ -33,7 +34,7 @@ static void *holds_many(void *unused) {
 
 static void does_nothing(void *unused) { (void)unused; }
 
-/* Where the debugger stops. */
+/* The debugger stops here. */
 __attribute__((noinline)) void is_stuck(void) { __asm__ volatile(""); }
 
 int main(void) {

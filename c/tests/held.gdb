@@ -1,4 +1,4 @@
-# Asks which thread holds each lock of held.c, by the command of ../package/qolb.gdb.
+# Asks which thread holds each lock of held.c, with the command of ../package/qolb.gdb. `make -C c check` compares the output.
 set pagination off
 set debuginfod enabled off
 break is_stuck

@@ -1,4 +1,4 @@
-/* Whether a node's hints (../src/hints.h) are the words and the slots that a handoff reads and writes. Prints only
+/* Tests that a node prefetches the words and slots that a hand-over reads and writes (../src/hints.h). Prints only
  * errors. */
 #define _GNU_SOURCE
 #include <hints.h>
@@ -31,7 +31,7 @@ static void close_line(uint64_t nodes) {
     for (uint64_t k = 0; k < nodes; k++) CHECK(qolb_node_free(&node[k]) == QOLB_DONE);
 }
 
-/* Of a link line: node 2 has the line, node 3 waits for it and gets it. */
+/* Tests a link line: node 2 has the line, and node 3 waits for it and gets it. */
 static void hand_over_link(const qolb_bytes *opening) {
     struct node *my = node_of(&node[1]);
     qolb_bytes bytes = *opening;
@@ -52,8 +52,8 @@ static void hand_over_link(const qolb_bytes *opening) {
     CHECK(read_word(home_of_link(my)) == 0);
 }
 
-/* Of another line: two nodes take turns, and each finds the bytes of the other in its slot once it is granted the line;
- * of a ticket line in each slot. */
+/* Tests a line of another kind: two nodes have it alternately, and each finds the bytes of the other node in its slot
+ * once it is granted the line. In a ticket line, all slots are used. */
 static void hand_over(uint32_t kind, const qolb_bytes *opening) {
     enum { TURNS = 2 * 256 };
     qolb_bytes bytes = *opening;
@@ -76,7 +76,7 @@ static void hand_over(uint32_t kind, const qolb_bytes *opening) {
     CHECK(qolb_deqolb(&node[TURNS % 2]) == QOLB_DONE);
 }
 
-/* All nodes of a line have the same slots and words, and each an entry of its own. */
+/* Checks that all nodes of a line have the same slots and words, and that each has an entry of its own. */
 static void check_hints(uint32_t kind, uint64_t nodes) {
     const struct node *first = node_of(&node[0]);
     for (uint64_t k = 0; k < nodes; k++) {

@@ -1,6 +1,6 @@
-/* No call on a lock, a condition or a node changes errno, also where it sleeps, wakes or is late, and where memory is
- * out. With the argument `mutex` those of the C library's mutexes, for the library that is preloaded. Linked with
- * --wrap for malloc. Prints only errors. */
+/* Tests that no call on a lock, a condition or a node changes errno, also if it sleeps, wakes or times out, and if
+ * there is no memory. With the argument `mutex` it tests the calls on mutexes of the C library, for the preload
+ * library. Linked with --wrap for malloc. Prints only errors. */
 #define _GNU_SOURCE
 #include <errno.h>
 #include <qolb.h>
@@ -10,7 +10,7 @@
 
 enum { THREADS = 4, TURNS = 300, KEPT = 4711 };
 
-/* The call's answer; errno must be as before. */
+/* Makes the call, and checks that errno is as before. */
 #define KEEPS(call)                                                              \
     ({                                                                           \
         errno = KEPT;                                                            \
@@ -27,7 +27,7 @@ static qolb_cond cond = QOLB_COND_INIT;
 static pthread_mutex_t mutex = PTHREAD_MUTEX_INITIALIZER;
 static pthread_cond_t news = PTHREAD_COND_INITIALIZER;
 
-/* Long enough that the others sleep. */
+/* Rests so long that the others sleep. */
 static void rest(int k) {
     if (k % 8 == 0) usleep(300);
 }
@@ -76,7 +76,7 @@ static void *finds_no_memory(void *unused) {
     return unused;
 }
 
-/* A call with a limit behind more than sixty tasks wants memory, and does without. */
+/* A call with a timeout behind more than 60 tasks needs memory, and waits on because there is none. */
 static void without_memory(void) {
     enum { TASKS = 80 };
     static qolb_task tasks[TASKS];
@@ -91,7 +91,7 @@ static void without_memory(void) {
     pthread_join(id, NULL);
 }
 
-/* Nothing can be added to a full descriptor. */
+/* A notification cannot add to an eventfd whose count is full. */
 static void tells_a_full_descriptor(void) {
     static qolb_task task;
     uint64_t most = UINT64_MAX - 1;

@@ -1,8 +1,8 @@
-/* A timed lock: threads share a line that guards the program's data, and give up if it takes too long. Then the effects
- * of a closing, and the answers of the waiting calls. Prints only errors.
+/* Tests timeouts of nodes: threads share a line that protects data of the program, and give up if a wait takes too
+ * long. Then it tests what happens when a line is closed, and what the calls that wait return. Prints only errors.
  *
- * The thread sanitizer sees the data, and must be quiet. Built with -DUNGUARDED each thread has its own line, so that
- * nothing guards the data, and then it must report. */
+ * The thread sanitizer observes the data, and must report nothing. Built with -DUNGUARDED, each thread has a line of
+ * its own, so that nothing protects the data, and then it must report a race. */
 #define _POSIX_C_SOURCE 200809L
 #include "want.h"
 #include <pthread.h>
@@ -14,7 +14,7 @@
 
 enum { THREADS = 4, ROUNDS = 5000 };
 
-/* The guarded data: ordinary, and too large for the line's own bytes. */
+/* The protected data, which are too large for the line's own bytes. */
 static struct {
     long turns, by[THREADS];
     char last[200];
@@ -28,7 +28,7 @@ struct worker {
 
 static struct worker workers[THREADS];
 
-/* An error. The thread releases the line before it ends, as the others would wait for it. */
+/* Reports an error. The thread releases the line before it ends, because the others would wait for it. */
 static void *went_wrong(struct worker *me, uint32_t got) {
     me->wrong = got;
     if (qolb_withdraw(&me->node) != QOLB_WITHDRAWN) qolb_deqolb(&me->node);
@@ -94,14 +94,14 @@ static int share(uint32_t kind) {
 }
 
 #ifndef UNGUARDED
-/* The last turn: it writes what the line guards, and shuts. */
+/* The last holder writes the data that the line protects, and shuts the line. */
 static void *shuts(void *argument) {
     guarded.turns = 7;
     return qolb_shut(argument) == QOLB_DONE ? NULL : "not shut";
 }
 
-/* A thread that is told that the line is closed sees what its last holder wrote, by the line alone: the thread is
- * joined after that. In a link line the answer may be that of the second half of the request. */
+/* A thread that is told that the line is closed sees what the last holder wrote. Only the line orders this, because the
+ * holder's thread is joined later. In a link line, the second half of the request may be told. */
 static int told_sees(uint32_t kind, int in_halves) {
     qolb_bytes zeros = {{0}};
     qolb_node n[2] = {{0}};
@@ -113,7 +113,7 @@ static int told_sees(uint32_t kind, int in_halves) {
     if (in_halves) WANT(qolb_prepend(&n[1]), QOLB_LINKING);
     WANT(pthread_create(&id, NULL, shuts, &n[0]), 0);
     if (in_halves) {
-        struct timespec nap = {0, 20000000}; /* so that the line is closed, most of the time, before it links */
+        struct timespec nap = {0, 20000000}; /* so that in most runs the line is closed before this node links */
         nanosleep(&nap, NULL);
         uint32_t got = qolb_link(&n[1]);
         while (got == QOLB_QUEUED || got == QOLB_WAITING) got = qolb_poll(&n[1]);
@@ -149,7 +149,7 @@ static int answers(uint32_t kind) {
     WANT(qolb_try(&n[0]), QOLB_MISUSE);
     WANT(qolb_acquire_within(&n[0], 1000000000), QOLB_MISUSE);
     WANT(qolb_state(&n[0]), QOLB_STATE_HOLDING);
-    /* The second node waits without a grant: for 20 ms, not at all, and while it is busy. */
+    /* The second node waits and is not granted the line: for 20 ms, not at all, and while it is busy. */
     double since = now();
     WANT(qolb_acquire_within(&n[1], 20000000), QOLB_TIMEDOUT);
     WANT(now() - since >= 0.02, 1);
@@ -160,14 +160,14 @@ static int answers(uint32_t kind) {
     WANT(now() - since >= 0.02, 1);
     WANT(qolb_try(&n[1]), QOLB_BUSY);
     WANT(qolb_deqolb(&n[0]), QOLB_DONE);
-    /* The release passed its withdrawn request, so it is clear again. */
+    /* The release has passed its withdrawn request, so it is not busy any more. */
     WANT(qolb_acquire_within(&n[1], 0), QOLB_GRANTED);
     WANT(qolb_turns_left(&n[1]), 3);
     WANT(qolb_try(&n[0]), QOLB_BUSY);
     WANT(qolb_deqolb(&n[1]), QOLB_DONE);
     WANT(qolb_try(&n[0]), QOLB_GRANTED);
     WANT(qolb_deqolb(&n[0]), QOLB_DONE);
-    /* The last turn of the lease closes the line. */
+    /* The last acquisition of the lease closes the line. */
     WANT(qolb_acquire(&n[1]), QOLB_GRANTED);
     WANT(qolb_turns_left(&n[1]), 1);
     WANT(qolb_deqolb(&n[1]), QOLB_DONE);
@@ -177,7 +177,7 @@ static int answers(uint32_t kind) {
     WANT(qolb_turns_left(&n[1]), 0);
     for (int k = 0; k < 2; k++) WANT(qolb_node_free(&n[k]), QOLB_DONE);
     WANT(qolb_label(&n[0]), 0);
-    /* A line with no lease. */
+    /* A line without a lease. */
     WANT(qolb_open(kind, 0, 1, QOLB_NO_LEASE, &zeros, n, 1), QOLB_DONE);
     WANT(qolb_acquire(&n[0]), QOLB_GRANTED);
     WANT(qolb_turns_left(&n[0]), QOLB_NO_LEASE);
@@ -218,7 +218,7 @@ static int names(void) {
 #endif
 
 int main(void) {
-    alarm(300); /* where a turn is lost, who waits for it does not end */
+    alarm(300); /* if a grant is lost, the thread that waits for it does not end */
     for (uint32_t kind = 0; kind < QOLB_KINDS; kind++)
         if (share(kind)) return 1;
 #ifndef UNGUARDED

@@ -1,4 +1,4 @@
-//! A mutex of the crate `lock_api` over the lock of qolb.rs. Prints only errors.
+//! Tests a mutex of the crate `lock_api` over the lock of qolb.rs. Prints only errors.
 #[path = "../rust/qolb.rs"]
 mod qolb;
 use lock_api::{Mutex, MutexGuard};
@@ -10,7 +10,7 @@ use std::time::{Duration, Instant};
 
 static COUNT: Mutex<RawQolb, u64> = Mutex::new(0);
 
-/// Locks what it holds, and goes on by unwinding, if it may: then there are two guards. The process ends before.
+/// Locks a mutex that this thread holds. If the lock ended by a panic, there would be two guards. The process must end before.
 fn holds_twice(way: &str) {
     let mut held = COUNT.lock();
     let mut other = None;
@@ -36,7 +36,7 @@ fn main() {
     assert_eq!(*held, 8000);
     assert!(COUNT.is_locked() && COUNT.try_lock().is_none());
     std::thread::scope(|scope| _ = scope.spawn(is_late));
-    // The holder waits for itself by no call.
+    // In each way, the holder must not wait for itself.
     for way in ["lock", "unlocked"] {
         let ended = Command::new(std::env::current_exe().unwrap()).arg(way).output().unwrap();
         assert_eq!(ended.status.signal(), Some(6), "{way}: {ended:?}");

@@ -1,6 +1,11 @@
-/* Where locks lie, and how many of them: a lock lies in its own bytes, at any multiple of 16, and takes no heap; a
- * thread holds any number of them; many threads open one at its first use; a call with a limit waits behind any number
- * of others, and a lock is not closed meanwhile. Prints only errors. */
+/* Tests where locks lie and how many there can be:
+ *
+ * - A lock lies in its own bytes, at any multiple of 16, and takes no heap memory.
+ * - A thread can hold any number of locks.
+ * - Many threads can open a lock at its first use.
+ * - A call with a timeout can wait behind any number of other requests, and a lock is not destroyed meanwhile.
+ *
+ * Prints only errors. */
 #define _GNU_SOURCE
 #include <limits.h>
 #include <malloc.h>
@@ -48,7 +53,7 @@ static int counted(qolb_lock *lock, long turns) {
     return 0;
 }
 
-/* Each multiple of 16: the lock is right, and writes to no byte before or behind it. */
+/* At each multiple of 16 the lock works, and writes to no byte before or behind it. */
 static int lies_anywhere(uint32_t barging) {
     enum { AROUND = 128, PLACE = 16, FILLED = 0x5a };
     static _Alignas(128) unsigned char bytes[AROUND + AROUND + sizeof(qolb_lock) + AROUND];
@@ -79,7 +84,7 @@ static int takes_no_heap(void) {
     return 0;
 }
 
-/* On the stack, contended, closed at once, and others in the same bytes. */
+/* Locks on the stack are contended and destroyed at once, and others follow in the same bytes. */
 static int on_the_stack(void) {
     for (int round = 0; round < 300; round++) {
         qolb_lock lock = of_barging(round % 3 == 0 ? 0 : round % 3 == 1 ? 2 : 1024);
@@ -152,7 +157,7 @@ static void *waits_for_word(void *argument) {
     return NULL;
 }
 
-/* At a condition of a lock that is one of many: told by a signal, and by a shut. */
+/* A thread that holds many locks waits at a condition of one of them. It is told by a signal, or by a shut. */
 static int waits_with_many(int shut) {
     struct user waiter = {.lock = &held[MANY - 1]};
     for (int k = 0; k < MANY; k++) held[k] = of_barging(k % 2 ? 64 : 0);
@@ -205,7 +210,8 @@ static void *ends_as_holder(void *unused) {
     return unused;
 }
 
-/* The locks stay held: the first of them were in the thread's table, and the others in themselves. */
+/* A thread ends while it holds locks, which stay held. The thread's table had the first of them, and the others noted
+ * the holder themselves. */
 static int holder_that_ended(void) {
     pthread_t id;
     for (int k = 0; k < MANY; k++) held[k] = of_barging(k % 3 ? 0 : 16);
@@ -230,13 +236,13 @@ static int holder_that_ended(void) {
 
 enum { LEAVES, WAITS, ENTERS, ENTERS_AND_STAYS };
 #ifdef __SANITIZE_THREAD__
-enum { ROUNDS = PTHREAD_DESTRUCTOR_ITERATIONS - 1 }; /* in the last one the sanitizer knows the thread no more */
+enum { ROUNDS = PTHREAD_DESTRUCTOR_ITERATIONS - 1 }; /* in the last round the sanitizer no longer knows the thread */
 #else
 enum { ROUNDS = PTHREAD_DESTRUCTOR_ITERATIONS };
 #endif
 static struct {
     pthread_key_t key;
-    int rounds, does; /* in the last of these rounds */
+    int rounds, does; /* what it does in the last of these rounds */
     qolb_lock other;
 } end;
 
@@ -277,7 +283,8 @@ static void *holds_none(void *unused) {
     return unused;
 }
 
-/* Of a thread that holds many locks, or has used none before; the next one begins in its memory, and holds none. */
+/* A destructor of a key uses a lock in a thread that holds many locks, or that has used none before. The next thread
+ * begins in the same memory, and holds none. */
 static int uses_in_a_destructor(int holds, int rounds, int does) {
     static _Alignas(4096) char stack[1 << 20];
     pthread_attr_t at_stack;
@@ -296,7 +303,8 @@ static int uses_in_a_destructor(int holds, int rounds, int does) {
     return pthread_key_delete(end.key);
 }
 
-/* A lock whose memory went while its thread held it: another in the same bytes is not held, open or not yet. */
+/* The memory of a lock is used for another one while a thread held the first. The second lock is not held, whether it
+ * is open or not. */
 static int another_in_the_same_bytes(int opens) {
     for (int k = 0; k < MANY; k++) held[k] = of_barging(0);
     for (int k = 0; k < MANY; k++) WANT(qolb_lock_enter(&held[k]), QOLB_GRANTED);
@@ -312,7 +320,7 @@ static int another_in_the_same_bytes(int opens) {
     return 0;
 }
 
-/* ---- Limits behind many ---- */
+/* ---- Timeouts behind many requests ---- */
 
 static void *enters_once(void *argument) {
     struct user *me = argument;
@@ -322,8 +330,8 @@ static void *enters_once(void *argument) {
     return NULL;
 }
 
-/* Behind more waiters than a request may have that can be withdrawn: one call gives up at its limit, one at once, and
- * one waits until they have left, or the lock is shut. While it waits the lock is not closed. */
+/* More waiters are ahead than a request that can be withdrawn may have before it. One call times out, one gives up at
+ * once, and one waits until the others have left or the lock is shut. While it waits the lock is not destroyed. */
 static int limits_behind_many(uint32_t barging, int shut) {
     enum { WAITERS = 80 };
     static struct user waiters[WAITERS];

@@ -1,8 +1,8 @@
-/* How a waiter for a lock rests, and at a condition, by a clock that the program advances: how often it polls, how long
- * it sleeps, and when it is late; its answer if the lock is granted, or shut, between the last poll and the withdrawal;
- * and whom a leave wakes. Linked with --wrap for clock_gettime, nanosleep, sched_yield, syscall and for the proved
- * calls that poll and withdraw. One thread does what several would: so it enters a lock that it holds as preload.c
- * does. Prints only errors. */
+/* Tests how a thread waits for a lock and at a condition, with a clock that the program advances: how often it polls,
+ * how long it sleeps, and when it times out. Also tested are what a call returns if the lock is granted or shut between
+ * the last poll and the withdrawal, and which threads a leave wakes. One thread does what several would do, so it
+ * enters a lock that it holds as preload.c does. Linked with --wrap for clock_gettime, nanosleep, sched_yield, syscall,
+ * and the proved calls that poll and withdraw. Prints only errors. */
 #define _GNU_SOURCE
 #include "want.h"
 #include <lock/entries.h>
@@ -19,9 +19,10 @@
 enum { MS = 1000000, KEPT = 8 };
 #define NEVER UINT64_MAX
 
-/* How often a waiter polls before it sleeps, as qolb.h says, with four processors: behind the holder alone every 90 ns,
- * for 50 us; 150 ns later for each further thread before it; with eight before it for 2 us. A spin that ends with a
- * sleep halves the next one, which begins with an eighth more. */
+/* How often a waiter polls before it sleeps, as qolb.h says, with four processors. If only the holder is before it, it
+ * polls every 90 ns for 50 us. For each further thread before it, its pause is 150 ns longer. With eight threads before
+ * it, it polls for 2 us. A spin that ends with a sleep halves the next one, and each spin begins with an eighth more.
+ */
 enum { PROCESSORS = 4, SOME_BEFORE = 5, MANY_BEFORE = 8 };
 #define PAUSE(before) (90 + 150 * ((before)-1))
 enum {
@@ -32,18 +33,18 @@ enum {
     LESS = NEAR * 90 / 2 * 9 / 8 / 90
 };
 
-/* How often a thread yields before it queues at a barging lock: between its looks after 200, 400, 800, .. and at last
- * 4,000 ns, but not before the first two, for 10 us. */
+/* How often a thread yields before it queues at a barging lock: between looks after 200, 400, 800, .. and at last 4,000
+ * ns, for 10 us in all, but not before the first two. */
 enum { YIELDS_TO_BARGE = 5 };
 
-/* The time; and since `begins` the numbers of clock calls, sleeps, polls, yields and wakes, the longest time that a
+/* The time; and, counted since `begins`, the clock calls, sleeps, polls, yields and wakes, the longest time that a
  * sleep may have lasted, and the calls that a waiter must not make. */
 static uint64_t now = 5000000000, clocks, sleeps, longest, polls, yields, wakes, wrong;
 static const void *slept_at[KEPT], *woken_at[KEPT];
 static uint64_t yield_lasts;
 
-/* An action during this number of sleeps or yields, before this number of polls or looks at the clock, or before a
- * request is withdrawn. It happens once. */
+/* An action that happens once: during this sleep or yield, before this poll or look at the clock, or before a request
+ * is withdrawn. */
 static struct {
     void (*does)(void);
     uint64_t at_sleep, at_yield, at_poll, at_clock;
@@ -79,7 +80,8 @@ int __wrap_sched_yield(void) {
     return 0;
 }
 
-/* A sleep without a limit ends for no reason, and so does one in which something happens; any other takes its time. */
+/* Sleeps. A sleep without a timeout ends for no reason, and so does one in which something happens. Any other sleep
+ * lasts until its timeout. */
 static void sleep_until(const void *word, uint64_t end) {
     uint64_t lasts = end == NEVER ? NEVER : end > now ? end - now : 0;
     if (lasts > longest) longest = lasts;
@@ -105,10 +107,10 @@ long __wrap_syscall(long number, ...) {
     const struct timespec *time = va_arg(rest, const struct timespec *);
     va_end(rest);
     switch (what) {
-    case 128: /* FUTEX_WAIT_PRIVATE, for so long */
+    case 128: /* FUTEX_WAIT_PRIVATE, for a length of time */
         if (*word == value) sleep_until(word, time ? now + nanoseconds_of(time) : NEVER);
         break;
-    case 137: /* FUTEX_WAIT_BITSET_PRIVATE, until then */
+    case 137: /* FUTEX_WAIT_BITSET_PRIVATE, until a point in time */
         if (*word == value) sleep_until(word, time ? nanoseconds_of(time) : NEVER);
         break;
     case 129: /* FUTEX_WAKE_PRIVATE */
@@ -152,7 +154,7 @@ static void shuts(void) {
     if (qolb_lock_shut(&lock) != QOLB_DONE) wrong++;
 }
 
-/* Behind some turns. */
+/* Another turn holds the lock, behind some earlier ones. */
 static int is_held(uint64_t barging) {
     enum { TURNS = 9 };
     lock = (qolb_lock)QOLB_LOCK_INIT_BARGING(barging);
@@ -164,7 +166,7 @@ static int is_held(uint64_t barging) {
     return 0;
 }
 
-/* Nobody sleeps: no call of the system. */
+/* The other turn leaves. Nobody sleeps, so there is no system call. */
 static int is_left_by_other(void) {
     begins(NULL);
     qolb_leave_at_(lock_of(&lock), &other);
@@ -181,8 +183,8 @@ static int is_left(void) {
 
 /* ---- Resting ---- */
 
-/* Late to the nanosecond, after one sleep; at once for no time at all. The request that was late stays before the next
- * one until a leave passes it. The head of a barging lock polls no cell. */
+/* A call times out to the nanosecond, after one sleep, or at once if its timeout is 0. The request that timed out stays
+ * before the next one until a leave passes it. The head of a barging lock polls no cell. */
 static int late(uint64_t barging) {
     if (is_held(barging)) return 1;
     for (int again = 0; again < 2; again++) {
@@ -202,8 +204,8 @@ static int late(uint64_t barging) {
     return is_left();
 }
 
-/* As long as it takes, without a look at the clock but around a yield: it sleeps, and if it is woken for no reason it
- * yields and polls anew. A leave wakes it, by one call. */
+/* A call without a timeout looks at the clock only around a yield. It sleeps, and if it is woken for no reason it
+ * yields and polls again. A leave wakes it, by one system call. */
 static int sleeps_on(void) {
     if (is_held(0)) return 1;
     begins(leaves);
@@ -219,7 +221,7 @@ static int sleeps_on(void) {
     return is_left_by_other();
 }
 
-/* The head of a barging lock: a leave wakes it at the lock word. */
+/* The head of a barging lock sleeps, and a leave wakes it at the lock word. */
 static int head_sleeps_on(void) {
     if (is_held(64)) return 1;
     begins(leaves);
@@ -233,7 +235,7 @@ static int head_sleeps_on(void) {
     return is_left_by_other();
 }
 
-/* Granted while it polls, and at once: no sleep, no wake. */
+/* A call that is granted the lock at once or while it polls does not sleep, and nobody is woken. */
 static int granted_awake(void) {
     if (is_held(0)) return 1;
     begins(leaves);
@@ -248,7 +250,7 @@ static int granted_awake(void) {
     return is_left();
 }
 
-/* Behind this number of threads, the holder among them. It waits for so long, and is late. */
+/* A call waits behind this number of threads, the holder among them, until it times out. */
 static struct turn waiting[MANY_BEFORE];
 
 static int begins_behind(unsigned before, uint64_t nanoseconds) {
@@ -273,8 +275,8 @@ static int all_leave(unsigned before) {
     return 0;
 }
 
-/* Behind as many threads as there are processors, or more, it yields before each poll; behind twice as many it polls
- * for less, and does not yield. */
+/* Behind at least as many threads as there are processors, a waiter yields before each poll. Behind twice as many, it
+ * polls for a shorter time, and does not yield. */
 static int far_from_its_turn(void) {
     if (begins_behind(PROCESSORS - 1, MS)) return 1;
     WANT(yields, 0);
@@ -287,14 +289,14 @@ static int far_from_its_turn(void) {
     return all_leave(MANY_BEFORE);
 }
 
-/* While yields last as long as those to another program's busy thread, there are none for a quarter of a second. */
+/* If yields last as long as yields to a busy thread of another program, there are none for a quarter of a second. */
 static int stops_dear_yields(void) {
     enum { MOST = 8, REST = 250 };
     yield_lasts = 2 * MS;
     if (begins_behind(SOME_BEFORE, 1000 * MS)) return 1;
     WANT(yields, MOST);
     if (all_leave(SOME_BEFORE) || begins_behind(SOME_BEFORE, 20 * MS)) return 1;
-    WANT(yields, 1); /* the sleep was longer than the rest */
+    WANT(yields, 1); /* because the sleep was longer than the quarter of a second */
     if (all_leave(SOME_BEFORE) || begins_behind(SOME_BEFORE, 20 * MS)) return 1;
     WANT(yields, 0);
     now += REST * MS;
@@ -305,7 +307,7 @@ static int stops_dear_yields(void) {
     return all_leave(SOME_BEFORE);
 }
 
-/* The time is over, and the lock is granted, or is shut, before the withdrawal. */
+/* The timeout expires, and the lock is granted or shut before the withdrawal. */
 static int at_the_end(int is_shut) {
     if (is_held(0)) return 1;
     begins(is_shut ? shuts : leaves);
@@ -320,7 +322,8 @@ static void time_passes(void) { now += 5 * MS; }
 
 /* ---- Spinning before it queues ---- */
 
-/* The lock is left, or shut, or the thread's time is over, while it spins: it is in, without a ticket, or is told. */
+/* While a thread spins, the lock is left or shut, or the timeout expires. The thread takes the lock without a ticket,
+ * or is told. */
 static int spins_before_it_queues(void (*does)(void), uint64_t nanoseconds, uint32_t answer) {
     if (is_held(64)) return 1;
     begins(does);
@@ -335,7 +338,8 @@ static int spins_before_it_queues(void (*does)(void), uint64_t nanoseconds, uint
     return 0;
 }
 
-/* Woken without a grant: the rest of the time is used. Who waits for its turn of the queue yields. */
+/* A waiter that is woken without a grant uses the rest of its time. A thread that waits for its turn of the queue
+ * yields. */
 static int woken_for_nothing(uint64_t barging) {
     qolb_cond cond = QOLB_COND_INIT;
     if (is_held(barging)) return 1;
@@ -352,7 +356,7 @@ static int woken_for_nothing(uint64_t barging) {
     return is_left();
 }
 
-/* At a condition it sleeps at once. */
+/* At a condition a thread sleeps at once. */
 static int at_condition(void) {
     qolb_cond cond = QOLB_COND_INIT;
     if (is_held(0)) return 1;
@@ -372,7 +376,7 @@ static void has_a_turn(void *task) {
     now += lasts;
 }
 
-/* The limit counts from the call on: a task's call that is made meanwhile, as the lock is left, is in it. */
+/* The timeout begins with the call, so it includes the callback of a task that is made when the lock is left. */
 static int at_condition_beside_a_call(uint64_t barging, uint64_t nanoseconds) {
     qolb_cond cond = QOLB_COND_INIT;
     qolb_task task = {0};
@@ -387,7 +391,7 @@ static int at_condition_beside_a_call(uint64_t barging, uint64_t nanoseconds) {
     return is_left();
 }
 
-/* A limit that would end behind the last time of the clock is none. */
+/* A timeout that would expire after the last time of the clock is none. */
 static int almost_without_a_limit(uint64_t barging) {
     if (is_held(barging)) return 1;
     begins(leaves);
@@ -397,12 +401,12 @@ static int almost_without_a_limit(uint64_t barging) {
     return is_left_by_other();
 }
 
-/* While the head of a barging lock waits newcomers have turns, until the lock is reserved for it. */
+/* While the head of a barging lock waits, barging threads acquire the lock until it is reserved for the head. */
 static uint64_t newcomers;
 
 enum {
     LOOKS = 40
-}; /* by then a waiter with a limit, which looks at the clock before each look at the lock, is the head */
+}; /* by then a waiter with a timeout is the head; it looks at the clock before each look at the lock */
 static int while_it_sleeps;
 
 static void newcomer_has_a_turn(void) {
@@ -415,8 +419,8 @@ static void newcomer_has_a_turn(void) {
     event.at_clock = while_it_sleeps ? 0 : clocks + LOOKS;
 }
 
-/* The head requests the lock once it was overtaken while it looked; if it slept, after a millisecond. The barging
- * thread that is in then is the last. */
+/* The head requests the lock once it was overtaken while it looked at the lock, or a millisecond after it fell asleep.
+ * The barging thread that is inside then is the last one. */
 static int requests_the_lock(int asleep, uint64_t each_lasts, uint64_t last) {
     if (is_held(1024)) return 1;
     begins(newcomer_has_a_turn);
@@ -428,7 +432,7 @@ static int requests_the_lock(int asleep, uint64_t each_lasts, uint64_t last) {
     return is_left_by_other();
 }
 
-/* A process that may use one processor only, here a child, sleeps at once. */
+/* A process that may use only one processor sleeps at once. Here this is a child. */
 static int sleeps_at_once(void) {
     cpu_set_t set;
     CPU_ZERO(&set);
@@ -462,8 +466,8 @@ enum { SLEEPERS = 3 };
 static void (*lets_go)(void);
 static struct turn holder;
 
-/* While one sleeps the next waits and sleeps, too, and while the last does the lock is left. Those behind the first
- * are late, as their sleeps end. */
+/* While one waiter sleeps, the next one waits and sleeps, too. While the last one sleeps, the lock is left. The waiters
+ * behind the first time out when their sleeps end. */
 static void next_sleeps(void) {
     struct turn mine = {0};
     if (sleeps == SLEEPERS) {
@@ -477,7 +481,8 @@ static void next_sleeps(void) {
 
 static void holder_leaves(void) { qolb_leave_at_(lock_of(&lock), &holder); }
 
-/* Three sleep, each at its own word: the next holder is woken; and the one behind it, if who leaves has slept. */
+/* Three waiters sleep, each at a word of its own. The next holder is woken, and if the leaving thread has slept, also
+ * the waiter behind that one. */
 static int wakes_in_order(unsigned has_slept) {
     lock = (qolb_lock)QOLB_LOCK_INIT;
     WANT(qolb_lock_open(&lock, 0), QOLB_DONE);
@@ -489,7 +494,7 @@ static int wakes_in_order(unsigned has_slept) {
     event.at_sleep = 1;
     WANT(enters(NEVER), QOLB_GRANTED);
     WANT(slept_at[0] != slept_at[1] && slept_at[1] != slept_at[2] && slept_at[2] != slept_at[0], 1);
-    WANT(yields, 1); /* of the last one, whose sleep the leave ends */
+    WANT(yields, 1); /* by the last one, whose sleep the leave ends */
     WANT(wakes, 1 + has_slept);
     for (unsigned k = 0; k < wakes; k++) WANT(woken_at[k] == slept_at[k], 1);
     return is_left_by_other();
@@ -497,7 +502,7 @@ static int wakes_in_order(unsigned has_slept) {
 
 /* ---- In the child of a fork ---- */
 
-/* Each guard that a thread of the parent had is free. */
+/* In the child, each guard that a thread of the parent had taken is free. */
 static int guards_are_freed(void) {
     enum { PLACES = 1024, PLACE = 16 };
     static char places[PLACES * PLACE];
@@ -511,9 +516,9 @@ static int guards_are_freed(void) {
 }
 
 int main(void) {
-    alarm(60); /* who never looks at the clock, or never rests, does not end */
+    alarm(60); /* a thread that never looks at the clock, or never rests, does not end */
     if (with_one_processor()) return 1;
-    atomic_store(&qolb_pauses_, 80); /* also where there is one processor */
+    atomic_store(&qolb_pauses_, 80); /* it is set because there may be one processor */
     atomic_store(&qolb_processors_, PROCESSORS);
     if (late(0) || late(64) || sleeps_on() || head_sleeps_on() || granted_awake() || far_from_its_turn()) return 1;
     if (at_the_end(0) || at_the_end(1) || woken_for_nothing(0) || woken_for_nothing(64) || at_condition()) return 1;

@@ -1,9 +1,9 @@
-/* Locks for threads that come and go: the answer of each call, the order of service, conditions, and heavy use by many
- * threads.
+/* Tests locks with threads: what each call returns, the order in which threads are served, conditions, and heavy use by
+ * many threads.
  *
- *   build/locks [SECONDS]     1200: where a turn is lost, who waits for it does not end; the program ends then
+ *   build/locks [SECONDS]     1200: the program is ended then, because a thread whose grant is lost waits for ever
  *
- * Prints only errors. The thread sanitizer sees the data, and must be quiet. */
+ * Prints only errors. The thread sanitizer observes the data, and must report nothing. */
 #define _GNU_SOURCE
 #include <qolb.h>
 #include <signal.h>
@@ -13,7 +13,7 @@
 
 enum { MOST = 200 };
 
-/* A thread that a test starts: its number, which it reports right before it waits. */
+/* A thread that a test starts, and its number, which it reports right before it waits. */
 struct helper {
     pthread_t id;
     atomic_int number;
@@ -27,7 +27,7 @@ struct helper {
 
 static void start(struct helper *it, void *(*work)(void *)) { MUST(pthread_create(&it->id, NULL, work, it), 0); }
 
-/* ---- What each call answers ---- */
+/* ---- What each call returns ---- */
 
 static qolb_lock of_barging(uint64_t turns) {
     qolb_lock lock = QOLB_LOCK_INIT_BARGING(turns);
@@ -51,8 +51,8 @@ static int of_an_unopened_one(void) {
     return 0;
 }
 
-/* Each number of turns, of a lock that is opened by its first use and by the call; memory of calloc; and closed and
- * used again. */
+/* Tests each barging limit of a lock that is opened by its first use or by the call, memory of calloc, and a lock that
+ * is destroyed and used again. */
 static int of_any_barging(void) {
     static const uint64_t turns[] = {0, 1, 2, 3, 1024, 65535, 65536, (uint64_t)1 << 32, UINT64_MAX};
     qolb_lock *zeros = calloc(1, sizeof *zeros), opened = QOLB_LOCK_INIT;
@@ -85,7 +85,7 @@ static uint64_t monotonic(void) {
     return (uint64_t)now.tv_sec * 1000000000 + (uint64_t)now.tv_nsec;
 }
 
-/* The answers to another thread, of a holder's lock. */
+/* Tests what calls of another thread return while a thread holds the lock. */
 static void *of_another(void *argument) {
     struct helper *me = argument;
     MUST(qolb_lock_is_mine(me->lock), 0);
@@ -117,7 +117,8 @@ static int of_others(qolb_lock *lock) {
     return 0;
 }
 
-/* A shut lock answers CLOSED to all later threads; closed and used again it is as after its initialiser. */
+/* A shut lock answers CLOSED to all later threads. If it is destroyed and used again, it is as after its initialiser.
+ */
 static int of_a_shut_one(qolb_lock *lock) {
     WANT(qolb_lock_shut(lock), QOLB_DONE);
     WANT(qolb_lock_shut(lock), QOLB_MISUSE);
@@ -167,7 +168,7 @@ static void *enters_once(void *argument) {
 
 static struct { int order[MOST], served; } guarded;
 
-static uint32_t shared_turns; /* those before the first that waited */
+static uint32_t shared_turns; /* the acquisitions before the first waiter */
 
 static void *notes_its_turn(void *argument) {
     struct helper *me = argument;
@@ -180,8 +181,8 @@ static void *notes_its_turn(void *argument) {
     return NULL;
 }
 
-/* Some threads were late before, and a thread tried. Waiting threads take no processor. With barging those that wait
- * keep their order, too. */
+/* Waiting threads keep their order, also in a barging lock, and take no processor time. Before that, some threads have
+ * timed out and one has tried. */
 static int in_order(uint32_t barging) {
     enum { THREADS = 8, LATE = 3 };
     qolb_lock lock = of_barging(barging);
@@ -214,8 +215,8 @@ static int in_order(uint32_t barging) {
     return 0;
 }
 
-/* Many threads, one after another, the next when the last sleeps. Some give up in the middle, as they can only while
- * some sixty are before them. The lock was used before, or not. */
+/* Many threads wait in order, each of which starts once the one before it sleeps. Some give up in the middle, as they
+ * can only do while about sixty are before them. The lock has been used before, or not. */
 static int many_in_order(int is_used, uint32_t barging) {
     enum { THREADS = 200, TURNS = 40 };
     qolb_lock lock = of_barging(barging);
@@ -247,7 +248,7 @@ static int many_in_order(int is_used, uint32_t barging) {
 }
 
 /* While some threads wait, this one enters again and again. The k-th of them is overtaken at most k * (barging - 1)
- * times; and by some turns, as it slept. */
+ * times. It is overtaken at least sometimes, because it slept. */
 static int overtaken_within_the_bound(uint32_t barging) {
     enum { THREADS = 3 };
     qolb_lock lock = of_barging(barging);
@@ -276,7 +277,7 @@ static int overtaken_within_the_bound(uint32_t barging) {
     return 0;
 }
 
-/* On one processor a waiter that is woken may run at once, before the leaver enters again. */
+/* On one processor a waiter that is woken may run at once, before the leaving thread enters again. */
 static int has_one_processor(void) {
     cpu_set_t set;
     return sched_getaffinity(0, sizeof set, &set) == 0 && CPU_COUNT(&set) == 1;
@@ -292,15 +293,15 @@ static int barging(void) {
     return 0;
 }
 
-/* A leave wakes the next holder and the waiter behind it, and all others sleep on: so each sleeps at most twice, and
- * perhaps once more if the system delays it. If each leave woke all, the last would sleep twelve times. */
+/* A leave wakes the next holder and the waiter behind it, and all others sleep on. So each thread sleeps at most twice,
+ * and perhaps once more if the system delays it. If each leave woke all threads, the last would sleep twelve times. */
 static void *has_a_long_turn(void *argument) {
     struct helper *me = argument;
     about_to_wait(&me->number);
     long before = used().sleeps;
     MUST(qolb_lock_enter(me->lock), QOLB_GRANTED);
     me->self = (int)(used().sleeps - before);
-    usleep(20000); /* in which those that were woken sleep again */
+    usleep(20000); /* meanwhile those that were woken sleep again */
     MUST(qolb_lock_leave(me->lock), QOLB_DONE);
     return NULL;
 }
@@ -325,7 +326,7 @@ static int others_sleep_on(uint32_t barging) {
     return 0;
 }
 
-/* Those that wait behind some that gave up are served. A lock for which threads wait is not closed. */
+/* Threads that wait behind some that gave up are served. A lock for which threads wait is not destroyed. */
 static int behind_those_that_gave_up(uint32_t barging) {
     enum { THREADS = 6 };
     qolb_lock lock = of_barging(barging);
@@ -356,7 +357,8 @@ static int behind_those_that_gave_up(uint32_t barging) {
     return 0;
 }
 
-/* A thread that is cancelled while it sleeps goes on waiting, has its turn, and ends at its next cancellation point. */
+/* A thread that is cancelled while it sleeps goes on waiting, is granted the lock, and ends at its next cancellation
+ * point. */
 static void *is_cancelled(void *argument) {
     struct helper *me = argument;
     about_to_wait(&me->number);
@@ -397,7 +399,7 @@ static int cancelled(void *(*work)(void *)) {
     return 0;
 }
 
-/* A wait of a second takes no processor: for a lock, at a condition, and with a node. */
+/* A wait of a second takes no processor time: for a lock, at a condition, and with a node. */
 static void *waits_a_second(void *argument) {
     struct helper *me = argument;
     double since = used().processor;
@@ -509,7 +511,7 @@ static int shut_tells_all(uint32_t barging) {
     return 0;
 }
 
-/* Once a shut has returned every call is told CLOSED, though who waits may not have woken up yet. */
+/* Once a shut has returned, every call is told CLOSED, although some waiters may not have woken up yet. */
 static int shut_is_seen_at_once(uint32_t barging, uint32_t waiters, int way) {
     qolb_lock lock = of_barging(barging);
     struct helper threads[4] = {{0}};
@@ -547,8 +549,8 @@ static int served_by(qolb_lock *lock, int less) {
     return served;
 }
 
-/* A signal wakes the thread that has waited longest and no other; a late thread is not in the list any more; a
- * broadcast wakes all. */
+/* A signal wakes only the thread that has waited longest. A thread that timed out is not in the list any more. A
+ * broadcast wakes all threads. */
 static int told_in_order(uint32_t barging) {
     enum { THREADS = 7 };
     qolb_lock lock = of_barging(barging);
@@ -583,7 +585,7 @@ static int told_in_order(uint32_t barging) {
     return 0;
 }
 
-/* A signal of the system ends the sleep at a condition, and is no signal of the condition: the thread waits on. */
+/* A POSIX signal ends the sleep at a condition, but it is no signal of the condition, so the thread waits on. */
 static void does_nothing(int signal) { (void)signal; }
 
 static int interrupted(uint64_t nanoseconds) {
@@ -608,7 +610,7 @@ static int interrupted(uint64_t nanoseconds) {
     return 0;
 }
 
-/* A box of one place between makers and takers, some of whom wait with a time limit. */
+/* A box with room for one value between producers and consumers, some of which wait with a timeout. */
 static struct {
     qolb_lock lock;
     qolb_cond full, empty;
@@ -724,8 +726,7 @@ static void *uses(void *argument) {
     return NULL;
 }
 
-/* Threads come and go: each wave is joined, and another starts, before the next combination of barging limits and ends.
- * */
+/* Starts and joins several waves of threads for each combination of barging limits and ways to end. */
 static int much_use(unsigned threads, uint32_t barging, int ends_by_shut) {
     static struct helper helpers[MOST];
     long had = 0;
@@ -749,7 +750,8 @@ static int much_use(unsigned threads, uint32_t barging, int ends_by_shut) {
     return 0;
 }
 
-/* The last user of a lock may free it as soon as it has left, even if the thread before is still in its last call. */
+/* The last user of a lock may free it as soon as it has left, even if the thread before it is still in its last call.
+ */
 struct owned {
     qolb_lock lock;
     int users;
@@ -779,7 +781,8 @@ static int freed_by_the_last(uint32_t barging) {
     return 0;
 }
 
-/* Who is told of a shut at a condition may free the lock at once, even if who shuts it is still in that call. */
+/* A thread that is told of a shut at a condition may free the lock at once, even if the thread that shuts it is still
+ * in that call. */
 struct waited_at {
     qolb_lock lock;
     qolb_cond cond;

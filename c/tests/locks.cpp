@@ -1,8 +1,8 @@
-// The lock, its condition and the guarded value of qolb.hpp: with the guards and the condition of the standard library,
-// by threads that come and go, with time limits, shut, and misused. Prints only errors.
+// Tests the lock, the condition and the guarded value of qolb.hpp: with the guards and the condition of the standard
+// library, with threads that start and end, with timeouts, shut, and misused. Prints only errors.
 //
-// The thread sanitizer sees the data, and must be quiet. Built with -DUNGUARDED some data are used outside of the turns
-// of a guarded value, and then it must report.
+// The thread sanitizer observes the data, and must report nothing. Built with -DUNGUARDED, some data are used while the
+// lock of the guarded value is not held, and then it must report a race.
 #include <qolb.hpp>
 
 #include <atomic>
@@ -33,7 +33,7 @@ using namespace std::chrono_literals;
         }                                                  \
     } while (0)
 
-// Returns whether the work throws this.
+// Returns whether the work throws a `Thrown`.
 template <class Thrown, class Work> bool throws(Work work) {
     try {
         work();
@@ -77,7 +77,7 @@ bool counts() {
     return true;
 }
 
-// Waits until the thread with this number, which it reports right before it waits, sleeps.
+// Waits until the thread with this number sleeps. The thread reports its number right before it waits.
 void until_asleep(const std::atomic<int> &number) {
     for (char state = 'R'; state != 'S'; std::this_thread::sleep_for(200us)) {
         std::ifstream stat("/proc/self/task/" + std::to_string(number.load()) + "/stat");
@@ -85,7 +85,7 @@ void until_asleep(const std::atomic<int> &number) {
     }
 }
 
-// While one waits, this thread enters again and again: at most barging - 1 times.
+// While another thread waits, this one enters again and again, but at most barging - 1 times.
 bool is_overtaken_within(std::uint16_t barging) {
     qolb::lock lock(qolb::barging{barging});
     std::atomic<int> number{0};
@@ -109,8 +109,8 @@ bool is_overtaken_within(std::uint16_t barging) {
     return true;
 }
 
-// A barging limit above the greatest counts as the greatest: the lock is barging. While one waits, this thread enters
-// again before it, soon or late.
+// A barging limit above the greatest counts as the greatest, so the lock is barging: while another thread waits, this
+// one can enter before it.
 bool is_overtaken_by_some(qolb::barging most) {
     for (int round = 0; round < 1000; round++) {
         qolb::lock lock(most);
@@ -134,7 +134,7 @@ bool is_overtaken_by_some(qolb::barging most) {
     return false;
 }
 
-// A static one is there until the end: threads may use it while the program ends.
+// A static lock exists until the end, so threads may use it while the program ends.
 static_assert(std::is_trivially_destructible<qolb::lock>::value, "its destructor does nothing");
 
 qolb::lock in_barging(qolb::barging{64});
@@ -187,7 +187,7 @@ bool answers() {
     return true;
 }
 
-// A box of one place, by this condition and by the standard library's.
+// A box with room for one value, with this condition or with that of the standard library.
 template <class Cond> bool hands_over() {
     qolb::lock lock;
     Cond changed;
@@ -222,7 +222,7 @@ bool condition_ends() {
     WANT(cond.wait_until(held, std::chrono::steady_clock::now() + 10ms) == std::cv_status::timeout);
     WANT(cond.wait_until(held, std::chrono::system_clock::now() + 10ms) == std::cv_status::timeout);
     WANT(!cond.wait_until(held, std::chrono::steady_clock::now() + 10ms, [] { return false; }));
-    WANT(std::chrono::steady_clock::now() - since >= 49ms); // clocks that are set differ by some microseconds
+    WANT(std::chrono::steady_clock::now() - since >= 49ms); // system clocks differ by some microseconds
     WANT(held.owns_lock());
     std::thread waits([&] {
         std::unique_lock<qolb::lock> mine(lock);
@@ -243,13 +243,13 @@ bool condition_ends() {
     return true;
 }
 
-// Whether this wait returns by a notification, which another thread makes while it waits.
+// Returns whether this wait ends by a notification, which another thread makes meanwhile.
 template <class Wait> bool is_notified(Wait wait) {
     qolb::lock lock;
     qolb::Condition cond;
     std::unique_lock<qolb::lock> held(lock);
     std::thread notifies([&] {
-        std::lock_guard<qolb::lock> turn(lock); // so the other waits
+        std::lock_guard<qolb::lock> turn(lock); // so that the other thread waits
         cond.notify_one();
     });
     bool told = wait(cond, held);
@@ -279,8 +279,8 @@ bool each_wait_is_notified() {
     return true;
 }
 
-// A limit ends a wait that is notified again and again, and begins once. At its end, without a
-// notification, the value of the predicate is returned.
+// A timeout ends a wait even if it is notified again and again, and begins only once. At its end the wait returns the
+// value of the predicate, also without a notification.
 bool condition_tells() {
     qolb::lock lock;
     qolb::Condition cond;
@@ -318,14 +318,14 @@ struct Large {
     char bytes[1000];
 };
 
-// Not to be copied or moved, nor made without arguments.
+// A type that cannot be copied or moved, nor made without arguments.
 struct Fixed {
     Fixed() : number(3) {}
     Fixed(const Fixed &) = delete;
     int number;
 };
 
-// They are made at compile time.
+// These are initialised at compile time.
 #if defined(__cpp_constinit)
 constinit qolb::lock static_lock(qolb::barging{1024});
 constinit qolb::guarded<Count> static_count(Count{1, 2, 'd'});
@@ -334,7 +334,7 @@ qolb::lock static_lock(qolb::barging{1024});
 qolb::guarded<Count> static_count(Count{1, 2, 'd'});
 #endif
 
-// In place, and in no cache line of its lock.
+// A guarded value lies in place, and in no cache line of its lock.
 bool lies_apart() {
     std::vector<qolb::guarded<char>> many(8);
     for (auto &it : many) {
@@ -345,7 +345,7 @@ bool lies_apart() {
     return true;
 }
 
-// What a throw leaves: of `with` what was changed until then, of `update` nothing.
+// If the change throws, `with` keeps what was changed until then, and `update` keeps nothing.
 bool throws_in_turns() {
     qolb::guarded<std::string> text(std::string("a"), qolb::barging{16});
     auto adds = [](std::string &it) -> std::size_t {

@@ -1,4 +1,4 @@
-//! The locks of qolb.rs by threads that come and go: a mutex, a condition, values of any size; with time limits, shut, and by panics. Prints only errors.
+//! Tests the locks of qolb.rs with threads that start and end: a mutex, a condition, values of any size, timeouts, shuts, and panics. Prints only errors.
 #[path = "../rust/qolb.rs"]
 mod qolb;
 
@@ -35,7 +35,7 @@ fn mutex_guards() {
 
 fn mutex_answers() {
     let mutex = Mutex::new(5);
-    // SAFETY: it is left by nobody who holds it, here and below.
+    // SAFETY: nobody holds the lock when it is left, here and below.
     assert_eq!(unsafe { mutex.raw() }.leave(), Answer::Misuse);
     let held = mutex.lock().unwrap();
     assert_eq!(mutex.lock().err(), Some(Stopped::Misuse));
@@ -52,7 +52,7 @@ fn mutex_answers() {
             assert!(mutex.try_lock_until(since).unwrap().is_none());
             assert_eq!(unsafe { mutex.raw() }.leave(), Answer::Misuse);
         });
-        other.join().unwrap(); // the thread sanitizer sees this, and not the end of a scope
+        other.join().unwrap(); // the thread sanitizer sees a join, but not the end of a scope
     });
     drop(held);
     *mutex.try_lock().unwrap().unwrap() += 1;
@@ -77,7 +77,7 @@ fn prints(it: &impl fmt::Debug, text: &str) {
     assert_eq!(format!("{it:?}"), text);
 }
 
-/// What a mutex, its guard and a condition have that those of the standard library have.
+/// Tests what a mutex, its guard and a condition share with those of the standard library.
 fn are_as_others() {
     assert_eq!(*Mutex::<u64>::default().lock().unwrap(), 0);
     let mutex = Mutex::from((1u8, "two"));
@@ -96,7 +96,7 @@ fn are_as_others() {
 
 fn unwind_safe<T: UnwindSafe + RefUnwindSafe>() {}
 
-/// Of two impls of this for a type that is `Send`, no compiler takes one.
+/// Has two impls for a type that is `Send`. No compiler accepts a call that could mean both.
 trait Stays<Any> {
     fn stays() {}
 }
@@ -118,7 +118,7 @@ fn guards_of_parts() {
     <MappedMutexGuard<'_, u8> as Stays<_>>::stays();
 }
 
-/// A condition's waits by a predicate and with a time, as of `std::sync::Condvar`.
+/// Tests the waits of a condition with a predicate and with a timeout, as `std::sync::Condvar` has them.
 fn waits_of_others() {
     let (mutex, cond) = (Mutex::new(0), Condition::new());
     thread::scope(|scope| {
@@ -141,7 +141,7 @@ fn waits_of_others() {
     assert!(told.timed_out() && since.elapsed() >= 10 * MS);
     let (held, told) = cond.wait_timeout_while(held, 10 * MS, |_| true).unwrap();
     assert!(told.timed_out() && since.elapsed() >= 20 * MS);
-    // The value has changed by the end of the time, without a signal.
+    // The value has changed when the timeout expires, without a signal.
     let (held, told) = cond
         .wait_timeout_while(held, 10 * MS, |_| {
             asked += 1;
@@ -272,7 +272,7 @@ fn raw_answers() {
     assert_eq!(raw.enter_for(MS), Answer::Closed);
 }
 
-/// Times, and whether each is as long as it takes; else it is late at once.
+/// Timeouts, and whether a call with each waits without end. With the others it times out at once.
 const TIMES: [(Duration, bool); 5] = [
     (Duration::ZERO, false),
     (Duration::from_nanos(1), false),
@@ -281,7 +281,7 @@ const TIMES: [(Duration, bool); 5] = [
     (Duration::MAX, true),
 ];
 
-/// Whether the waiter gets what is held. It is dropped at the end, or soon, if it is waited for as long as it takes.
+/// Returns whether the waiter gets what is held. It is dropped at the end, or soon if the waiter waits without end.
 fn gets<H>(held: H, waits: bool, waiter: ScopedJoinHandle<'_, bool>) -> bool {
     if !waits {
         let got = waiter.join().unwrap();
@@ -308,7 +308,7 @@ fn durations_never_overflow() {
     }
 }
 
-/// Whether a wait of this time at a condition ends by a signal, which another thread gives soon, or none.
+/// Returns whether a wait at a condition with this timeout ends by a signal, which another thread makes soon, or not at all.
 fn is_signalled(time: Duration, soon: bool) -> bool {
     let (mutex, cond) = (Mutex::new(()), Condition::new());
     let held = mutex.lock().unwrap();
@@ -330,7 +330,7 @@ fn until_asleep(folder: &std::path::Path) {
     }
 }
 
-/// While one waits, this thread locks again and again: at most `barging - 1` times.
+/// While another thread waits, this one locks again and again, but at most `barging - 1` times.
 fn is_overtaken_within(barging: u16) {
     let mutex = Mutex::with_barging(false, barging);
     let (tells, told) = mpsc::channel();
@@ -368,7 +368,7 @@ fn barging() {
     }
 }
 
-/// A mutex may be moved once it was used; and one whose guard is forgotten may be dropped, whose thread goes on.
+/// A mutex may be moved after it was used. A mutex whose guard is forgotten may be dropped, and its thread goes on.
 fn moved_and_forgotten() {
     for barging in [0, 64] {
         let mutex = Mutex::with_barging(1, barging);

@@ -1,9 +1,9 @@
-/* Ten thousand tasks over four threads: half with a node each, half at a lock that threads enter, too. They are woken
- * for no reason, and give up at random. Prints only errors.
+/* Tests ten thousand tasks on four threads. Half of them have a node each, and the others enter a lock, which threads
+ * enter as well. They are woken for no reason at times, and give up at random. Prints only errors.
  *
  *   build/many_tasks_c [TASKS [ROUNDS [SEED [BARGING_LIMIT [SECONDS]]]]]
  *
- * Another seed follows while there is time. */
+ * Until SECONDS have passed, the test is repeated with other seeds. */
 #define _GNU_SOURCE
 #include <qolb.h>
 #include <pthread.h>
@@ -32,7 +32,7 @@ struct task {
     struct task *next;
     uint64_t random;
     int rounds, phase;
-    struct line *line; /* NULL: at the lock */
+    struct line *line; /* NULL if it uses the lock */
     qolb_node *node;
     qolb_task task;
     pthread_t entered;
@@ -80,7 +80,7 @@ static void turn(struct task *it) {
     qolb_deqolb(it->node);
     it->rounds--, it->phase = 0;
 }
-/* True when it is done. */
+/* Makes a step. Returns true when the task is done. */
 static int step_node(struct task *it) {
     uint32_t got;
     for (;;) {
@@ -133,7 +133,7 @@ static int step_node(struct task *it) {
 static int step_at_lock(struct task *it) {
     uint32_t got;
     for (;;) {
-        if (it->phase == 2) { /* holds; perhaps in another thread than it entered */
+        if (it->phase == 2) { /* it holds the lock, perhaps in another thread than that which entered */
             if (!pthread_equal(it->entered, pthread_self())) elsewhere++;
             guarded++;
             MUST(qolb_task_leave(&it->task) == QOLB_DONE);
@@ -178,7 +178,7 @@ static void *work(void *_) {
         atomic_store(&it->run, RUNS);
         int done = it->line ? step_node(it) : step_at_lock(it), s = RUNS;
         if (done) {
-            atomic_store(&it->run, READY); /* no wake pushes it any more */
+            atomic_store(&it->run, READY); /* no wake makes it ready any more */
             if (atomic_fetch_sub(&left, 1) == 1)
                 pthread_mutex_lock(&mutex), pthread_cond_broadcast(&some), pthread_mutex_unlock(&mutex);
         } else if (!atomic_compare_exchange_strong(&it->run, &s, IDLE)) {

@@ -1,8 +1,12 @@
-/* The heap bytes of a line: those that stay taken after qolb_open, by kind and number of nodes, as malloc_usable_size
- * counts them. qolb_memory must return what opening has allocated and keeps, and opening may ask for at most three
- * times that at a time. The data of two nodes must be in no two cache lines that are fetched together; each block of
- * the proved part of 128 bytes or more must begin at a multiple of 128 bytes. 100,000 ticket lines of two nodes must
- * take less than 260 MB. */
+/* Tests the heap memory of a line, by kind and number of nodes:
+ *
+ * - qolb_memory returns the bytes that opening has allocated and keeps. Opening never has more than three times this
+ *   number of bytes allocated.
+ * - The data of two nodes are in no two cache lines that are fetched together. Each block of the proved part of 128
+ *   bytes or more begins at a multiple of 128 bytes.
+ * - 100,000 ticket lines of two nodes take less than 260 MB, as malloc_usable_size counts them.
+ *
+ * With the argument `table` it prints the table of memory of qolb.h. */
 #include <line.h>
 #include <malloc.h>
 #include <qolb.h>
@@ -10,8 +14,8 @@
 #include <stdlib.h>
 #include <string.h>
 
-/* For all allocated blocks: their usable bytes, and the requested ones; and the most that were requested at a time.
- * Blocks are counted while `counts`. */
+/* The usable bytes of all allocated blocks, the requested bytes, and the most bytes that were requested at a time.
+ * Blocks are counted while `counts` is set. */
 static size_t taken, asked, most;
 static int counts = 1;
 static struct {
@@ -19,7 +23,7 @@ static struct {
     size_t asked;
 } blocks[1024];
 
-/* The blocks that the proved part was given, and whether each began where it must. */
+/* The number of blocks that the proved part was given, and whether each began where it must. */
 static size_t given;
 static int aligned = 1;
 
@@ -34,7 +38,7 @@ void *__real_malloc(size_t size);
 void *__real_realloc(void *block, size_t size);
 void __real_free(void *block);
 
-/* The block's place in the table; for NULL a free place. */
+/* Returns the place of the block in the table, or for NULL a free place. */
 static size_t place_of(const void *block) {
     for (size_t k = 0; k < sizeof blocks / sizeof blocks[0]; k++)
         if (blocks[k].block == block) return k;
@@ -75,7 +79,7 @@ struct tried __wrap_rattle_realloc(void *block, size_t kept, size_t size, size_t
     return gives(__real_rattle_realloc(block, kept, size, align), size);
 }
 
-/* If there is no memory the block stays. */
+/* If there is no memory, the block stays as it is. */
 void *__wrap_realloc(void *block, size_t size) {
     size_t before = block && counts ? blocks[place_of(block)].asked : 0;
     gives_back(block);
@@ -90,7 +94,7 @@ void __wrap_free(void *block) {
 
 static uintptr_t data_of(const qolb_node *node) { return (uintptr_t)node_of(node)->proved.own; }
 
-/* Returns whether the nodes are this far apart. The data of a node are above 128 bytes. */
+/* Returns whether the nodes are far enough apart. The data of a node take more than 128 bytes. */
 static int apart(const qolb_node *node, uint64_t nodes) {
     for (uint64_t a = 0; a < nodes; a++) {
         for (uint64_t b = 0; b < a; b++) {
@@ -101,8 +105,8 @@ static int apart(const qolb_node *node, uint64_t nodes) {
     return 1;
 }
 
-/* Opens a line of this many nodes. Returns true if qolb_memory tells what it keeps and allocates nothing itself, and if
- * no allocation of the opening is more than three times as large. */
+/* Opens a line with this number of nodes. Returns whether qolb_memory returns what the line keeps and allocates nothing
+ * itself, and whether the opening never had more than three times as many bytes. */
 static int is_told(uint32_t kind, uint64_t nodes) {
     qolb_bytes zeros = {{0}};
     qolb_node node[200] = {{0}};
@@ -119,7 +123,7 @@ static int is_told(uint32_t kind, uint64_t nodes) {
            0;
 }
 
-/* The same for few nodes and many; and 0 for a line that opening refuses. */
+/* Checks the same for few and for many nodes, and that qolb_memory returns 0 for a line that cannot be opened. */
 static int all_are_told(void) {
     static const uint64_t nodes[] = {1, 2, 3, 8, 64, 200}, refused[] = {0, 201, UINT64_MAX};
     for (uint32_t kind = 0; kind < QOLB_KINDS; kind++) {
@@ -131,7 +135,7 @@ static int all_are_told(void) {
     return qolb_memory(QOLB_KINDS, 2) == 0;
 }
 
-/* Returns whether these lines take less than this many bytes, with what malloc has for each block. */
+/* Returns whether `lines` lines take less than `bytes` bytes, with what malloc takes for each block. */
 static int fit(size_t lines, size_t bytes) {
     qolb_bytes zeros = {{0}};
     qolb_node *node = calloc(2 * lines, sizeof *node);
@@ -148,14 +152,14 @@ static int fit(size_t lines, size_t bytes) {
     return all < bytes;
 }
 
-/* What was taken of the heap: by malloc's count, and as it was asked for. */
+/* The bytes that were taken from the heap: as malloc counts them, and as they were requested. */
 struct heap {
     size_t usable, asked;
 };
 
 static struct heap since(struct heap before) { return (struct heap){taken - before.usable, asked - before.asked}; }
 
-/* Returns what an open line of this many nodes keeps. Nothing stays taken after it. */
+/* Returns what an open line with this number of nodes keeps. When the line is freed, nothing stays taken. */
 static struct heap of_line(uint32_t kind, uint64_t nodes) {
     qolb_bytes zeros = {{0}};
     qolb_node node[200] = {{0}};
@@ -178,7 +182,7 @@ static void column(size_t bytes) {
 static const uint64_t counts_of_nodes[] = {1, 2, 8, 64, 200};
 enum { COUNTS = sizeof counts_of_nodes / sizeof counts_of_nodes[0] };
 
-/* Prints a table of qolb.h, which tools/man.py writes there and compares. */
+/* Prints the table of memory of qolb.h, which tools/man.py writes there and compares. */
 static void table(void) {
     printf("%-13s", "nodes");
     for (int k = 0; k < COUNTS; k++) column((size_t)counts_of_nodes[k]);

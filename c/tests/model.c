@@ -1,11 +1,11 @@
-/* Random calls on lines and locks by one thread, each compared with a model of the calls in plain C: every answer,
+/* Compares random calls on lines and locks, made by one thread, with a model of the calls in plain C: every result,
  * state, byte, count and name.
  *
  *   build/model [CALLS [SEED]]        300,000 calls, seed 1
  *
- * Prints only the first difference. The model is written from qolb.h: a queue of requests, of which the first that is
- * not withdrawn has the turn. The line is with the first request, at home if there is none, or in a link line with the
- * last request that ended, if the successor has not linked yet. */
+ * Prints only the first difference. The model is written from qolb.h: it is a queue of requests, of which the first
+ * that is not withdrawn has the turn. The line is with the first request, or at home if there is no request. In a link
+ * line it stays with the last request that ended until the successor has linked itself. */
 #include <qolb.h>
 #include <stdio.h>
 #include <stdlib.h>
@@ -13,7 +13,7 @@
 
 enum { MOST = 200, NOBODY = 0 };
 
-/* The model's state of a node, numbered from 1, and of the line. */
+/* The state of the model: that of each node, numbered from 1, and that of the line. */
 struct node {
     uint32_t state;
     int busy;
@@ -26,13 +26,13 @@ struct request {
 
 static struct line {
     uint32_t kind;
-    uint64_t label, nodes, turns; /* turns that are left; QOLB_NO_LEASE without a lease */
+    uint64_t label, nodes, turns; /* `turns` is the number of acquisitions left, or QOLB_NO_LEASE */
     uint8_t byte[64];
     int closed;
     struct node node[MOST + 1];
     struct request queue[MOST];
-    unsigned waiting;   /* requests in the queue */
-    unsigned lies_with; /* in a link line: whose turn is over, while the first request is not linked */
+    unsigned waiting;   /* the number of requests in the queue */
+    unsigned lies_with; /* in a link line, the node that has released it, while the first request is not linked */
 } model;
 
 static qolb_node handle[MOST + 1];
@@ -68,7 +68,7 @@ static int may_ask(unsigned n) {
 
 static void drop_first(void) { memmove(model.queue, model.queue + 1, --model.waiting * sizeof model.queue[0]); }
 
-/* The first request ends, and the line is handed on: past the withdrawn requests, as far as the requests are linked. */
+/* Ends the first request, and hands the line over, past withdrawn requests, as far as the requests are linked. */
 static void goes_on(void) {
     unsigned from = model.queue[0].node;
     drop_first();
@@ -82,13 +82,13 @@ static void goes_on(void) {
     }
 }
 
-/* The node's turn is over, and it is then in this state. */
+/* Ends the node's request, after which the node is in this state. */
 static void ends(unsigned n, uint32_t state) {
     goes_on();
     model.node[n].state = model.lies_with == n ? (uint32_t)QOLB_STATE_LEFT : state;
 }
 
-/* The line has reached the node's request, which is the first: it is granted, or told. */
+/* Grants the line to the node whose request is the first, or tells the node that the line is closed. */
 static uint32_t comes(unsigned n) {
     if (!model.closed) {
         model.node[n].state = QOLB_STATE_HOLDING;
@@ -122,7 +122,7 @@ static uint32_t links(unsigned n) {
     return comes(n);
 }
 
-/* A link line's node that is not busy is as one that has made no request. */
+/* Settles a node. A node of a link line that is not busy is afterwards like one that has made no request. */
 static uint32_t clears(unsigned n) {
     if (!may_ask(n)) return QOLB_MISUSE;
     if (model.node[n].busy) return QOLB_BUSY;
@@ -161,7 +161,7 @@ static uint32_t closes(unsigned n) {
     return QOLB_DONE;
 }
 
-/* The header's calls over these. */
+/* The calls that the header or the library makes of several others. */
 static uint32_t tries(unsigned n, uint32_t late) {
     uint32_t got = asks(n, 0);
     if (got == QOLB_BUSY) return late;
@@ -214,7 +214,7 @@ static void ask_somehow(unsigned n) {
     switch (draw(8)) {
     case 0: SAME(qolb_try(&handle[n]), n, tries(n, QOLB_BUSY)); break;
     case 1: SAME(qolb_acquire_within(&handle[n], draw(2) * 300), n, tries(n, QOLB_TIMEDOUT)); break;
-    case 2: /* waits for ever where it must wait, so only where it need not, or may not */
+    case 2: /* it would wait for ever, so it is made only if it need not or must not wait */
         if (at_once || !may_ask(n)) SAME(qolb_acquire(&handle[n]), n, asks(n, 0));
         break;
     case 3:
@@ -254,7 +254,8 @@ static void call(unsigned n) {
     done++;
 }
 
-/* A line is opened, called at random for a while, and closed: all waiting nodes are withdrawn, and holders release. */
+/* Opens a line, makes random calls for a while, and frees it after all waiting nodes have withdrawn and holders
+ * released. */
 static void one_line(void) {
     qolb_bytes opening;
     for (int k = 0; k < 64; k++) opening.byte[k] = (uint8_t)draw(256);
@@ -277,8 +278,8 @@ static void one_line(void) {
 
 /* ---- Locks ----
  *
- * By one thread, which either holds the lock or does not. If a call would wait, it does so for a moment, and is late;
- * and the thread never enters a lock that it holds. */
+ * One thread uses the lock, and either holds it or does not. A call that would wait has a timeout, and times out after
+ * a moment. If the thread holds the lock, a call that enters is misuse, and a try is busy. */
 
 static struct {
     qolb_lock lock;

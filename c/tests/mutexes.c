@@ -1,5 +1,6 @@
-/* The C library's mutexes and condition variables, as a program may use them. `make check` runs it as it is, and with
- * every mutex a lock (preload.c): both must answer the same. Prints only errors. */
+/* Tests the mutexes and condition variables of the C library, as a program may use them. `make check` runs this program
+ * alone and with the preload library (../preload/preload.c). Both runs must have the same results. Prints only errors.
+ */
 #define _GNU_SOURCE
 #include "mutexes.h"
 #include <limits.h>
@@ -46,7 +47,7 @@ static void *takes(void *mutex) {
     return NULL;
 }
 
-/* An ordinary mutex may be unlocked by any thread, and then it is free. */
+/* Any thread may unlock an ordinary mutex, which is then free. */
 static void of_an_ordinary_one(void) {
     WANT(pthread_mutex_lock(&ordinary), 0);
     in_another_thread(finds_it_locked, &ordinary);
@@ -54,7 +55,7 @@ static void of_an_ordinary_one(void) {
     in_another_thread(takes, &ordinary);
     WANT(pthread_mutex_lock(&ordinary), 0);
     WANT(pthread_mutex_unlock(&ordinary), 0);
-    in_another_thread(unlocks, &ordinary); /* it is not locked */
+    in_another_thread(unlocks, &ordinary); /* the mutex is not locked */
     in_another_thread(takes, &ordinary);
 }
 
@@ -73,7 +74,7 @@ static void of_others(void) {
     in_another_thread(takes, &recursive);
 }
 
-/* A mutex used as a semaphore: one thread locks it again and again, and only the other unlocks it. */
+/* A mutex is used as a semaphore: one thread locks it again and again, and only the other thread unlocks it. */
 static void *lets_go_again_and_again(void *mutex) {
     for (int k = 0; k < 200; k++) {
         while (__atomic_load_n(&rounds, __ATOMIC_SEQ_CST) != k + 1) sched_yield();
@@ -128,7 +129,8 @@ static void *may_not_wait_with_it(void *mutex) {
     return NULL;
 }
 
-/* An ordinary one may be anyone's, and is locked afterwards. */
+/* A thread waits at a condition with an ordinary mutex that another thread holds or that is free. Afterwards it is
+ * locked. */
 static void of_waiting_with_an_ordinary_one(void) {
     for (int holds = 0; holds < 2; holds++) {
         if (holds) WANT(pthread_mutex_lock(&ordinary), 0);
@@ -170,7 +172,7 @@ static void *takes_at_last(void *mutex) {
     return NULL;
 }
 
-/* A time that is none is an error, unless the mutex is free. The last second of all is not over. */
+/* An invalid time is an error, unless the mutex is free. The last second that a time can name has not come. */
 static void of_times(void) {
     pthread_t id;
     WANT(pthread_mutex_timedlock(&ordinary, &no_times[0]), 0);
@@ -209,7 +211,7 @@ static void *waits_until_cancelled(void *mutex) {
     return NULL;
 }
 
-/* A thread that is cancelled while it waits at a condition ends, and has the mutex before. */
+/* A thread that is cancelled while it waits at a condition has the mutex again, and ends. */
 static void of_cancelling(int milliseconds) {
     pthread_t id;
     void *ended;
@@ -242,7 +244,7 @@ static void of_destroying(void) {
     WANT(pthread_mutex_destroy(&mutex), 0);
 }
 
-/* Initialises a mutex again that another thread held, by the call and by assignment, as the child of a fork does. */
+/* Initialises again a mutex that another thread held, by the call and by assignment, as the child of a fork does. */
 static void of_initialising_again(void) {
     static pthread_mutex_t mutex = PTHREAD_MUTEX_INITIALIZER;
     for (int k = 0; k < 3; k++) {

@@ -1,5 +1,5 @@
-/* What the programs have in common that are run as they are and with every mutex a lock: mutexes, mutexes_many,
- * mutexes_forked, mutexes_cancelled. */
+/* What the programs share that are run alone and with the preload library: mutexes, mutexes_many, mutexes_forked and
+ * mutexes_cancelled. */
 #include <errno.h>
 #include <pthread.h>
 #include <stdio.h>

@@ -1,8 +1,9 @@
-/* A thread that is cancelled where it begins to wait at a condition, and is signalled before it sleeps: another waiter
- * must get the signal. `make check` runs it as it is, and with every mutex a lock (preload.c). Prints only errors.
+/* Tests a thread that is cancelled when it begins to wait at a condition, and is signalled before it sleeps: another
+ * waiter must get the signal. `make check` runs this program alone and with the preload library (../preload/preload.c).
+ * Prints only errors.
  *
- * Two calls that preload.c makes in that wait are held up here. The C library makes neither by its name: so there the
- * thread is cancelled while it sleeps. */
+ * This program delays two calls that preload.c makes in the wait. The C library makes neither of them by its name, so
+ * without preload.c the thread is cancelled while it sleeps. */
 #define _GNU_SOURCE
 #include "mutexes.h"
 #include <dlfcn.h>
@@ -27,7 +28,7 @@ static void await(int least) {
     while (!is_at(least)) sched_yield();
 }
 
-/* The first thread has looked whether it is cancelled, and is not in the list of the condition yet. */
+/* The first thread has checked whether it is cancelled, and is not in the list of the condition yet. */
 void pthread_testcancel(void) {
     void (*real)(void) = (void (*)(void))dlsym(RTLD_NEXT, "pthread_testcancel");
     real();
@@ -37,7 +38,7 @@ void pthread_testcancel(void) {
     await(CANCELLED);
 }
 
-/* It is in that list, has left the mutex to the other, and has not looked yet whether it was signalled. */
+/* It is in the list, has left the mutex to the other thread, and has not looked yet whether it was signalled. */
 long syscall(long number, ...) {
     long (*real)(long, ...) = (long (*)(long, ...))dlsym(RTLD_NEXT, "syscall");
     long given[6];
@@ -68,7 +69,7 @@ static void *takes_a_job(void *first) {
     return NULL;
 }
 
-/* A waiter leaves the mutex when it is in the list of the condition. */
+/* Returns the number of waiters. A waiter leaves the mutex once it is in the list of the condition. */
 static int waiters_by_now(void) {
     WANT(pthread_mutex_lock(&mutex), 0);
     int now = waiters;
@@ -76,7 +77,7 @@ static int waiters_by_now(void) {
     return now;
 }
 
-/* It waits for the mutex, which the first has. */
+/* Waits until the second thread sleeps: it waits for the mutex, which the first thread has. */
 static void await_sleep_of_second(void) {
     char name[64], state = 0;
     while (state != 'S') {

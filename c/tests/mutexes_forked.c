@@ -1,5 +1,6 @@
-/* Mutexes and conditions in the child of a fork, whose other threads are not there. `make check` runs it as it is, and
- * with every mutex a lock (preload.c): both must answer the same. Prints only errors. */
+/* Tests mutexes and conditions in the child of a fork, which has none of the parent's other threads. `make check` runs
+ * this program alone and with the preload library (../preload/preload.c). Both runs must have the same results. Prints
+ * only errors. */
 #define _GNU_SOURCE
 #include "mutexes.h"
 #include <sched.h>
@@ -14,7 +15,7 @@ static int has_news, is_over, arrived;
 
 static int read_of(int *word) { return __atomic_load_n(word, __ATOMIC_SEQ_CST); }
 
-/* The child ends by itself, and well. */
+/* Does the work in a child, which must end by itself and with 0. */
 static void in_a_child(void (*work)(void)) {
     int ended = 0;
     pid_t child = fork();
@@ -66,7 +67,7 @@ static void *tells(void *none) {
     return none;
 }
 
-/* With the mutex. */
+/* Is called with the mutex locked. */
 static void hears_news(void) {
     pthread_t id;
     WANT(pthread_create(&id, NULL, tells, NULL), 0);
@@ -75,7 +76,7 @@ static void hears_news(void) {
     WANT(pthread_join(id, NULL), 0);
 }
 
-/* Another thread is the first of the child that uses the mutex. */
+/* Another thread is the first in the child that uses the mutex. */
 static void waits_with_it(void) {
     in_another_thread(finds_it_locked, &mutex);
     hears_news();
@@ -185,7 +186,7 @@ static void of_any_moment(void) {
 
 /* ---- A child that ends by exit ---- */
 
-/* It has its own line in a report (QOLB_REPORT): of one mutex, which was granted once. */
+/* The child has a line of its own in a report (QOLB_REPORT), which says that one mutex was granted once. */
 static void destroys_and_takes_one(void) {
     WANT(pthread_mutex_destroy(&others), 0);
     takes(&mutex);

@@ -1,6 +1,7 @@
-/* A thread that has a mutex makes the program's first call of another kind while a second one is in dlopen, whose
- * constructor wants the mutex; and what dlerror says stays over such a call. `make check` runs it as it is, and with
- * every mutex a lock (preload.c). Its plugin is this file, too. Prints only errors. */
+/* Tests that the first use of a pthread call does not deadlock with dlopen. A thread that holds a mutex makes the
+ * program's first call of another kind, while a second thread is in dlopen, where a constructor waits for the mutex.
+ * Also tested is that such a call does not change what dlerror returns. `make check` runs this program alone and with
+ * the preload library (../preload/preload.c). Its plugin is compiled from this file, too. Prints only errors. */
 #define _GNU_SOURCE
 #include <dlfcn.h>
 #include <pthread.h>
@@ -37,13 +38,13 @@ static void *has_the_mutex(void *what) {
     pthread_mutex_lock(&mutex);
     is_taken = 1;
     while (!is_wanted) usleep(100);
-    usleep(20000); /* by now the other one sleeps */
+    usleep(20000); /* meanwhile the other thread sleeps */
     calls_first(what);
     pthread_mutex_unlock(&mutex);
     return NULL;
 }
 
-/* The name of this program, and the call to be made first. */
+/* Takes the call to be made first as its argument. */
 int main(int argc, char **argv) {
     char plugin[4096];
     pthread_t id;

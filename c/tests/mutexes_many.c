@@ -1,6 +1,6 @@
-/* Many mutexes and conditions, and a malloc that locks one: what they take of memory and of the kernel's maps. `make
- * check` runs it as it is, and with every mutex a lock (preload.c), which takes half a KB for each. Prints only
- * errors. */
+/* Tests how much memory, and how many of the kernel's maps, are taken by many mutexes and conditions. It also tests a
+ * malloc that locks a mutex. `make check` runs this program alone and with the preload library (../preload/preload.c),
+ * which takes half a KB for each mutex. Prints only errors. */
 #define _GNU_SOURCE
 #include "mutexes.h"
 #include <limits.h>
@@ -31,7 +31,7 @@ void *malloc(size_t size) {
 
 void free(void *block) { (void)block; }
 
-void *calloc(size_t many, size_t size) { return malloc(many * size); } /* the room is used once, and begins as zeros */
+void *calloc(size_t many, size_t size) { return malloc(many * size); } /* it is used once, and is zeros at first */
 
 void *realloc(void *block, size_t size) {
     void *moved = malloc(size);
@@ -98,7 +98,8 @@ static void use(pthread_mutex_t *it) {
     WANT(pthread_mutex_unlock(it), 0);
 }
 
-/* Each time at other addresses, and destroyed; at the same ones, and initialised again by the call or by assignment. */
+/* Uses mutexes at new addresses each time, and destroys them; then at the same addresses, initialised again by the call
+ * or by assignment. */
 static void of_many_times(void) {
     long before = resident();
     for (int k = 0; k < FEW * TIMES; k++) {
@@ -139,7 +140,7 @@ static void *takes_late_ones(void *none) {
     return none;
 }
 
-/* A wait at a condition may return for no reason. */
+/* Waits in a loop, because a wait at a condition may return for no reason. */
 static void wait_with(pthread_mutex_t *it, pthread_cond_t *at) {
     struct timespec end;
     clock_gettime(CLOCK_REALTIME, &end);
@@ -148,7 +149,7 @@ static void wait_with(pthread_mutex_t *it, pthread_cond_t *at) {
     WANT(got == 0 || got == ETIMEDOUT, 1);
 }
 
-/* A mutex that was locked without memory stays locked once there is some. */
+/* A mutex that was locked while there was no memory stays locked once there is memory. */
 static void of_none(void) {
     limit_to((rlim_t)resident());
     for (int k = 0; k < MANY; k++) WANT(pthread_mutex_lock(&late_mutex[k]), 0);

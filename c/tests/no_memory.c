@@ -1,7 +1,7 @@
-/* Each allocation of an opening is refused in turn: the opening is then refused, the handles stay empty, and its memory
- * is freed. Only opening and closing allocate or free, or write to a handle: the proved calls put the same node back.
- * A lock takes no memory, whatever its first use is. Linked with --wrap for malloc, realloc and free. Prints only
- * errors. */
+/* Tests calls without memory. Each allocation of an opening is refused in turn. Then the opening is refused, the
+ * handles stay empty, and all memory is freed. Only qolb_open and qolb_node_free allocate, free, or write to a handle:
+ * the proved calls put the same node back. A lock allocates nothing, whatever its first use is. Linked with --wrap for
+ * malloc, realloc and free. Prints only errors. */
 #define _DEFAULT_SOURCE
 #include <proved.h>
 #include <stdio.h>
@@ -60,7 +60,7 @@ static int refused_in_turn(uint32_t kind) {
     }
 }
 
-/* While no call may write to the handles: a write is ended by SIGSEGV. */
+/* Makes calls while no call may write to the handles: a write would end the program by SIGSEGV. */
 static int calls_take_none(uint32_t kind) {
     enum { PAGE = 4096 };
     qolb_bytes bytes = {{0}};
@@ -103,7 +103,7 @@ static int calls_take_none(uint32_t kind) {
     return munmap(nodes, PAGE);
 }
 
-/* The proved calls behind those on a node: each leaves the same node in its handle. */
+/* Checks that each proved call on a node leaves the same node in its handle. */
 static int puts_the_same_back(uint32_t kind) {
     qolb_bytes bytes = {{0}};
     qolb_node one[2] = {{0}}, *two = one + 1;
@@ -130,7 +130,7 @@ static int puts_the_same_back(uint32_t kind) {
     return 0;
 }
 
-/* Each way by which a lock may be used first, and what follows: no allocation. */
+/* Uses a lock in each way that may be its first use, and goes on with it. Nothing is allocated. */
 static uint32_t used_first(qolb_lock *lock, unsigned way) {
     switch (way) {
     case 0: return qolb_lock_enter(lock);

@@ -1,5 +1,5 @@
-//! Each allocation of a line's opening is refused in turn: the answer is `NoMemory`. A mutex takes one box, and no call on it takes more. Linked with --wrap for
-//! malloc. Prints only errors.
+//! Tests calls without memory. Each allocation of the opening of a line is refused in turn, and the result is `NoMemory`. A mutex allocates one box, and no
+//! call on it allocates more. Linked with --wrap for malloc. Prints only errors.
 #[path = "../rust/qolb.rs"]
 mod qolb;
 
@@ -9,7 +9,7 @@ use std::ptr::null_mut;
 use std::sync::atomic::{AtomicU64, Ordering};
 use std::time::Duration;
 
-/// The allocation to refuse, counted from now on; 0 for none.
+/// The allocation to refuse, counted from now on, or 0 for none.
 static REFUSED: AtomicU64 = AtomicU64::new(0);
 
 unsafe extern "C" {
@@ -26,11 +26,11 @@ extern "C" fn __wrap_malloc(size: usize) -> *mut c_void {
         }
         more => REFUSED.store(more - 1, Ordering::SeqCst),
     }
-    // SAFETY: the caller's.
+    // SAFETY: as for the caller.
     unsafe { __real_malloc(size) }
 }
 
-/// Opens with each allocation refused in turn, from this one on, until none is. Returns the number of refused ones.
+/// Opens with each allocation refused in turn, from `first` on, until none is refused. Returns the number of refused allocations.
 fn refused(first: u64, open: impl Fn() -> Option<Answer>) -> u64 {
     for n in first.. {
         REFUSED.store(n, Ordering::SeqCst);
@@ -46,12 +46,12 @@ fn refused(first: u64, open: impl Fn() -> Option<Answer>) -> u64 {
 
 fn main() {
     for kind in Kind::ALL {
-        // The first allocation is for the handles, in Rust.
+        // The first allocation is for the handles, and is made by Rust.
         assert!(refused(2, || qolb::open(kind, 1, 5, None, &Bytes([0; 64])).err()) >= 3);
     }
     for barging in [0, 64] {
         let raw = RawQolb::with_barging(barging);
-        assert_eq!(raw.leave(), Answer::Misuse); // it is in its box now
+        assert_eq!(raw.leave(), Answer::Misuse); // now the lock is in its box
         REFUSED.store(1, Ordering::SeqCst);
         assert_eq!(raw.try_enter(), Answer::Granted);
         assert_eq!(raw.leave(), Answer::Done);

@@ -1,4 +1,4 @@
-/* What each call of a notification answers and does, by one thread and by two. Prints only errors. */
+/* Tests what each call on notifications of nodes returns and does, with one thread and with two. Prints only errors. */
 #define _GNU_SOURCE
 #include <qolb.h>
 #include <errno.h>
@@ -25,14 +25,14 @@ static int closes(uint64_t nodes, qolb_node *node) {
     return 0;
 }
 
-/* Takes the node's place in the queue, and wants a call. */
+/* Requests the line for the node, and requests a notification. */
 static int waits(qolb_node *node, void (*call)(void *), void *arg) {
     WANT(qolb_enqolb(node), QOLB_QUEUED);
     WANT(qolb_notify(node, call, arg), QOLB_WAITING);
     return 0;
 }
 
-/* The node that was called for has the line. */
+/* Checks that `times` notifications were made, and that the node has the line. */
 static int is_called(qolb_node *node, int times) {
     WANT(calls, times);
     WANT(last == node, 1);
@@ -40,7 +40,7 @@ static int is_called(qolb_node *node, int times) {
     return 0;
 }
 
-/* ---- Who may not want a call ---- */
+/* ---- Nodes that may not request a notification ---- */
 
 static int refuses(uint32_t kind) {
     qolb_node n[3] = {{0}};
@@ -67,7 +67,7 @@ static int refuses(uint32_t kind) {
     WANT(qolb_shut(&n[0]), QOLB_DONE);
     WANT(qolb_enqolb(&n[0]), QOLB_CLOSED);
     WANT(qolb_notify(&n[0], count, NULL), QOLB_MISUSE);
-    qolb_notify_done(); /* outside of a call */
+    qolb_notify_done(); /* outside of a callback */
     return closes(3, n);
 }
 
@@ -82,14 +82,14 @@ static int calls_once(uint32_t kind) {
     WANT(qolb_deqolb(&n[0]), QOLB_DONE);
     if (is_called(&n[1], 1)) return 1;
     WANT(qolb_notify_off(&n[1]), QOLB_DONE);
-    /* Off: no call. And then none is wanted, as the node is at its turn. */
+    /* After off, no notification is made. Then none can be requested, because the node is at its turn. */
     WANT(qolb_notify_off(&n[2]), QOLB_WITHDRAWN);
     WANT(qolb_notify_off(&n[2]), QOLB_DONE);
     WANT(qolb_deqolb(&n[1]), QOLB_DONE);
     WANT(qolb_notify(&n[2], count, &n[2]), QOLB_GRANTED);
     WANT(qolb_state(&n[2]), QOLB_STATE_HOLDING);
     WANT(calls, 1);
-    /* The same node again. */
+    /* The same node requests again. */
     if (waits(&n[1], count, &n[1])) return 1;
     WANT(qolb_deqolb(&n[2]), QOLB_DONE);
     if (is_called(&n[1], 2)) return 1;
@@ -120,8 +120,8 @@ static int replaces(uint32_t kind) {
     return closes(2, n);
 }
 
-/* A release passes a withdrawn request, and the call of the one behind it is made. Closing takes off what was left
- * on. */
+/* A release passes a withdrawn request, and makes the notification of the node behind it. Freeing a node takes back the
+ * notification that it has requested. */
 static int passes_withdrawn(uint32_t kind) {
     qolb_node n[4];
     calls = 0;
@@ -134,7 +134,7 @@ static int passes_withdrawn(uint32_t kind) {
     WANT(qolb_node_free(&n[2]), QOLB_DONE);
     WANT(qolb_deqolb(&n[0]), QOLB_DONE);
     if (is_called(&n[3], 1)) return 1;
-    /* It holds the line, so it is not closed, and another one keeps its wish. */
+    /* A node that holds the line is not freed, and another node keeps its notification. */
     if (waits(&n[0], count, &n[0])) return 1;
     WANT(qolb_node_free(&n[0]), QOLB_MISUSE);
     WANT(qolb_node_free(&n[3]), QOLB_MISUSE);
@@ -147,7 +147,7 @@ static int passes_withdrawn(uint32_t kind) {
     return 0;
 }
 
-/* Each that waits is called, as each that is told forwards the line. */
+/* Each waiting node is notified, because each node that is told of the shut passes the line on. */
 static int shuts(uint32_t kind) {
     qolb_node n[3];
     calls = 0;
@@ -171,7 +171,7 @@ struct chain {
 
 static int depth, deepest;
 
-/* Has its turn, asks again and wants a call again. */
+/* Releases the line, and requests the line and a notification again. */
 static void go_on(void *arg) {
     struct chain *me = arg;
     if (++depth > deepest) deepest = depth;
@@ -186,7 +186,7 @@ static void go_on(void *arg) {
     depth--;
 }
 
-/* One release begins all turns of three nodes. No call runs inside another. */
+/* One release starts all acquisitions of three nodes. No callback runs inside another. */
 static int nests_no_call(uint32_t kind) {
     qolb_node n[4];
     struct chain it[3];
@@ -211,7 +211,7 @@ static int nests_no_call(uint32_t kind) {
 enum { LINES = 1100 };
 static qolb_node of[LINES][2];
 
-/* More than 32 lines that one call releases. */
+/* One callback releases more than 32 lines. */
 static void release_all(void *arg) {
     (void)arg;
     for (int k = 1; k < 100; k++) MUST(qolb_deqolb(&of[k][0]), QOLB_DONE);
@@ -234,7 +234,7 @@ static int has_turns_of_many(uint32_t kind) {
     return 0;
 }
 
-/* Ends the turn of another line, which puts off the call of its next node, and closes both nodes of that line. */
+/* Releases another line, which puts off the notification of its next node, and frees both nodes of that line. */
 static void closes_another_line(void *other) {
     qolb_node *it = other;
     MUST(qolb_deqolb(&it[0]), QOLB_DONE);
@@ -244,8 +244,9 @@ static void closes_another_line(void *other) {
     for (int k = 0; k < 2; k++) MUST(qolb_node_free(&it[k]), QOLB_DONE);
 }
 
-/* A line may be closed while a call of it is put off: then no call is made. The sanitizer of leaks sees whether the
- * line's memory is freed, and that of addresses, if the library is compiled with it, whether it is used afterwards. */
+/* The nodes of a line may be freed while a notification of the line is put off. Then it is not made. The leak sanitizer
+ * sees whether the line's memory is freed. The address sanitizer, if the library is compiled with it, sees whether the
+ * memory is used afterwards. */
 static int closes_with_a_call_put_off(uint32_t kind) {
     qolb_node n[2], other[2];
     calls = 0;
@@ -261,7 +262,7 @@ static int closes_with_a_call_put_off(uint32_t kind) {
     return closes(2, n);
 }
 
-/* Many lines make no calls for each other. */
+/* Many lines make no notifications for each other. */
 static int tells_lines_apart(uint32_t kind) {
     for (int k = 0; k < LINES; k++) {
         if (opens(kind, 2, of[k])) return 1;
@@ -278,7 +279,7 @@ static int tells_lines_apart(uint32_t kind) {
     return 0;
 }
 
-/* ---- Another thread makes the call ---- */
+/* ---- Another thread makes the notification ---- */
 
 static atomic_int in, out, behind, done_first;
 
@@ -297,8 +298,8 @@ static void *releases(void *node) {
     return NULL;
 }
 
-/* A thread is cancelled in the call, and goes on to its end. Meanwhile off, or closing, waits for the call, unless that
- * is done. */
+/* A thread is cancelled in a callback, and goes on until the end of the callback. Meanwhile a call that takes the
+ * notification back, or that frees the node, waits for the callback, unless that has said that it is done. */
 static int waits_for_the_call(uint32_t kind, int by_close, int done) {
     qolb_node n[3];
     pthread_t thread;
@@ -326,7 +327,7 @@ static int waits_for_the_call(uint32_t kind, int by_close, int done) {
     return 0;
 }
 
-/* A call that takes its node's wish back does not wait for itself. */
+/* A callback that takes back the notification of its own node does not wait for itself. */
 static void take_off(void *node) { MUST(qolb_notify_off(node), QOLB_DONE); }
 
 static int waits_not_for_itself(uint32_t kind) {
@@ -340,7 +341,7 @@ static int waits_not_for_itself(uint32_t kind) {
     return closes(2, n);
 }
 
-/* A fork copies the wish: each process has its call. */
+/* A fork copies the requested notification, so it is made in each process. */
 static int calls_in_both_processes(uint32_t kind) {
     qolb_node n[2];
     int status;

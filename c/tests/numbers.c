@@ -1,6 +1,6 @@
-/* A thread that holds more locks than its table has room for is known by its number as the holder of the others. No two
- * threads have the same number: not two of one process, and not those of the child of a fork, whose first thread keeps
- * the number that it had in the parent. Prints only errors. */
+/* Tests the numbers of threads. If a thread holds more locks than its table has room for, the other locks note its
+ * number as their holder. No two threads of a process have the same number, and neither have those of the child of a
+ * fork, whose first thread keeps the number that it had in the parent. Prints only errors. */
 #define _POSIX_C_SOURCE 200809L
 #include "want.h"
 #include <pthread.h>
@@ -15,7 +15,8 @@ enum { TURNS = 40, MS = 1000000 };
 static qolb_lock lock;
 static qolb_cond cond = QOLB_COND_INIT;
 
-/* More than a thread's table has room for, by each of two threads: a lock that is entered later is held by number. */
+/* Each of two threads enters more locks than its table has room for. The locks that are entered later note the number.
+ */
 enum { MANY = 12 };
 static qolb_lock before[2][MANY];
 
@@ -27,7 +28,7 @@ static void leaves_many(int self) {
     for (int k = 0; k < MANY; k++) MUST(qolb_lock_leave(&before[self][k]), QOLB_DONE);
 }
 
-/* Another thread holds the lock. */
+/* This thread does not hold the lock, because another thread holds it. */
 static void *holds_nothing(void *unused) {
     enters_many(1);
     MUST(qolb_lock_is_mine(&lock), 0);
@@ -53,7 +54,7 @@ static void in_another_thread(void *(*work)(void *)) {
     MUST(pthread_join(id, NULL), 0);
 }
 
-/* For the thread that holds it. */
+/* Checks the lock in the thread that holds it. */
 static void is_held(void) {
     in_another_thread(holds_nothing);
     MUST(qolb_lock_enter(&lock), QOLB_MISUSE);
@@ -65,7 +66,8 @@ static void is_held(void) {
     MUST(qolb_lock_destroy(&lock), QOLB_DONE);
 }
 
-/* The lock is held at the fork, at its first use or after turns that nobody else wanted; in the table, or beyond it. */
+/* Forks while a lock is held: at its first use or after uncontended acquisitions, and noted in the table or in the
+ * lock. */
 static void forks(qolb_lock as, int turns, int is_beyond) {
     int ended;
     lock = as;

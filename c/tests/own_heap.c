@@ -1,6 +1,6 @@
-/* A program whose malloc, as the C library's own calls take it, enters a lock. So the first call of the process may be
- * made inside pthread_atfork, and that of a thread inside pthread_setspecific, or in a free behind the thread's last
- * destructor. A thread's first call on a lock takes no memory. Prints only errors. */
+/* Tests a program whose malloc enters a lock, also when the C library itself calls malloc. So the first call on a lock
+ * may be made inside pthread_atfork. The first call of a thread may be made inside pthread_setspecific, or in a free
+ * after the thread's last destructor. A thread's first call on a lock must allocate no memory. Prints only errors. */
 #include <qolb.h>
 #include <pthread.h>
 #include <stdio.h>
@@ -9,12 +9,12 @@
 
 #include "want.h"
 
-/* In glibc a key beyond the first 32 takes memory in each thread, and so does the 49th fork handler. */
+/* In glibc a key beyond the first 32 allocates memory in each thread, and so does the 49th fork handler. */
 enum { MANY_KEYS = 40, MANY_HANDLERS = 48 };
 
 static qolb_lock heap = QOLB_LOCK_INIT;
-static int is_used;        /* from then on the lock is entered */
-static __thread int taken; /* blocks, by this thread */
+static int is_used;        /* once it is set, malloc and free enter the lock */
+static __thread int taken; /* the number of blocks that this thread allocated */
 
 void *__libc_malloc(size_t size);
 void *__libc_calloc(size_t many, size_t size);
@@ -78,7 +78,7 @@ static void *takes_none(void *unused) {
     return unused;
 }
 
-/* It calls a lock only behind its last destructor, if the C library frees there. */
+/* This thread uses a lock only after its last destructor, if the C library frees memory there. */
 static void *does_not_use_it(void *unused) { return unused; }
 
 static int in_a_thread(void *(*does)(void *)) {

@@ -1,6 +1,6 @@
-/* A program whose malloc and free enter a lock of its own. A call with a limit on another lock takes memory while it
- * waits, and both locks have one place in a thread's table. A thread takes no memory for a lock that it holds as it
- * ends. Linked with --wrap for malloc and free. Prints only errors. */
+/* Tests a program whose malloc and free enter a lock of the program. A call with a timeout on another lock allocates
+ * memory while it waits, and both locks have the same place in a thread's table. A thread that ends while it holds a
+ * lock allocates no memory for it. Linked with --wrap for malloc and free. Prints only errors. */
 #define _GNU_SOURCE
 #include <qolb.h>
 #include <string.h>
@@ -8,10 +8,10 @@
 #include "waiters.h"
 
 enum { TASKS = 80, APART = 512 };
-/* A timeout that ends while the lock is held, and after the thread has drawn a ticket, on a busy machine too. */
+/* A timeout that expires while the lock is held, and after the thread has drawn a ticket, even on a busy machine. */
 enum { SHORT = 200 * MS };
 
-/* The one for memory, and the other. */
+/* The lock of malloc and free, and the other lock. */
 static struct {
     _Alignas(APART) qolb_lock of_memory;
     _Alignas(APART) qolb_lock lock;
@@ -19,7 +19,7 @@ static struct {
 
 static qolb_task tasks[TASKS];
 static atomic_int number;
-static __thread int counts; /* this thread's uses of memory are counted */
+static __thread int counts; /* whether this thread's allocations are counted */
 static __thread int taken, freed;
 
 void *__real_malloc(size_t size);
@@ -47,11 +47,11 @@ void __wrap_free(void *block) {
 
 static void does_nothing(void *unused) { (void)unused; }
 
-/* So many are before a call with a limit that takes memory, at least. */
+/* The least number of requests before a call with a timeout that allocates memory. */
 enum { FAR = 64 };
 static int waiting;
 
-/* The timeout is so long that the thread is granted the lock, or so short that it times out; or there is none. */
+/* Enters with a timeout that is long enough to be granted the lock, or short enough to expire, or without one. */
 static void *enters_within(void *limit) {
     uint64_t nanoseconds = *(uint64_t *)limit;
     int takes = nanoseconds != UINT64_MAX && waiting >= FAR;
@@ -67,7 +67,7 @@ static void *enters_within(void *limit) {
     return NULL;
 }
 
-/* Behind too many tasks to withdraw its ticket, or few. */
+/* Waits behind this number of tasks, which are too many to withdraw its ticket, or few. */
 static int waits_behind(int tasks_before, uint64_t barging, uint64_t nanoseconds) {
     pthread_t id;
     waiting = tasks_before;

@@ -1,6 +1,6 @@
-/* Threads that wait, one at a time, for a debugger that stops at the library's probes (probes.h): one is late, one is
- * granted the line, one is told that it is closed, and one waits for a lock. The line has the label 7. Prints only
- * errors. */
+/* A program for probes.gdb, which stops at the probes of the library (../src/probes.h). Its threads wait one at a time:
+ * one times out, one is granted a line, one is told that the line is closed, and one waits for a lock. The line has the
+ * label 7. Prints only errors. */
 #define _GNU_SOURCE
 #include <qolb.h>
 
@@ -35,7 +35,7 @@ static void *enters(void *unused) {
     return unused;
 }
 
-/* Runs a thread to its end, and releases what it waits for once it sleeps. */
+/* Runs a thread until it ends. Once the thread sleeps, releases what it waits for. */
 static void run(void *(*thread)(void *), void (*let_go)(void)) {
     pthread_t id;
     atomic_store(&waits, 0);
@@ -57,7 +57,7 @@ int main(void) {
     WANT(qolb_open(QOLB_DEFAULT, 7, 2, QOLB_NO_LEASE, &zeros, nodes, 2), QOLB_DONE);
     WANT(qolb_acquire(&nodes[0]), QOLB_GRANTED);
     run(is_late, NULL);
-    release(); /* passes the withdrawn request */
+    release(); /* this passes the withdrawn request */
     WANT(qolb_acquire(&nodes[0]), QOLB_GRANTED);
     run(is_granted, release);
     WANT(qolb_acquire(&nodes[0]), QOLB_GRANTED);

@@ -1,4 +1,4 @@
-# Has the debugger print each probe of the library that a program passes, with the line's label and the number of the node; or, for a lock, 0 in place of its
+# Prints each probe of the library that a program passes. For a line it prints the label and the number of the node. For a lock it prints 0 in place of the
 # address, and the number of the ticket.
 set pagination off
 break -probe-stap qolb:wait

@@ -1,10 +1,10 @@
-/* Data that a lock guards, for threads and for a task, or a line whose waiter is told by an eventfd, or whose nodes
- * give up; and data that is used in some wrong way, for the thread sanitizer, and for valgrind's helgrind and drd: they
- * must be quiet about the first and report each other.
+/* A program for the thread sanitizer, and for helgrind and drd of valgrind. In some ways it uses data correctly: a lock
+ * protects them for threads and for a task, or a line does, whose waiter is notified by an eventfd or whose nodes give
+ * up. Then the tools must report nothing. In the other ways it uses data wrongly, and the tools must report a race.
  *
- *   build/races WAY     its number below
+ *   build/races WAY     WAY is one of the numbers below
  *
- * The second thread uses the data after the first has. Nothing but the lock or the condition tells the sanitizer so. */
+ * The second thread uses the data after the first. Only the lock or the condition tells the tools so. */
 #define _GNU_SOURCE
 #include <qolb.h>
 #include <stdlib.h>
@@ -30,7 +30,7 @@ static qolb_cond cond = QOLB_COND_INIT;
 enum { NODES = 4 };
 static qolb_node nodes[NODES];
 static int way, is_ready, data;
-/* Set once the first thread has done its part. Relaxed, so that it orders nothing. */
+/* Set once the first thread has done its part. Its accesses are relaxed, so they order nothing. */
 static atomic_int done;
 
 static void until_done(void) {
@@ -40,7 +40,7 @@ static void until_done(void) {
 static void enter(qolb_lock *it) { MUST(qolb_lock_enter(it), QOLB_GRANTED); }
 static void leave(qolb_lock *it) { MUST(qolb_lock_leave(it), QOLB_DONE); }
 
-/* It keeps the lock for a while if the second is to wait, or to be answered BUSY or TIMEDOUT. */
+/* Keeps the lock for a while if the second thread is to wait, or to be answered BUSY or TIMEDOUT. */
 static void *first(void *unused) {
     if (way == BY_A_NODE) {
         MUST(qolb_acquire(&nodes[0]), QOLB_GRANTED);
@@ -64,7 +64,7 @@ static void *first(void *unused) {
     return unused;
 }
 
-/* Both wait at an eventfd, by which the tools are told nothing. */
+/* Both wait for an eventfd, which tells the tools nothing. */
 static void task_adds(int fd) {
     static qolb_task task;
     eventfd_t count;
@@ -138,7 +138,7 @@ static void *second(void *unused) {
     return unused;
 }
 
-/* Threads that end, one of them with a lock, while others do: nothing is used in a wrong way. */
+/* Threads end at the same time, one of them while it holds a lock. Nothing is used wrongly. */
 static void *ends(void *with) {
     static qolb_lock kept = QOLB_LOCK_INIT;
     enter(&other);
@@ -154,7 +154,7 @@ static void end_together(void) {
     for (int k = 0; k < MANY; k++) pthread_join(ids[k], NULL);
 }
 
-/* Releases pass withdrawn requests, one after another. */
+/* Times out again and again, so that releases pass withdrawn requests, one after the other. */
 static void *is_late_often(void *node) {
     for (int k = 0; k < 100; k++) {
         if (qolb_acquire_within(node, k % 2 ? UINT64_MAX : 20000) != QOLB_GRANTED) continue;

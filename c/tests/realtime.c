@@ -1,13 +1,14 @@
-/* A real-time thread waits for an ordinary one on the same processor. Each has a node of a line. The ordinary thread
- * acquires the line and then starts the other, which preempts it and acquires, too. So the other must sleep before it
- * can go on, and must be woken by the release.
+/* Tests a real-time thread that waits for an ordinary thread on the same processor. Each has a node of a line. The
+ * ordinary thread acquires the line and then starts the real-time thread, which preempts it and acquires, too. The
+ * real-time thread must sleep so that the ordinary thread can go on, and must be woken by the release.
  *
- * A thread that spins, or yields again and again, keeps the processor until the system throttles it, after most of a
- * second. So the test counts the processor time of each wait, which no other program lengthens.
+ * A real-time thread that spins, or yields again and again, keeps the processor until the system throttles it, after
+ * most of a second. Therefore the test measures the processor time of each wait, which other programs do not lengthen.
  *
- *   realtime [TURNS]   of each kind of line; with threads that are kept at one processor, and then with the whole
- *                      process kept there, which does not spin at all
- */
+ *   realtime [TURNS]
+ *
+ * It makes TURNS acquisitions of each kind of line: first with threads that are kept at one processor, and then with
+ * the whole process kept there, which does not spin at all. */
 #define _GNU_SOURCE
 #include <errno.h>
 #include <pthread.h>
@@ -21,7 +22,7 @@
 #include <time.h>
 
 enum { ORDINARY, REALTIME, THREADS };
-/* The most processor time of a wait, in nanoseconds: a spin, a sleep and a wake take a hundredth of it. */
+/* The most processor time of a wait, in nanoseconds. A spin, a sleep and a wake-up take a hundredth of it. */
 enum { MOST = 20000000 };
 
 static long turns;
@@ -54,7 +55,7 @@ static void add_one(qolb_node *node) {
     check(qolb_add_lane(node, 0, 1, &was) == QOLB_DONE && qolb_deqolb(node) == QOLB_DONE, "no turn");
 }
 
-/* Whether the line is held when it asks is noted by its request. */
+/* The result of the request says whether the line was held. */
 static void *work_realtime(void *unused) {
     (void)unused;
     stay();
@@ -82,7 +83,7 @@ static void *work_ordinary(void *unused) {
     return NULL;
 }
 
-/* Starts a thread; false if it may not be a real-time one. */
+/* Starts a thread. Returns false if the thread may not be a real-time thread. */
 static int starts(pthread_t *thread, void *(*work)(void *), int policy) {
     pthread_attr_t how;
     struct sched_param priority = {.sched_priority = policy == SCHED_FIFO};
@@ -95,7 +96,7 @@ static int starts(pthread_t *thread, void *(*work)(void *), int policy) {
     return error == 0;
 }
 
-/* Takes turns at a line of this kind; false if no thread may be a real-time one. */
+/* Makes the acquisitions of a line of this kind. Returns false if no thread may be a real-time thread. */
 static int take_turns(uint32_t kind) {
     qolb_bytes zeros = {{0}};
     pthread_t threads[THREADS];

@@ -1,8 +1,8 @@
-/* How a waiter with a node rests between polls, by a clock that the program advances: how often it requests and polls,
- * how long it sleeps, and when it is late; its answer if the line is granted, or closed, between the last poll and the
- * withdrawal; and which calls wake sleepers, and which sleepers. Linked with --wrap for clock_gettime, nanosleep,
- * sched_yield, syscall and for the proved calls that request, poll, withdraw and look at a node. One thread does what
- * several would. Prints only errors. */
+/* Tests how a thread waits with a node, with a clock that the program advances: how often it requests and polls, how
+ * long it sleeps, and when it times out. Also tested are what a call returns if the line is granted or closed between
+ * the last poll and the withdrawal, and which calls wake which sleepers. One thread does what several would do. Linked
+ * with --wrap for clock_gettime, nanosleep, sched_yield, syscall, and the proved calls that request, poll, withdraw and
+ * look at a node. Prints only errors. */
 #define _GNU_SOURCE
 #include "want.h"
 #include <probes.h>
@@ -22,38 +22,39 @@
 enum { US = 1000, MS = 1000000 };
 #define NEVER UINT64_MAX
 
-/* The time, in nanoseconds; and since `begins` the numbers of clock calls and rests, the longest time that a sleep may
- * have lasted, the node's numbers of requests, polls and spins, the number of looks at a node that does not wait, as a
- * release makes one for the next holder, the number of wakes, and the calls that a waiter must not make. */
+/* The time in nanoseconds; and, counted since `begins`, the clock calls, the yields and sleeps, the longest time that a
+ * sleep may have lasted, the requests, polls and spins of the node, the looks at a node that does not wait (a release
+ * looks for the next holder so), the wakes, and the calls that a waiter must not make. */
 static uint64_t now, clocks, yields, sleeps, longest, asks, spins, spun, looks, names, wakes, wrong;
 
-/* The looks that probes add to the wait of a node that was busy: at its beginning and at its end. */
+/* Each probe that a library with probes passes also looks at its node. */
 #ifdef DTRACE_PROBE3
-enum { BY_PROBES = 2 };
+enum { BY_PROBE = 1 };
 #else
-enum { BY_PROBES = 0 };
+enum { BY_PROBE = 0 };
 #endif
 
-/* How often a node polls before it sleeps, each 60 ns, as qolb.h says: for 50 us on a line of no more nodes than
- * processors, here four, and for 20 us on others; at least for 2 us, and once it has slept, for 10. It pauses while 90
- * ns are left. A poll is before the pauses and behind each, and one more is before the sleep. */
+/* How often a node polls before it sleeps, as qolb.h says. It polls every 60 ns: for 50 us on a line with no more nodes
+ * than processors (here four), and for 20 us on other lines. It polls for at least 2 us, and for at least 10 us once it
+ * has slept. It pauses as long as 90 ns are left. There is one poll before the pauses, one after each pause, and one
+ * before the sleep. */
 enum { PAUSE = 60 };
 #define POLLS(nanoseconds) (((nanoseconds)-90) / PAUSE + 1)
 enum { NEAR = POLLS(50000), UNKNOWN = POLLS(20000), LEAST = POLLS(2000) };
-/* The same behind a spin that ended with a sleep: half as often, and an eighth of that more. */
+/* The same after a spin that ended with a sleep: half as often, and an eighth of that more. */
 enum { LESS = POLLS(NEAR * PAUSE / 2 * 9 / 8) };
-/* How long 64 pauses take by the clock in each of the runs in which they are timed, between two clock calls; the number
- * of clock calls for that. */
+/* How long 64 pauses take by the clock in each run in which they are timed, between two clock calls, and the number of
+ * these clock calls. */
 enum { TIMED = 5 };
 static uint64_t lasts[TIMED];
 static unsigned timed = 2 * TIMED;
 
-/* The words of the first sleeps and wakes since then, in their order. */
+/* The words of the first sleeps and wakes since `begins`, in their order. */
 enum { NOTED = 8 };
 static const void *slept_at[NOTED], *woken_at[NOTED];
 
-/* An action at the first clock call at this time or later, at this number of yields, during this number of sleeps,
- * before this number of polls or requests, or before a request is withdrawn. It happens once. */
+/* An action that happens once: at the first clock call at this time or later, at this yield, during this sleep, before
+ * this poll or request, or before a request is withdrawn. */
 static struct {
     void (*does)(void);
     uint64_t at, at_yield, at_sleep, at_look, at_ask;
@@ -97,7 +98,8 @@ int __wrap_sched_yield(void) {
     return 0;
 }
 
-/* A sleep without a limit ends for no reason, and so does one in which something happens; any other takes its time. */
+/* Sleeps. A sleep without a timeout ends for no reason, and so does one in which something happens. Any other sleep
+ * lasts until its timeout. */
 static void sleep_for(const struct timespec *most) {
     uint64_t lasts = most ? (uint64_t)most->tv_sec * 1000000000 + (uint64_t)most->tv_nsec : NEVER;
     if (most && (most->tv_nsec < 0 || most->tv_nsec >= 1000000000)) wrong++;
@@ -154,7 +156,7 @@ void __wrap_qolb_look_proved_(qolb_node *node, struct qolb_look *out) {
     if (out->state != QOLB_STATE_QUEUED) names++;
 }
 
-/* The calling thread forgets what its spins taught it. */
+/* Begins a test. The calling thread forgets what it has learned about spinning. */
 static void begins(void (*does)(void)) {
     for (int k = 0; k < SPINS; k++) qolb_learned_[k] = 0;
     clocks = yields = sleeps = longest = asks = spins = spun = looks = names = wakes = 0;
@@ -166,7 +168,7 @@ static void begins(void (*does)(void)) {
 
 /* ---- How often a waiter polls ---- */
 
-/* The pauses in 1,024 ns, of which the quickest run counts: 1 to 1,024. */
+/* The number of pauses in 1,024 ns, by the quickest run, is 1 to 1,024. */
 static int counts_pauses(void) {
     static const struct {
         uint64_t runs[TIMED];
@@ -188,8 +190,8 @@ static int counts_pauses(void) {
     return 0;
 }
 
-/* A process that may use one processor only, here a child, counts no pauses, and polls once before it sleeps. One that
- * keeps another thread at a processor counts them. */
+/* A process that may use only one processor counts no pauses, and polls once before it sleeps. Here this is a child. A
+ * process that keeps only another thread at one processor counts pauses. */
 static int sleeps_at_once(void) {
     qolb_bytes zeros = {{0}};
     qolb_node n[2] = {{0}};
@@ -229,10 +231,11 @@ static void shuts(void) {
     if (qolb_shut(holder) != QOLB_DONE) wrong++;
 }
 
-/* Without a grant, while the first node holds the line. */
+/* The node times out, because the first node holds the line. */
 static int late(qolb_node *n) {
-    /* For 20 ms, while it waits and while it is busy: late to the nanosecond. Waiting, it polls, polls for 50 us and
-     * once more, and sleeps as long as it may. Busy, it requests again for 20 us, and then every 200 us. */
+    /* It times out after 20 ms to the nanosecond, while it waits and while it is busy. While it waits, it polls once,
+     * polls for 50 us, polls once more, and sleeps for the rest. While it is busy, it requests again for 20 us, and
+     * then every 200 us. */
     for (unsigned busy = 0; busy < 2; busy++) {
         uint64_t since = now;
         begins(NULL);
@@ -245,7 +248,7 @@ static int late(qolb_node *n) {
         WANT(yields + spins, 0);
         WANT(qolb_state(&n[1]), QOLB_STATE_ROLLED);
     }
-    /* For less than a nap; and for no time at all: it still makes a request, and polls if it waits. */
+    /* Its timeout is shorter than a nap, or 0. It still makes a request, and polls if it waits. */
     uint64_t since = now;
     WANT(qolb_acquire_within(&n[1], 50 * US), QOLB_TIMEDOUT);
     WANT(now - since, 50 * US);
@@ -260,8 +263,8 @@ static int late(qolb_node *n) {
     return 0;
 }
 
-/* It waits as long as it takes, and reads no clock but around a yield: it sleeps, and if it is woken for no reason it
- * yields and polls anew. A release wakes it, by one call. */
+/* A wait without a timeout reads the clock only around a yield. It sleeps, and if it is woken for no reason it yields
+ * and polls again. A release wakes it, by one system call. */
 static int sleeps_on(qolb_node *n, int limited) {
     holder = &n[0];
     begins(releases);
@@ -280,7 +283,7 @@ static int sleeps_on(qolb_node *n, int limited) {
     return 0;
 }
 
-/* The line is granted while it waits: while it sleeps with the longest limit, while it spins, and while it is busy. */
+/* The line is granted while the node sleeps with the longest timeout, while it spins, and while it is busy. */
 static int granted(qolb_node *n) {
     holder = &n[0];
     begins(releases);
@@ -308,8 +311,8 @@ static int granted(qolb_node *n) {
     return 0;
 }
 
-/* Granted at once it neither polls nor rests; a try makes one request, and does neither. A release without waiters
- * makes no system call. */
+/* A node that is granted the line at once neither polls nor rests. A try makes one request, and neither polls nor
+ * rests. A release without waiters makes no system call. */
 static int at_once(qolb_node *n) {
     begins(NULL);
     WANT(qolb_acquire(&n[1]), QOLB_GRANTED);
@@ -323,7 +326,8 @@ static int at_once(qolb_node *n) {
     return 0;
 }
 
-/* The time is over, and the line is granted before the withdrawal: it is granted. Or the line is closed: it is told. */
+/* The timeout expires, but before the withdrawal the line is granted or closed. The node is granted the line, or is
+ * told. */
 static int at_the_end(qolb_node *n) {
     WANT(qolb_acquire(&n[1]), QOLB_GRANTED);
     holder = &n[1];
@@ -352,8 +356,9 @@ static int rests(uint32_t kind) {
     return 0;
 }
 
-/* The polls of the next spin that ends with a sleep, and its length: an eighth more than it was, at most 50 us; on a
- * line of more nodes than processors it ends after 20 us. Half of it is left, but not less than the least. */
+/* Returns the polls of the next spin that ends with a sleep. Its length is an eighth more than before, but at most 50
+ * us. On a line with more nodes than processors it ends after 20 us. Afterwards the length is half of it, but not below
+ * `least`. */
 static uint64_t next_spin(uint64_t *length, uint64_t nodes, uint64_t least) {
     uint64_t grown = *length + *length / 8;
     *length = *length && grown < 50000 ? grown : 50000;
@@ -363,7 +368,7 @@ static uint64_t next_spin(uint64_t *length, uint64_t nodes, uint64_t least) {
 }
 
 /* Each spin that ends with a sleep makes the next one shorter, down to the least. A spin after a sleep has a length of
- * its own. On a line of more nodes than processors both are shorter. */
+ * its own. On a line with more nodes than processors both are shorter. */
 static int learns(uint32_t kind, uint64_t nodes) {
     qolb_bytes zeros = {{0}};
     qolb_node n[6] = {{0}};
@@ -397,7 +402,7 @@ static int learns(uint32_t kind, uint64_t nodes) {
     return 0;
 }
 
-/* A try that finds at its withdrawal that the line is granted, or is closed. */
+/* A try finds at its withdrawal that the line is granted, or that it is closed. */
 static int withdraws_late(uint32_t kind, int is_shut) {
     qolb_bytes zeros = {{0}};
     qolb_node n[2] = {{0}};
@@ -413,7 +418,7 @@ static int withdraws_late(uint32_t kind, int is_shut) {
     return 0;
 }
 
-/* ---- Wakes by a node that is told that the line is closed, and so forwards it ---- */
+/* ---- Wakes by a node that is told that the line is closed, and that therefore passes the line on ---- */
 
 static qolb_node *teller;
 static uint32_t (*tells)(qolb_node *node);
@@ -424,7 +429,7 @@ static uint32_t waits(qolb_node *node) { return qolb_spin(node, 1); }
 static uint32_t acquires(qolb_node *node) { return qolb_acquire(node); }
 static uint32_t acquires_within(qolb_node *node) { return qolb_acquire_within(node, MS); }
 
-/* While one sleeps: the teller makes its call, before which its line may be shut. */
+/* Makes the teller's call while one node sleeps. Before the call, the line may be shut. */
 static void is_told(void) {
     if (holder) shuts();
     uint64_t woken = wakes, asked = names;
@@ -433,7 +438,7 @@ static void is_told(void) {
     named = names - asked;
 }
 
-/* The second node is before one that sleeps, and polls, withdraws or links only after the line was shut. */
+/* The second node is before one that sleeps. It polls, withdraws or links only after the line was shut. */
 static int passes_on(uint32_t kind, uint32_t (*call)(qolb_node *node), int links) {
     qolb_bytes zeros = {{0}};
     qolb_node n[3] = {{0}};
@@ -452,8 +457,8 @@ static int passes_on(uint32_t kind, uint32_t (*call)(qolb_node *node), int links
     return 0;
 }
 
-/* A request on a closed line is told at once, and may have forwarded the line to a sleeper behind it. Here no node of
- * its line waits, and a sleeper of another line is not woken: the call does not even ask for the next holder. */
+/* A request on a closed line is told at once, and may have passed the line on to a sleeper behind it. Here no node of
+ * the line waits, and a sleeper of another line is not woken: the call does not even ask for the next holder. */
 static int asks_a_closed_one(uint32_t kind, uint32_t (*call)(qolb_node *node)) {
     qolb_bytes zeros = {{0}};
     qolb_node n[2] = {{0}}, closed = {0};
@@ -483,37 +488,18 @@ static void shuts_other(void) {
     if (qolb_shut(other) != QOLB_DONE) wrong++;
 }
 
-static qolb_node *behind;
-static int calls;
-
-static void counts(void *unused) {
-    (void)unused;
-    calls++;
-}
-
-/* One waits behind, and wants a call; then the line is closed as the node's time is over. */
-static void one_waits_behind(void) {
-    if (qolb_enqolb(behind) != QOLB_QUEUED || qolb_notify(behind, counts, NULL) != QOLB_WAITING) wrong++;
+/* The line is closed when the node's timeout expires, or while the node is busy. */
+static uint32_t is_told_as_it_gives_up(qolb_node *node) {
     event.does = shuts_other;
     event.at_withdrawal = 1;
+    return qolb_acquire_within(node, MS);
 }
 
-/* A node that is told of the shut line as it gives up has forwarded the line to the one behind, which is called. */
-static int is_told_as_it_gives_up(uint32_t kind) {
-    qolb_bytes zeros = {{0}};
-    qolb_node n[3] = {{0}};
-    WANT(qolb_open(kind, 1, 3, QOLB_NO_LEASE, &zeros, n, 3), QOLB_DONE);
-    WANT(qolb_acquire(&n[0]), QOLB_GRANTED);
-    other = &n[0];
-    behind = &n[2];
-    calls = 0;
-    begins(one_waits_behind);
-    event.at_look = 1;
-    WANT(qolb_acquire_within(&n[1], MS), QOLB_CLOSED);
-    WANT(calls, 1);
-    WANT(qolb_poll(&n[2]), QOLB_CLOSED);
-    for (int k = 0; k < 3; k++) WANT(qolb_node_free(&n[k]), QOLB_DONE);
-    return 0;
+static uint32_t is_told_after_being_busy(qolb_node *node) {
+    if (qolb_try(node) != QOLB_BUSY) wrong++;
+    event.does = shuts_other;
+    event.at_ask = asks + 3;
+    return qolb_acquire(node);
 }
 
 static void is_not_called(void *unused) {
@@ -521,9 +507,10 @@ static void is_not_called(void *unused) {
     wrong++;
 }
 
-/* A busy node that is told of the shut line as it asks again looks for the next holder, as the node did that shut it: a
- * third has left a callback behind, and so counts as one that waits. */
-static int is_told_after_being_busy(uint32_t kind) {
+/* A node that is told late of the shut line looks for the next holder, as the node that shut it did. A third node
+ * counts as a waiter, because it has left a requested notification behind. The call passes this number of probes while
+ * its node does not wait. */
+static int is_told_late(uint32_t kind, uint32_t (*call)(qolb_node *node), unsigned probes) {
     qolb_bytes zeros = {{0}};
     qolb_node n[3] = {{0}};
     WANT(qolb_open(kind, 1, 3, QOLB_NO_LEASE, &zeros, n, 3), QOLB_DONE);
@@ -531,17 +518,15 @@ static int is_told_after_being_busy(uint32_t kind) {
     WANT(qolb_enqolb(&n[2]), QOLB_QUEUED);
     WANT(qolb_notify(&n[2], is_not_called, NULL), QOLB_WAITING);
     WANT(qolb_withdraw(&n[2]), QOLB_WITHDRAWN);
-    WANT(qolb_try(&n[1]), QOLB_BUSY);
     other = &n[0];
-    begins(shuts_other);
-    event.at_ask = 3;
-    WANT(qolb_acquire(&n[1]), QOLB_CLOSED);
-    WANT(names, 2 + BY_PROBES);
+    begins(NULL);
+    WANT(call(&n[1]), QOLB_CLOSED);
+    WANT(names, 2 + probes * BY_PROBE);
     for (int k = 0; k < 3; k++) WANT(qolb_node_free(&n[k]), QOLB_DONE);
     return 0;
 }
 
-/* A misuse releases nothing, and wakes no thread: of an empty handle, and of a node that does not hold the line. */
+/* A misuse, with an empty handle or with a node that does not hold the line, releases nothing and wakes no thread. */
 static int misuse_wakes_nobody(uint32_t kind, uint32_t (*call)(qolb_node *node)) {
     qolb_bytes zeros = {{0}};
     qolb_node n[3] = {{0}}, empty = {0};
@@ -572,7 +557,7 @@ static int each_passes_on(uint32_t kind) {
     if (asks_a_closed_one(kind, qolb_enqolb) || asks_a_closed_one(kind, acquires) ||
         asks_a_closed_one(kind, acquires_within))
         return 1;
-    if (is_told_as_it_gives_up(kind) || is_told_after_being_busy(kind)) return 1;
+    if (is_told_late(kind, is_told_as_it_gives_up, 1) || is_told_late(kind, is_told_after_being_busy, 2)) return 1;
     return kind == QOLB_LINK && (passes_on(kind, qolb_link, 1) || asks_a_closed_one(kind, qolb_prepend));
 }
 
@@ -583,12 +568,12 @@ static qolb_node *nodes;
 static uint32_t (*waits_as)(unsigned k);
 static void (*lets_go)(void);
 
-/* The first waits as long as it takes; the others are late, as their sleeps end while it sleeps. */
+/* The first node waits without a timeout. The others time out, because their sleeps end while it sleeps. */
 static uint32_t acquires_as(unsigned k) {
     return k ? qolb_acquire_within(&nodes[k], 20 * MS) : qolb_acquire(&nodes[0]);
 }
 
-/* While one sleeps the next waits and sleeps, too, and while the last does the line is released. */
+/* While one node sleeps, the next one waits and sleeps, too. While the last one sleeps, the line is released. */
 static void next_sleeps(void) {
     unsigned k = (unsigned)sleeps;
     if (k == SLEEPERS) {
@@ -600,7 +585,7 @@ static void next_sleeps(void) {
     if (waits_as(k) != QOLB_TIMEDOUT) wrong++;
 }
 
-/* Three sleep, each at its own word, and this many of them are woken, in their order. */
+/* Three nodes sleep, each at a word of its own. This number of them is woken, in their order. */
 static int wakes_so_many(uint32_t (*as)(unsigned k), void (*by)(void), unsigned many, uint32_t then) {
     waits_as = as;
     lets_go = by;
@@ -613,7 +598,7 @@ static int wakes_so_many(uint32_t (*as)(unsigned k), void (*by)(void), unsigned 
     return 0;
 }
 
-/* Also if it passes a withdrawn request. */
+/* A release wakes two, also if it passes a withdrawn request. */
 static int wakes_two(uint32_t kind, int passes) {
     qolb_bytes zeros = {{0}};
     qolb_node n[2 + SLEEPERS] = {{0}};
@@ -634,7 +619,7 @@ static void shuts_and_is_told(void) {
     if (qolb_poll(other) != QOLB_CLOSED) wrong++;
 }
 
-/* The same of a node that closes the line, and of the next one, awake, which forwards the closed line. */
+/* So does a node that closes the line, and so does the next node, which is awake and passes the closed line on. */
 static int closing_wakes_two(uint32_t kind, int passes_on) {
     qolb_bytes zeros = {{0}};
     qolb_node n[2 + SLEEPERS] = {{0}};
@@ -649,7 +634,7 @@ static int closing_wakes_two(uint32_t kind, int passes_on) {
     return 0;
 }
 
-/* If the next holder is awake, though it has slept at that place before, only the waiter behind it is woken. */
+/* If the next holder is awake, although it has slept at its place before, only the waiter behind it is woken. */
 static int wakes_behind_one_awake(uint32_t kind) {
     qolb_bytes zeros = {{0}};
     qolb_node n[3] = {{0}};
@@ -671,7 +656,7 @@ static int wakes_behind_one_awake(uint32_t kind) {
     return 0;
 }
 
-/* No two waiting nodes of a line sleep at one word, for any number of nodes; nor do nodes of two lines. */
+/* No two waiting nodes of a line sleep at the same word, for any number of nodes. Neither do nodes of two lines. */
 static int each_has_its_place(uint32_t kind) {
     enum { MOST = 200 };
     qolb_bytes zeros = {{0}};
@@ -701,7 +686,7 @@ static int wakes_whom_it_should(uint32_t kind) {
     return wakes_behind_one_awake(kind) || each_has_its_place(kind);
 }
 
-/* ---- Woken without a grant: the rest of the time is used ---- */
+/* ---- A node that is woken without a grant uses the rest of its time ---- */
 
 static void time_passes(void) { now += 5 * MS; }
 
@@ -728,10 +713,10 @@ static int woken_for_nothing(uint32_t kind) {
 }
 
 int main(void) {
-    alarm(60); /* who never looks at the clock, or never rests, does not end */
+    alarm(60); /* a thread that never looks at the clock, or never rests, does not end */
     now = 5000000000;
     if (counts_pauses() || has_one_processor()) return 1;
-    atomic_store(&qolb_pauses_, 80); /* also where there is one processor */
+    atomic_store(&qolb_pauses_, 80); /* it is set because there may be one processor */
     atomic_store(&qolb_processors_, 4);
     for (uint32_t kind = 0; kind < QOLB_KINDS; kind++)
         if (rests(kind) || learns(kind, 2) || learns(kind, 6) || withdraws_late(kind, 0) || withdraws_late(kind, 1) ||

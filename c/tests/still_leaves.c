@@ -1,7 +1,7 @@
-/* A thread leaves a lock, and is stopped in that call while it wakes the next holder. All others can enter, whichever
- * call the thread left by; the lock can be closed, and its memory may go. One that shuts a lock is stopped as it wakes
- * who waits at a condition: that one is told CLOSED once the lock is shut for all. Linked with --wrap for syscall.
- * Prints only errors. */
+/* Tests a thread that leaves a lock and is stopped in this call while it wakes the next holder. All other threads can
+ * enter, by whichever call the thread left. The lock can be destroyed, and its memory may be freed. A thread that shuts
+ * a lock is stopped while it wakes a thread that waits at a condition. That thread is told CLOSED once the lock is shut
+ * for all. Linked with --wrap for syscall. Prints only errors. */
 #define _GNU_SOURCE
 #include <qolb.h>
 #include <stdarg.h>
@@ -12,15 +12,15 @@
 
 long __real_syscall(long number, ...);
 
-/* How the system is called to wake: who sleeps at a word, and who sleeps at a lock. */
+/* The system calls that wake threads which sleep at a word, and threads which sleep at a lock. */
 enum { FUTEX_WAKE_PRIVATE = 129, FUTEX_WAKE_BITSET_PRIVATE = 138 };
 
-static __thread int first; /* the call in which this thread stops, or 0 */
+static __thread int first; /* the system call in which this thread stops, or 0 */
 static atomic_int holds, asks, is_stopped, may_go_on;
 static qolb_lock lock;
 static qolb_cond cond;
 
-/* The first thread stops behind the first sleeper that it wakes. */
+/* The first thread stops after it has woken the first sleeper. */
 long __wrap_syscall(long number, ...) {
     long word[6];
     va_list rest;

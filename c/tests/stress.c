@@ -1,10 +1,11 @@
-/* Two hundred threads at one lock for some time: each enters, waits at most some time, tries, enters by a task, and
- * waits at a condition, in a random order. No addition may be lost, no two threads be in at once, and each thread has
- * to go on.
+/* Tests one lock with 200 threads. Each of them enters, enters with a timeout, tries, enters by a task, and waits at a
+ * condition, in a random order. No addition may be lost, no two threads may hold the lock at once, and each thread must
+ * make progress.
  *
- *   build/stress SECONDS BARGING_LIMIT [SEED]     a thread that has no turn in ten times as long ends the program
+ *   build/stress SECONDS BARGING_LIMIT [SEED]
  *
- * Prints the turns of all, and the least and the most of one thread. */
+ * The program ends with an error if a thread is not granted the lock within ten times SECONDS. It prints the number of
+ * acquisitions of all threads, and the least and the most of one thread. */
 #define _GNU_SOURCE
 #include <qolb.h>
 
@@ -34,7 +35,7 @@ static void turn(struct worker *me) {
     me->turns++;
 }
 
-/* Whether it is in. */
+/* Enters in this way, and returns whether the thread holds the lock. */
 static int enters(struct worker *me, unsigned way) {
     uint32_t got = way < 10   ? qolb_lock_enter(&lock)
                    : way < 14 ? qolb_lock_enter_within(&lock, drawn(&me->seed) % (20 * MS))
@@ -45,7 +46,7 @@ static int enters(struct worker *me, unsigned way) {
     return 0;
 }
 
-/* A turn more after a signal, or after some time without one. */
+/* Waits at the condition for a signal, or for some time. */
 static void waits(struct worker *me) {
     uint32_t got = qolb_cond_wait_within(&cond, &lock, drawn(&me->seed) % MS);
     MUST(got == QOLB_GRANTED || got == QOLB_TIMEDOUT, 1);
@@ -54,7 +55,7 @@ static void waits(struct worker *me) {
 
 static void is_due(void *worker) { atomic_store(&((struct worker *)worker)->due, 1); }
 
-/* Polls when it is due, or once before, and gives up after some time. */
+/* Enters by a task, polls when it is notified or once before, and gives up after some time. */
 static void by_task(struct worker *me) {
     int naps = (int)(drawn(&me->seed) % 32);
     atomic_store(&me->due, 0);

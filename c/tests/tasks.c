@@ -1,4 +1,5 @@
-/* What each call of a task at a lock answers and does, by one thread, and beside threads. Prints only errors. */
+/* Tests what each call of a task at a lock returns and does, with one thread and beside other threads. Prints only
+ * errors. */
 #define _GNU_SOURCE
 #include <lock/lock.h>
 #include <qolb.h>
@@ -17,7 +18,7 @@ static void *last;
 
 static void count(void *arg) { calls++, last = arg; }
 
-/* A lock with these barging, which nobody has. */
+/* Begins with a lock of this barging limit, which nobody holds. */
 static void begin(uint64_t barging) {
     lock = (qolb_lock)QOLB_LOCK_INIT_BARGING(barging);
     memset(task, 0, sizeof task);
@@ -67,8 +68,8 @@ static int refuses(uint64_t barging) {
     return 0;
 }
 
-/* Tasks in the order in which they came; one gives up in the middle, one at the front, and one at its
- * turn. */
+/* Tasks are served in the order in which they asked. One gives up in the middle, one at the front, and one at its turn.
+ */
 static int in_order(uint64_t barging) {
     begin(barging);
     WANT(enters(0), QOLB_GRANTED);
@@ -87,14 +88,14 @@ static int in_order(uint64_t barging) {
     WANT(qolb_task_leave(&task[5]), QOLB_DONE);
     if (is_called(4, 4)) return 1;
     WANT(qolb_task_leave(&task[4]), QOLB_DONE);
-    /* Nobody waits: a thread enters as before. */
+    /* Nobody waits, so a thread enters as before. */
     WANT(qolb_lock_enter(&lock), QOLB_GRANTED);
     WANT(qolb_lock_leave(&lock), QOLB_DONE);
     WANT(qolb_lock_destroy(&lock), QOLB_DONE);
     return 0;
 }
 
-/* A task and a thread in turn, of one thread. */
+/* A task and the thread itself acquire the lock alternately, in one thread. */
 static int in_turn(uint64_t barging) {
     begin(barging);
     for (int k = 0; k < 100; k++) {
@@ -128,8 +129,8 @@ static int shuts(uint64_t barging, int by_task) {
     return 0;
 }
 
-/* Once a shut has returned no task waits for those before it, to be told: one that asks, one that gives up, and a
- * thread. */
+/* Once a shut has returned, no later call waits until those before it have been told: not a task that enters, not one
+ * that gives up, and not a thread. */
 static int shut_is_seen_at_once(uint64_t barging, int by_task) {
     begin(barging);
     if (by_task) WANT(enters(0), QOLB_GRANTED);
@@ -145,8 +146,8 @@ static int shut_is_seen_at_once(uint64_t barging, int by_task) {
     return 0;
 }
 
-/* A task that is told CLOSED as it gives up sees what who shut the lock wrote. */
-static int written; /* the thread sanitizer knows of no other order than that by the lock */
+/* A task that is told CLOSED when it gives up sees what the thread that shut the lock wrote. */
+static int written; /* only the lock orders it for the thread sanitizer */
 static int held_by_other, others_wait;
 
 static void *writes_and_shuts(void *unused) {
@@ -190,7 +191,7 @@ static int tells_this_descriptor(uint64_t barging, int fd) {
     return 0;
 }
 
-/* Any that is not negative: 0, too. */
+/* A notification adds to any descriptor that is not negative, also to 0. */
 static int tells_a_descriptor(uint64_t barging) {
     int input = dup(0), fd = eventfd(0, EFD_NONBLOCK), at_zero = fd ? dup2(fd, 0) : 0;
     WANT(at_zero, 0);
@@ -201,7 +202,7 @@ static int tells_a_descriptor(uint64_t barging) {
     return 0;
 }
 
-/* A thread is not cancelled in a call, and may be afterwards as before. */
+/* A thread is not cancelled in a callback, and can be cancelled afterwards as before. */
 static void is_not_cancelled(void *unused) {
     int was;
     count(unused);
@@ -224,7 +225,7 @@ static int may_be_cancelled(uint64_t barging, int state) {
     return 0;
 }
 
-/* ---- Calls that have turns ---- */
+/* ---- Callbacks that acquire and release ---- */
 
 struct chain {
     qolb_task *task;
@@ -245,7 +246,7 @@ static void go_on(void *arg) {
     depth--;
 }
 
-/* One leave begins all turns of five tasks. */
+/* One leave starts all acquisitions of five tasks. */
 static int nests_no_call(uint64_t barging) {
     static struct chain it[MANY];
     begin(barging);
@@ -268,7 +269,7 @@ static void close_it(void *arg) {
     MUST(qolb_lock_destroy(&lock), QOLB_DONE);
 }
 
-/* The call of the last task closes the lock, inside the leave of the holder before it. */
+/* The callback of the last task destroys the lock, inside the leave of the holder before it. */
 static int closes_in_a_call(uint64_t barging) {
     begin(barging);
     WANT(qolb_lock_enter(&lock), QOLB_GRANTED);
@@ -295,7 +296,7 @@ static void *thread_enters(void *seed) {
     return seed;
 }
 
-/* One thread goes on with three tasks, whichever is ready. */
+/* One thread goes on with whichever of three tasks is ready. */
 static void *serves_tasks(void *first) {
     int left[3] = {EACH, EACH, EACH}, waits[3] = {0}, base = (int)(intptr_t)first;
     while (left[0] || left[1] || left[2])
@@ -325,7 +326,8 @@ static int beside_threads(uint64_t barging) {
     return 0;
 }
 
-/* A blocking enter keeps its place before a task that asks later, and the other way round. */
+/* A thread that waits keeps its place before a task that asks later, and a task keeps its place before a later thread.
+ */
 static atomic_int number;
 
 static void *enters_once(void *turn) {
@@ -357,10 +359,10 @@ static int keeps_the_order(uint64_t barging) {
     return 0;
 }
 
-/* ---- Who gives up while its call is being made ---- */
+/* ---- A task that gives up while its callback is being called ---- */
 
-/* A task that holds a lock, and one that waits there; a thread in which the call of the second is made, and another by
- * which that gives up. */
+/* A task that holds a lock, and one that waits for it. One thread is in the callback of the second task, and another
+ * thread gives up for it. */
 static struct pair {
     pthread_t leaves, gives_up;
     qolb_lock lock;
@@ -412,7 +414,7 @@ static int ends(struct pair *it) {
     return 0;
 }
 
-/* A signal of the system ends the sleep, and not the wait. */
+/* A POSIX signal ends the sleep, but not the wait. */
 static void does_nothing(int signal) { (void)signal; }
 
 static int waits_on_when_interrupted(uint64_t barging) {
@@ -426,8 +428,8 @@ static int waits_on_when_interrupted(uint64_t barging) {
     return ends(&pairs[0]);
 }
 
-/* Two whose callbacks are in one list: the second of those that wait there goes on when its own call has ended, though
- * the first waits on. */
+/* Two tasks have their callbacks in one list, and a thread waits for each callback to end. The second thread goes on
+ * when the callback of its own task has ended, although the first waits on. */
 static int each_waits_for_its_call(uint64_t barging) {
     static qolb_task room[100 * TASK_ROWS];
     qolb_task *in_one_list[] = {&room[0], &room[1]};

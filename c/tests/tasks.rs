@@ -1,9 +1,9 @@
-//! Futures of a node's turn and of a `Mutex`, over a small executor: what each gives, who may have the guards, and 10,000 tasks over four threads that give up
-//! or are dropped at any time. Prints only errors.
+//! Tests futures of a node and of a `Mutex`, over a small executor: what each returns, which threads may have the guards, and 10,000 tasks on four threads that
+//! give up or are dropped at any time. Prints only errors.
 //!
 //!   build/tasks_rs [TASKS [ROUNDS [SEED [SECONDS]]]]
 //!
-//! Another seed follows while there is time.
+//! Until SECONDS have passed, the test is repeated with other seeds.
 
 #[path = "../rust/qolb.rs"]
 mod qolb;
@@ -37,7 +37,7 @@ impl Future for Yield {
     }
 }
 
-/// Polls at most this number of times, with a wake of its own between two, and then drops the future.
+/// Polls a future at most this number of times, wakes itself between two polls, and then drops the future.
 struct Within<F>(Option<F>, u32);
 
 impl<F: Future + Unpin> Future for Within<F> {
@@ -73,7 +73,7 @@ fn opens(kind: Kind, nodes: u64) -> Vec<Node> {
 
 fn is_send<T: Send>(_: &T) {}
 
-/// A task waits beside a thread that holds, and is told of a grant and of a closing.
+/// A task waits while a thread holds the line or the mutex. It is told of a grant, and of a shut.
 fn one_waits() {
     let mutex = Arc::new(Mutex::new(0u64));
     let lock = Arc::new(Mutex::with_barging(0u64, 64));
@@ -117,7 +117,7 @@ fn a_node_waits(kind: Kind) {
     assert!(matches!(other.join().unwrap(), None | Some(Stopped::Closed)));
 }
 
-/// A guard that is dropped by another thread, and a future that is dropped while it waits, in the middle of the queue.
+/// Another thread drops a guard, and a future is dropped while it waits in the middle of the queue.
 fn guards_go(barging: u16) {
     let mutex = Mutex::with_barging(0u64, barging);
     let mut guard = block_on(mutex.lock_async()).unwrap();
@@ -142,9 +142,9 @@ fn guards_go(barging: u16) {
 const CLONE: RawWaker = RawWaker::new(null(), &RawWakerVTable::new(|_| CLONE, |_| (), |_| (), |_| panic!("a waker's drop")));
 const PANICS: RawWaker = RawWaker::new(null(), &RawWakerVTable::new(|_| CLONE, |_| (), |_| (), |_| ()));
 
-/// A mutex that was granted in a poll which panics is free again.
+/// If a poll panics in which the mutex was granted, the mutex is free again.
 fn a_panic_leaves() {
-    // SAFETY: it has no data.
+    // SAFETY: the waker has no data.
     let waker = unsafe { Waker::from_raw(PANICS) };
     let mutex = Mutex::new(());
     let mut future = Box::pin(mutex.lock_async());
@@ -160,7 +160,7 @@ struct Counts {
     given_up: AtomicU64,
 }
 
-/// More futures than may have open requests: each has its turn, and none ends the program. Some are dropped.
+/// There are more futures than requests that may be open. Each is granted the mutex, and none ends the program. Some are dropped.
 fn more_than_may_be_open() {
     const MANY: usize = 16_384 + 1_000;
     let mutex = Mutex::new(0u64);
@@ -201,7 +201,7 @@ async fn by_mutex(mutex: Arc<Mutex<u64>>, lock: Arc<Mutex<u64>>, counts: Arc<Cou
     }
 }
 
-/// The guard may go to another thread meanwhile, or its task be dropped. Nothing is done between the addition and its count.
+/// Adds 1. The guard may go to another thread meanwhile, or its task may be dropped. Nothing happens between the addition and its count.
 async fn add<G: std::ops::DerefMut<Target = u64>>(guard: Option<Result<G, Stopped>>, yields: bool) -> bool {
     let Some(guard) = guard else { return false };
     let mut guard = guard.unwrap();
@@ -223,8 +223,8 @@ async fn by_node(mut node: Node, counts: Arc<Counts>, rounds: u32, mut random: R
     }
 }
 
-/// Drops some of the tasks, wherever they wait.
-/// A waker that is the last owner of a turn: when it is dropped, the turn ends.
+/// Drops some of the tasks, whatever they wait for.
+/// A waker that is the last owner of a guard: when the waker is dropped, the guard releases.
 struct Owner<T>(#[allow(dead_code)] std::sync::Mutex<T>);
 
 impl<T: Send> std::task::Wake for Owner<T> {
@@ -235,7 +235,8 @@ fn owner<T: Send + 'static>(turn: T) -> std::task::Waker {
     Arc::new(Owner(std::sync::Mutex::new(turn))).into()
 }
 
-/// A future that waits is polled by another waker, whose predecessor ends the turn that it waits for: its call is made within that poll.
+/// A future that waits is polled with another waker. Its old waker is dropped, which releases what the future waits for, so its notification is made within
+/// this poll.
 fn wakers_own_turns() {
     static LOCK: Mutex<u64> = Mutex::new(0);
     let other = owner(());

@@ -1,5 +1,5 @@
-// What Clang's -Wthread-safety knows of the locks: it takes this file as it is, and warns of each of five faults, which
-// -DFAULT=1 to 5 compiles in.
+// Tests what Clang's -Wthread-safety knows of the locks. It has no warning for this file as it is, and warns of each of
+// five faults, which -DFAULT=1 to 5 compiles in.
 #include <qolb.hpp>
 #include <mutex>
 
@@ -38,7 +38,7 @@ class Count {
     long value_ __attribute__((guarded_by(lock_))) = 0;
 };
 
-// By a node of a line, what the line guards besides its own bytes.
+// Data that a line protects besides its own bytes, which are used with a node.
 class Line {
   public:
     explicit Line(qolb::Node node) : node_(std::move(node)) {}

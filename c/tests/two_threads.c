@@ -1,5 +1,5 @@
-/* Two threads add to one lane of a line of each kind; then every mistake is made that the library must answer, and a
- * line of each number of nodes is opened; and a node is freed that has closed its line. Prints only errors. */
+/* Tests lines of each kind. Two threads add to one lane. Then the test makes every mistake that the library must
+ * refuse, opens a line of each number of nodes, and frees a node that has closed its line. Prints only errors. */
 #define _POSIX_C_SOURCE 200809L
 #include "want.h"
 #include <pthread.h>
@@ -10,13 +10,13 @@
 
 enum { THREADS = 2, ROUNDS = 20000 };
 
-/* A thread's own node, apart from others, so that the threads share no cache line but the line's. */
+/* A thread and its node, apart from others, so that the threads share only the cache lines of the line. */
 struct adder {
     _Alignas(QOLB_NODE_ALIGN) qolb_node node;
 };
 
-/* A thread adds 1 to lane 3: a third of its rounds by one call, a third by lanes, and a third by whole lines. The node
- * is the thread's alone. */
+/* Adds 1 to lane 3: in a third of the rounds by one call, in a third by lanes, and in a third by whole lines. No other
+ * thread uses the node. */
 static void *add(void *argument) {
     qolb_node *node = &((struct adder *)argument)->node;
     for (int round = 0; round < ROUNDS; round++) {
@@ -92,8 +92,8 @@ static int refusals(void) {
     return 0;
 }
 
-/* With enough memory, a line of each number of nodes opens, with short leases and long ones, with large labels up to
- * the largest, and with more handles than it needs; a line of 200 with each of the leases. */
+/* Opens a line of each number of nodes, with short and long leases, with labels up to the largest, and with more
+ * handles than it needs. A line of 200 nodes is opened with each of the leases. */
 static int opens(uint32_t kind) {
     static const uint64_t leases[] = {
         1, UINT32_MAX, (uint64_t)UINT32_MAX + 1, (uint64_t)1 << 63, UINT64_MAX - 1, QOLB_NO_LEASE};
@@ -194,7 +194,7 @@ static int misuse(uint32_t kind) {
     return 0;
 }
 
-/* A node that has made a request and not linked it; and a lease of two turns. */
+/* Tests a node that has made a request and not linked it, and a lease of two acquisitions. */
 static int halves(void) {
     qolb_bytes zeros = {{0}};
     qolb_node n[2] = {{0}}, other = {0};
@@ -214,13 +214,14 @@ static int halves(void) {
     WANT(qolb_deqolb(&n[0]), QOLB_DONE);
     WANT(qolb_state(&n[0]), QOLB_STATE_LEFT);
     WANT(qolb_link(&n[1]), QOLB_GRANTED);
-    WANT(qolb_deqolb(&n[1]), QOLB_DONE); /* the last turn of the lease */
+    WANT(qolb_deqolb(&n[1]), QOLB_DONE); /* the last acquisition of the lease */
     WANT(qolb_enqolb(&n[0]), QOLB_CLOSED);
     for (int k = 0; k < 2; k++) WANT(qolb_node_free(&n[k]), QOLB_DONE);
     return 0;
 }
 
-/* A node that has closed the line is freed while another waits: it leaves no request behind, so a later one is told. */
+/* A node that has closed the line is freed while another node waits. It leaves no request behind, so the other node is
+ * told. */
 static int frees_after_shut(uint32_t kind) {
     enum { NODES = 3 };
     qolb_bytes zeros = {{0}};
@@ -237,7 +238,7 @@ static int frees_after_shut(uint32_t kind) {
 }
 
 int main(void) {
-    alarm(300); /* where a turn is lost, who waits for it does not end */
+    alarm(300); /* if a grant is lost, the thread that waits for it does not end */
     for (uint32_t kind = 0; kind < QOLB_KINDS; kind++)
         if (count(kind) || misuse(kind) || opens(kind) || frees_after_shut(kind)) return 1;
     return refusals() || empty_handle() || halves();

@@ -1,5 +1,5 @@
-// Two threads move a token to and fro between two counts of one line, and a third node sees their sum. Prints only
-// errors.
+// Tests nodes in C++: two threads move a token to and fro between two counts of one line, and a third node sees their
+// sum. Prints only errors.
 #include <qolb.hpp>
 
 #include <chrono>
@@ -25,7 +25,7 @@ void move_one(qolb::Node &node, std::uint64_t from, std::uint64_t to) {
 
 bool run(qolb_kind kind) {
     qolb_bytes opening{};
-    opening.byte[2] = 1; // 65,536 in lane 0, and in lane 1
+    opening.byte[2] = 1; // 65,536 in lane 0, and the same in lane 1
     opening.byte[10] = 1;
     auto [opened, nodes] = qolb::Node::open(kind, 1, 3, opening);
     if (opened != QOLB_DONE || nodes.size() != 3) return false;
@@ -36,13 +36,13 @@ bool run(qolb_kind kind) {
     std::uint64_t lanes[2] = {};
     qolb::Got got = nodes[2].with([&](qolb_bytes &bytes) { std::memcpy(lanes, bytes.byte, sizeof lanes); });
     if (got != qolb::Got::granted || lanes[0] != 65536 || lanes[1] != 65536) return false;
-    // A moved-from node is empty, and a node that holds releases at the end of its scope.
+    // A node that was moved from is empty, and a node that holds the line releases it at the end of its scope.
     if (nodes[0].state() != QOLB_STATE_EMPTY || nodes[0].enqolb() != QOLB_MISUSE) return false;
     return nodes[2].acquire() == qolb::Got::granted && nodes[2].shut() == QOLB_DONE &&
            nodes[2].acquire() == qolb::Got::closed;
 }
 
-// Returns whether the work throws this.
+// Returns whether the work throws a `Thrown`.
 template <class Thrown, class Work> bool throws(Work work) {
     try {
         work();
@@ -52,7 +52,7 @@ template <class Thrown, class Work> bool throws(Work work) {
     return false;
 }
 
-// A holder whose work throws releases the line, and the unwritten bytes are unchanged; the written ones stay.
+// A holder whose work throws releases the line. Bytes that it has written stay, and other bytes are unchanged.
 bool work_throws(qolb_kind kind) {
     auto opened = qolb::Node::open(kind, 1, 2, qolb_bytes{});
     auto &nodes = opened.second;
@@ -73,7 +73,7 @@ bool work_throws(qolb_kind kind) {
     return turn.lane(0) == 0 && turn.lane(1) == 5;
 }
 
-// A node is a timed lock as the standard library means it, and reports what it can't do.
+// A node is a timed lock as the standard library defines it, and throws if it cannot do what is asked.
 bool is_lock(qolb_kind kind) {
     using namespace std::chrono_literals;
     auto opened = qolb::Node::open(kind, 9, 2, qolb_bytes{}, 4);
@@ -99,7 +99,7 @@ bool is_lock(qolb_kind kind) {
         if (!lock) return false;
     }
     { std::lock_guard<qolb::Node> lock(b); }
-    // The guard ends before its scope, and closes the line at the last turn of its lease.
+    // The guard is released before the end of its scope, which closes the line, because its lease has ended.
     qolb::Guard last(a);
     last.release();
     if (!throws<qolb::Misuse>([&] { (void)last.lane(0); }) || !throws<qolb::Misuse>([&] { last.release(); }))
@@ -112,7 +112,7 @@ bool is_lock(qolb_kind kind) {
            a.state() == QOLB_STATE_SHUT;
 }
 
-// A holder that is assigned to releases its line.
+// A node that is assigned to releases the line that it holds.
 bool is_assigned(qolb_kind kind) {
     using namespace std::chrono_literals;
     auto opened = qolb::Node::open(kind, 1, 2, qolb_bytes{});
@@ -122,8 +122,8 @@ bool is_assigned(qolb_kind kind) {
     return b.acquire_for(1min) == qolb::Got::granted;
 }
 
-// All bytes as `with` leaves them are written; a guard writes only the bytes of its mask; and a guard that shuts closes
-// the line.
+// `with` writes all bytes as it leaves them. A guard writes only the bytes of its mask. A guard that shuts closes the
+// line.
 bool is_written(qolb_kind kind) {
     auto opened = qolb::Node::open(kind, 1, 2, qolb_bytes{});
     auto &a = opened.second[0], &b = opened.second[1];
@@ -134,7 +134,7 @@ bool is_written(qolb_kind kind) {
         if (turn.lane(k) != 0xa5a5a5a5a5a5a5a5) return false;
     turn.write(2, qolb_bytes{});
     if (turn.lane(0) != 0xa5a5a5a5a5a500a5 || turn.lane(1) != 0xa5a5a5a5a5a5a5a5) return false;
-    // A guard that was moved away is over, and the other has its turn.
+    // A guard that was moved from has nothing, and the other one holds the line.
     qolb::Guard moved(std::move(turn));
     if (!throws<qolb::Misuse>([&] { (void)turn.lane(0); }) || moved.lane(7) != 0xa5a5a5a5a5a5a5a5) return false;
     moved.shut();
@@ -142,8 +142,8 @@ bool is_written(qolb_kind kind) {
     return b.state() == QOLB_STATE_SHUT && a.try_acquire() == qolb::Got::closed;
 }
 
-// A node that is destroyed while it waits is withdrawn, also if it has not linked yet, and a node that was granted the
-// line meanwhile releases.
+// A node that is destroyed while it waits is withdrawn, also if it has not linked itself yet. A node that was granted
+// the line meanwhile releases it.
 bool waiter_is_destroyed(qolb_kind kind) {
     auto opened = qolb::Node::open(kind, 1, 4, qolb_bytes{});
     auto &nodes = opened.second;
@@ -153,11 +153,11 @@ bool waiter_is_destroyed(qolb_kind kind) {
     nodes[1] = qolb::Node();
     if (nodes[0].deqolb() != QOLB_DONE || nodes[3].try_acquire() != qolb::Got::granted) return false;
     if (nodes[0].enqolb() != QOLB_QUEUED || nodes[3].deqolb() != QOLB_DONE) return false;
-    nodes[0] = qolb::Node(); // its turn has come, and it has not looked
+    nodes[0] = qolb::Node(); // its turn has come, but it has not polled
     return nodes[3].try_acquire() == qolb::Got::granted;
 }
 
-// A time below zero is no time, and the longest is as long as it takes: while the node is busy, and while it waits.
+// A negative timeout is 0, and the longest is none, while the node is busy and while it waits.
 bool times_are_taken(qolb_kind kind) {
     using namespace std::chrono_literals;
     auto opened = qolb::Node::open(kind, 1, 2, qolb_bytes{});
@@ -182,7 +182,7 @@ bool times_are_taken(qolb_kind kind) {
 } // namespace
 
 int main() {
-    alarm(300); // where a turn is lost, who waits for it does not end
+    alarm(300); // if a grant is lost, the thread that waits for it does not end
     auto [refused, none] = qolb::Node::open(QOLB_RING, 1, 201, qolb_bytes{});
     if (refused != QOLB_BAD_NODES || !none.empty()) return std::puts("201 nodes were opened"), 1;
     for (std::uint32_t number = 0; number < QOLB_KINDS; number++) {

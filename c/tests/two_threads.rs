@@ -1,4 +1,4 @@
-//! Two threads add to one lane of a line, and a third node reads the sum. Prints only errors.
+//! Tests nodes in Rust: two threads add to one lane of a line, and a third node reads the sum. Prints only errors.
 #[path = "../rust/qolb.rs"]
 mod qolb;
 
@@ -40,7 +40,8 @@ fn count(kind: Kind) {
     }
 }
 
-/// Takes a turn in one of three ways. A node that gives up has no turn, also if the grant was at that moment: else the line would stay with it.
+/// Acquires the line in one of three ways. A node that gives up does not hold the line, also if it was granted at that moment: otherwise the line would stay
+/// with it.
 fn take(node: &mut Node, round: u64) {
     loop {
         let got = match round % 3 {
@@ -70,7 +71,7 @@ fn races(kind: Kind) {
     }
 }
 
-/// A holder that panics releases the line: its writes stay, nothing is poisoned, and the next holder is granted the line.
+/// A holder that panics releases the line. Its writes stay, nothing is poisoned, and the next holder is granted the line.
 fn panics_while_holding(kind: Kind) {
     let mut nodes = qolb::open(kind, 1, 3, None, &Bytes([0; 64])).unwrap();
     let mut first = nodes.remove(0);
@@ -91,7 +92,7 @@ fn panics_while_holding(kind: Kind) {
     assert_eq!(turn.turns_left(), None);
 }
 
-/// Guards that wait for a while or not at all, and the answers of closing a node.
+/// Tests guards that wait for a while or not at all, and what freeing a node returns.
 fn guards(kind: Kind) {
     let mut nodes = qolb::open(kind, 9, 2, None, &Bytes([7; 64])).unwrap();
     let mut b = nodes.pop().unwrap();
@@ -109,7 +110,7 @@ fn guards(kind: Kind) {
     assert_eq!(b.try_lock_for(Duration::from_secs(3600)).unwrap().unwrap().lane(0), 0x0707_0707_0707_0701);
     assert_eq!(b.acquire(), Answer::Granted);
     assert_eq!(b.lock().err(), Some(Stopped::Misuse));
-    // A node that holds is not closed.
+    // A node that holds the line is not freed.
     let Err(mut b) = b.free() else { panic!("a holder was closed") };
     assert_eq!(b.deqolb(), Answer::Done);
     assert!(b.free().is_ok());
@@ -118,7 +119,7 @@ fn guards(kind: Kind) {
     assert_eq!(a.try_acquire(), Answer::Closed);
 }
 
-/// A node that is dropped while it waits is withdrawn, also if it has not linked yet, and a node that was granted the line meanwhile releases.
+/// A node that is dropped while it waits is withdrawn, also if it has not linked itself yet. A node that was granted the line meanwhile releases it.
 fn waiter_is_dropped(kind: Kind) {
     let mut nodes = qolb::open(kind, 1, 4, None, &Bytes([0; 64])).unwrap();
     let mut last = nodes.pop().unwrap();
@@ -138,7 +139,7 @@ fn waiter_is_dropped(kind: Kind) {
     assert_eq!(last.try_acquire(), Answer::Granted);
     assert_eq!(first.enqolb(), Answer::Queued);
     assert_eq!(last.deqolb(), Answer::Done);
-    drop(first); // its turn has come, and it has not looked
+    drop(first); // its turn has come, but it has not polled
     assert_eq!(last.try_acquire(), Answer::Granted);
 }
 
@@ -147,7 +148,7 @@ unsafe extern "C" {
 }
 
 fn main() {
-    alarm(300); // where a turn is lost, who waits for it does not end
+    alarm(300); // if a grant is lost, the thread that waits for it does not end
     assert_eq!(qolb::open(Kind::Ring, 1, 0, None, &Bytes([0; 64])).err(), Some(Answer::BadNodes));
     assert_eq!(qolb::open(Kind::Link, 1, 2, Some(0), &Bytes([0; 64])).err(), Some(Answer::BadLease));
     for kind in Kind::ALL {

@@ -1,4 +1,4 @@
-// Both headers as header units, beside included headers of the standard library. It is only compiled.
+// Tests both headers as header units, beside headers of the standard library that are included. It is only compiled.
 import <qolb.h>;
 import <qolb.hpp>;
 #include <chrono>

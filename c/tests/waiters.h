@@ -1,4 +1,4 @@
-/* For tests of threads that wait: checks, the time, and whether a thread sleeps. */
+/* For tests of threads that wait: checks, the time, and waiting until a thread sleeps. */
 #ifndef WAITERS_H
 #define WAITERS_H
 
@@ -21,7 +21,7 @@ static inline double seconds(clockid_t clock) {
     return (double)time.tv_sec + (double)time.tv_nsec / 1e9;
 }
 
-/* The calling thread's use: seconds of a processor, and how often it yielded it to sleep. */
+/* What the calling thread has used: seconds of processor time, and how often it gave the processor up to sleep. */
 struct used {
     double processor;
     long sleeps;
@@ -35,10 +35,10 @@ static inline struct used used(void) {
                          it.ru_nvcsw};
 }
 
-/* A thread reports its number right before it waits, and so it sleeps nowhere else. */
+/* Reports the number of a thread right before it waits, so that it sleeps nowhere else afterwards. */
 static inline void about_to_wait(atomic_int *number) { atomic_store(number, gettid()); }
 
-/* Waits until the thread that reports this number sleeps, or has ended: then it has made its request. */
+/* Waits until the thread that reports this number sleeps or has ended. By then it has made its request. */
 static inline void until_asleep(atomic_int *number) {
     char name[64], state = 'R';
     while (atomic_load(number) == 0) sched_yield();

@@ -1,9 +1,9 @@
-/* Threads that wait with nodes sleep, and each call that releases their line wakes them: releases, closings, and calls
- * that are told of one; few threads and many, with withdrawals and time limits.
+/* Tests that threads which wait with nodes sleep, and that each call which releases their line wakes them: releases,
+ * shuts, and calls that are told of a shut. There are few and many threads, with withdrawals and timeouts.
  *
- *   build/waits [SECONDS]     1200: where a turn is lost, who waits for it does not end; the program ends then
+ *   build/waits [SECONDS]     1200: the program is ended then, because a thread whose grant is lost waits for ever
  *
- * Prints only errors. The thread sanitizer sees the data, and must be quiet. */
+ * Prints only errors. The thread sanitizer observes the data, and must report nothing. */
 #define _GNU_SOURCE
 #include <qolb.h>
 #include <string.h>
@@ -56,9 +56,9 @@ static void start(struct waiter *it, qolb_node *node, int how) {
     MUST(pthread_create(&it->id, NULL, waits, it), 0);
 }
 
-/* A second's wait takes no processor: it sleeps once, while it would poll 5,000 times if it polled every 200 us. A busy
- * node does that, and takes little. After the release each is granted the line soon, and only the one whose second is
- * over is late. */
+/* A wait of a second takes no processor time: the thread sleeps once. It would poll 5,000 times if it polled every 200
+ * us, as a busy node does, which takes little time. After the release each thread is granted the line soon, and only
+ * the one with a timeout of a second has timed out. */
 static int takes_no_processor(uint32_t kind) {
     static const int hows[] = {AS_LONG_AS_IT_TAKES, A_MINUTE, A_SECOND, AS_LONG_AS_IT_TAKES, A_MINUTE};
     enum { WAITERS = 5, BUSY = 3 };
@@ -72,7 +72,7 @@ static int takes_no_processor(uint32_t kind) {
         start(&waiters[k], &n[k], hows[k]);
         while (!atomic_load(&waiters[k].number)) sched_yield();
     }
-    start(&waiters[2], &n[2], A_SECOND); /* the last, so that all wait longer */
+    start(&waiters[2], &n[2], A_SECOND); /* it starts last, so that all others wait longer */
     pthread_join(waiters[2].id, NULL);
     usleep(100000);
     double released = seconds(CLOCK_MONOTONIC);
@@ -82,7 +82,7 @@ static int takes_no_processor(uint32_t kind) {
         if (!is_late) pthread_join(waiters[k].id, NULL);
         WANT(waiters[k].got, is_late ? QOLB_TIMEDOUT : QOLB_GRANTED);
         WANT(waiters[k].lasted >= 1, 1);
-        /* Others may have the processors meanwhile. */
+        /* Other programs may have the processors meanwhile. */
         WANT((is_late ? waiters[k].lasted - 1 : waiters[k].ended - released) < 5, 1);
         WANT(waiters[k].used.processor < (k < BUSY ? 0.1 : 0.5), 1);
         if (k < BUSY) WANT(waiters[k].used.sleeps < 100, 1);
@@ -100,13 +100,13 @@ static void *has_a_long_turn(void *argument) {
     struct used before = used();
     me->got = qolb_acquire(&me->node);
     me->used.sleeps = used().sleeps - before.sleeps;
-    usleep(20000); /* in which those that were woken sleep again */
+    usleep(20000); /* meanwhile those that were woken sleep again */
     MUST(qolb_deqolb(&me->node), QOLB_DONE);
     return NULL;
 }
 
-/* So each sleeps at most twice, and perhaps once more if the system delays it. If each release woke all, the last would
- * sleep twelve times. */
+/* Each thread sleeps at most twice, and perhaps once more if the system delays it. If each release woke all threads,
+ * the last would sleep twelve times. */
 static int others_sleep_on(uint32_t kind) {
     enum { WAITERS = 12, MOST_SLEEPS = 8 };
     static struct waiter waiters[WAITERS];
@@ -135,7 +135,7 @@ static uint32_t waits_once(qolb_node *node) { return qolb_spin(node, 1); }
 static uint32_t tries(qolb_node *node) { return qolb_try(node); }
 static uint32_t acquires_on(qolb_node *node) { return qolb_acquire(node); }
 
-/* By qolb_deqolb and qolb_shut; by the last turn of a lease. */
+/* The line is released by qolb_deqolb, by qolb_shut, or by the last acquisition of a lease. */
 static int released_by(uint32_t kind, uint32_t (*call)(qolb_node *node), uint64_t lease, uint32_t told) {
     static struct waiter waiters[3];
     qolb_node n[4];
@@ -155,8 +155,8 @@ static int released_by(uint32_t kind, uint32_t (*call)(qolb_node *node), uint64_
     return 0;
 }
 
-/* By a node that is told that the line is closed: it is between the holder and a sleeper, and polls, withdraws or links
- * after the closing. */
+/* The line is passed on by a node that is told that it is closed. This node is between the holder and a sleeper, and
+ * polls, withdraws or links after the shut. */
 static int passed_on_by(uint32_t kind, uint32_t (*call)(qolb_node *node), int links) {
     static struct waiter waiter;
     qolb_node n[3];
@@ -193,7 +193,8 @@ static struct {
     long turns, tries, granted, late;
 } race;
 
-/* Asleep, so that the other has a processor, or awake, so that the end is as near to the time as can be. */
+/* Holds the line for a time: asleep, so that the other thread has a processor, or awake, so that it ends as exactly as
+ * possible. */
 static void holds_for(uint32_t draw) {
     double until = seconds(CLOCK_MONOTONIC) + (5 + draw % 120) / 1e6;
     if (draw / 128 % 2) usleep(draw % 120);
@@ -203,7 +204,7 @@ static void holds_for(uint32_t draw) {
 static void *races(void *argument) {
     qolb_node *node = argument;
     uint32_t seed = 1;
-    /* Where others have the processors one of the two may not run at first. */
+    /* If other programs have the processors, one of the two threads may not run at first. */
     for (; race.tries < RACES || !race.granted || !race.late; race.tries++) {
         uint32_t got = qolb_acquire_within(node, 5 * US + drawn(&seed) % (200 * US));
         if (got == QOLB_TIMEDOUT) {
@@ -221,8 +222,8 @@ static void *races(void *argument) {
     return NULL;
 }
 
-/* The thread's time is over about when the line is released. It has the line or it has not: then it is passed, and the
- * line is handed on. */
+/* The timeout of a thread expires at about the time when the line is released. Either the thread has the line, or a
+ * release passes its request and hands the line over. */
 static int time_out_races_with_grant(uint32_t kind) {
     qolb_node n[2];
     pthread_t id;
@@ -271,12 +272,12 @@ static void has_a_turn(struct worker *me, uint32_t draw) {
     MUST(shared.inside++, 0);
     shared.turns++;
     memset(shared.last, 'a' + me->self % 26, sizeof shared.last);
-    if (draw % 8 == 0) usleep(draw / 8 % 64); /* so that others sleep meanwhile */
+    if (draw % 8 == 0) usleep(draw / 8 % 64); /* so that other threads sleep meanwhile */
     MUST(shared.inside--, 1);
     me->had++;
 }
 
-/* Makes a request in two calls, of a link line, and polls until it has its turn, without sleeping. */
+/* Makes a request for a link line in two calls, and polls until it is granted, without sleeping. */
 static uint32_t asks_and_looks(struct worker *me) {
     uint32_t got = me->kind == QOLB_LINK ? qolb_prepend(&me->node) : qolb_enqolb(&me->node);
     if (got == QOLB_LINKING) got = qolb_link(&me->node);

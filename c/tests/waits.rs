@@ -1,5 +1,5 @@
-//! Lines that Rust and C share: a waiter of one sleeps, and is woken by a release of the other. The calls in C are those of waits_in_c.c. Prints only
-//! errors.
+//! Tests lines that Rust and C code share: a waiter in one language sleeps, and a release in the other wakes it. The calls in C are those of waits_in_c.c.
+//! Prints only errors.
 #[path = "../rust/qolb.rs"]
 mod qolb;
 
@@ -28,7 +28,7 @@ unsafe extern "C" {
     safe fn alarm(seconds: u32) -> u32;
 }
 
-/// The node as C has it: only its handle.
+/// Returns the node as C knows it, which is only its handle.
 fn handle(node: &mut Node) -> *mut c_void {
     const { assert!(size_of::<Node>() == size_of::<*mut c_void>()) };
     (&raw mut *node).cast()
@@ -40,7 +40,7 @@ fn two_nodes(kind: Kind) -> (Node, Node) {
     (nodes.pop().unwrap(), second)
 }
 
-/// Waits in C, with a limit or without, and releases there.
+/// Waits in C, with or without a timeout, and releases there.
 fn waits_in_c(mut node: Node, limited: bool) -> u32 {
     let c = calls_in_c();
     let got = if limited { (c.acquire_within)(handle(&mut node), 60_000_000_000) } else { (c.acquire)(handle(&mut node)) };
@@ -54,7 +54,7 @@ fn c_is_woken(kind: Kind, limited: bool, lets_go: fn(Node), wanted: u32) {
     let (mut first, second) = two_nodes(kind);
     assert_eq!(first.acquire(), Answer::Granted);
     let waiter = thread::spawn(move || waits_in_c(second, limited));
-    thread::sleep(5 * MS); // so it sleeps, most of the time
+    thread::sleep(5 * MS); // so that it sleeps in most runs
     let since = Instant::now();
     lets_go(first);
     assert_eq!(waiter.join().unwrap(), wanted);
@@ -107,7 +107,7 @@ fn both_use_one(kind: Kind) {
 }
 
 fn main() {
-    alarm(300); // who is not woken does not end
+    alarm(300); // a thread that is not woken does not end
     for kind in Kind::ALL {
         for limited in [false, true] {
             c_is_woken(kind, limited, |mut node| assert_eq!(node.deqolb(), Answer::Done), GRANTED);

@@ -1,4 +1,4 @@
-/* C that waits and releases with the nodes of a program in Rust (waits.rs). */
+/* C code that waits and releases with the nodes of a program in Rust (waits.rs). */
 #include <qolb.h>
 
 struct calls {

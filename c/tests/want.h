@@ -1,4 +1,4 @@
-/* For tests in C: a call must give what is wanted. */
+/* For tests in C: checks that a call returns what is wanted. */
 #ifndef WANT_H
 #define WANT_H
 
@@ -14,15 +14,15 @@
         }                                                             \
     } while (0)
 
-/* For a bound on time or on a number of sleeps, which a busy machine may pass: the gate leaves these out
- * (-DANY_MACHINE). */
+/* Checks a bound on a time or on a number of sleeps, which may be exceeded on a busy machine. The gate leaves these
+ * checks out (-DANY_MACHINE). */
 #ifdef ANY_MACHINE
 #define WANT_UNLESS_BUSY(condition) ((void)(condition))
 #else
 #define WANT_UNLESS_BUSY(condition) WANT(condition, 1)
 #endif
 
-/* For a thread that cannot return an error. */
+/* Checks a call in a thread that cannot return an error. */
 #define MUST(call, wanted)                                            \
     do {                                                              \
         unsigned long long got_ = (unsigned long long)(call);         \

@@ -1,6 +1,6 @@
 /* A stand-in in C for the proved lock: it answers as the calls of c/src/core.h do, which crates/qolb_locks exports, by
- * the same atomic steps on the same words. Nothing of it is in the library: ../explore_lock.py explores the lock's C over
- * it, and c/tests/core_calls.c compares the two.
+ * the same atomic steps on the same words. Nothing of it is in the library: ../explore_lock.py explores the lock's C
+ * over it, and c/tests/core_calls.c compares the two.
  *
  * Words of 8 bytes: 0 the lock word, 16 the tail, 17 to 20 the cells; the others are never written. A cell: sixteen
  * bits of withdrawn tickets, from bit 16 the count of sleepers, from bit 34 the granted rounds modulo 2^30. The lock

@@ -1,4 +1,4 @@
-/* Abseil's mutex, without its detector of deadlocks, which is on in Debian's build and off in an optimised one. */
+/* The mutex of Abseil, without its deadlock detector, which is on in Debian's build and off in an optimised build. */
 #include "lock.h"
 #include <absl/synchronization/mutex.h>
 #include <new>

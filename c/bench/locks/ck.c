@@ -1,5 +1,5 @@
-/* Concurrency Kit's queue locks and ticket locks, as they are; with -DYIELDS their waiters pause 256 times and then
- * yield, since with more threads than processors those that only spin hardly make progress. */
+/* The queue locks and ticket locks of Concurrency Kit, unchanged. With -DYIELDS their waiters pause 256 times and then
+ * yield. With more threads than processors, waiters that only spin make hardly any progress. */
 #include "lock.h"
 #include <ck_pr.h>
 #include <sched.h>
@@ -23,10 +23,10 @@ static inline void pause_or_yield(void) {
 #endif
 #include <ck_spinlock.h>
 
-/* The shift with which Concurrency Kit's own benchmark has the lock back off. */
+/* The shift that Concurrency Kit's own benchmark uses for the lock with back-off. */
 enum { BACK_OFF = 5 };
 
-/* A lock of zeros is free, but for a CLH lock. */
+/* A lock of zeros is free, except for a CLH lock. */
 static void open_zeros(void *lock, void *const *own, int threads) { (void)lock, (void)own, (void)threads; }
 
 static void enter_mcs(void *lock, void *own) {
@@ -35,7 +35,7 @@ static void enter_mcs(void *lock, void *own) {
 }
 static void leave_mcs(void *lock, void *own) { ck_spinlock_mcs_unlock(lock, own); }
 
-/* A thread's node goes on to the next thread. Each node lies in the part of a thread, or beside the lock. */
+/* In a CLH lock a thread's node passes to the next thread. Each node lies in a thread's part, or beside the lock. */
 struct clh {
     struct ck_spinlock_clh *last, unowned;
 };

@@ -1,4 +1,4 @@
-/* What peers.c measures: a type of lock, as each file of this folder describes the locks that it has.
+/* A type of lock that peers.c measures. Each file of this folder describes the locks that it has by this struct.
  *
  * Every lock is called through these pointers, so that none is inlined into the loop that measures. */
 #ifndef LOCK_H
@@ -16,9 +16,9 @@ struct lock_type {
     void (*open)(void *lock, void *const *own, int threads);
     void (*enter)(void *lock, void *own);
     void (*leave)(void *lock, void *own);
-    /* Only of a lock that hands over 64 bytes itself: what the holder does with them, add_to_line. */
+    /* Only for a lock that hands over 64 bytes itself: the holder's work with these bytes, as add_to_line does it. */
     uint64_t (*add)(void *lock, void *own);
-    /* Frees what `open` took; null if it took nothing. */
+    /* Frees what `open` allocated, or is null if it allocates nothing. */
     void (*close)(void *lock, void *const *own, int threads);
 };
 
@@ -26,7 +26,7 @@ struct lock_type {
 static inline uint64_t add_to_line(uint64_t *line) {
     uint64_t was = line[0];
     for (int k = 0; k < 8; k++) line[k]++;
-    __asm__ volatile("" : : "r"(line) : "memory"); /* the compiler keeps nothing of it in registers */
+    __asm__ volatile("" : : "r"(line) : "memory"); /* keeps the compiler from holding the line in registers */
     return was;
 }
 

@@ -1,4 +1,4 @@
-/* The system's mutex, of the default type. */
+/* The mutex of the C library, of the default type. */
 #include "lock.h"
 #include <pthread.h>
 

@@ -1,6 +1,6 @@
-/* Our locks: strict and barging locks, and a node for each thread, of each kind of line.
+/* The locks of this library: a strict and a barging lock, and lines of each kind, with a node for each thread.
  *
- * It is compiled once for the library of today and once for an older one (-DBEFORE). */
+ * This file is compiled once for the current library and once for an older one (-DBEFORE). */
 #include "lock.h"
 #include <qolb.h>
 #include <stdlib.h>

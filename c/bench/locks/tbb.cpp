@@ -1,4 +1,4 @@
-/* oneTBB's fair mutex, a queue lock whose waiters yield. */
+/* The fair mutex of oneTBB, a queue lock whose waiters yield. */
 #include "lock.h"
 #include <new>
 #include <oneapi/tbb/queuing_mutex.h>

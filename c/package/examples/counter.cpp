@@ -1,4 +1,4 @@
-// Four threads add to a count that lies in the line.
+// Four threads add to a count, which is in the bytes of a line.
 #include <cstdio>
 #include <qolb.hpp>
 #include <thread>

@@ -1,11 +1,12 @@
-/* Threads that come and go add to a count that a lock guards, and the last says so to who waits for it. */
+/* Threads that start and end add to a count that a lock protects. The last of them signals a condition at which main
+ * waits. */
 #include <pthread.h>
 #include <qolb.h>
 #include <stdio.h>
 
 enum { WAVES = 2, THREADS = 4, ROUNDS = 500 };
 
-static qolb_lock lock = QOLB_LOCK_INIT; /* opened at its first use */
+static qolb_lock lock = QOLB_LOCK_INIT; /* it opens at its first use */
 static qolb_cond done = QOLB_COND_INIT;
 static long count;
 

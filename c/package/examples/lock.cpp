@@ -1,4 +1,4 @@
-// Threads that come and go add to a count that a lock guards, and to a table that has a barging lock.
+// Threads that start and end add to a count that a lock protects, and to a table that a barging lock protects.
 #include <cstdio>
 #include <map>
 #include <mutex>

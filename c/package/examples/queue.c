@@ -1,6 +1,6 @@
-/* A queue of at most eight jobs, under a lock with two conditions. Who takes a job looks up each millisecond. At the
- * end the lock is shut, which ends all waits. The lock is barging, as processors may be few: a strict one waits at
- * each turn until the next thread runs. Prints 4000. */
+/* A queue of at most eight jobs, which a lock with two conditions protects. A thread that waits for a job wakes every
+ * millisecond. At the end the lock is shut, which ends all waits. The lock is barging because there may be few
+ * processors: a strict lock would wait each time until the next thread runs. Prints 4000. */
 #include <pthread.h>
 #include <qolb.h>
 #include <stdint.h>
@@ -11,7 +11,7 @@ enum { ROOM = 8, JOBS = 4000, TAKERS = 4, LOOK_UP = 1000000 /* nanoseconds */ };
 
 static struct {
     qolb_lock lock;
-    qolb_cond some, room; /* signalled for a job that was put, and for one that was taken */
+    qolb_cond some, room; /* signalled after a job was put, and after one was taken */
     long jobs[ROOM];
     unsigned first, count;
 } queue = {QOLB_LOCK_INIT_BARGING(1024), QOLB_COND_INIT, QOLB_COND_INIT, {0}, 0, 0};
@@ -26,13 +26,13 @@ static void put(long job) {
     qolb_lock_leave(&queue.lock);
 }
 
-/* Takes the oldest job; 0 once the lock is shut. */
+/* Takes the oldest job. Returns 0 once the lock is shut. */
 static long take(void) {
     if (qolb_lock_enter(&queue.lock) != QOLB_GRANTED) return 0;
     while (queue.count == 0) {
         uint32_t got = qolb_cond_wait_within(&queue.some, &queue.lock, LOOK_UP);
         if (got == QOLB_CLOSED) return 0;  /* the lock is not held */
-        if (got != QOLB_GRANTED) continue; /* QOLB_TIMEDOUT: it is held again */
+        if (got != QOLB_GRANTED) continue; /* QOLB_TIMEDOUT: the lock is held again */
     }
     long job = queue.jobs[queue.first];
     queue.first = (queue.first + 1) % ROOM;

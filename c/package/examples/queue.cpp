@@ -1,6 +1,6 @@
-// A queue of at most eight jobs, under a lock with two conditions. Who takes a job looks up each millisecond. At the
-// end the lock is shut, which ends all waits. The lock is barging, as processors may be few: a strict one waits at
-// each turn until the next thread runs. Prints 4000.
+// A queue of at most eight jobs, which a lock with two conditions protects. A thread that waits for a job wakes every
+// millisecond. At the end the lock is shut, which ends all waits. The lock is barging because there may be few
+// processors: a strict lock would wait each time until the next thread runs. Prints 4000.
 #include <chrono>
 #include <cstdio>
 #include <deque>
@@ -33,13 +33,13 @@ class Queue {
     void end() {
         std::unique_lock<qolb::lock> held(lock_);
         room_.wait(held, [this] { return jobs_.empty(); });
-        held.release(); // the unique_lock leaves no more: shut does
+        held.release(); // the unique_lock must not leave the lock, because shut does
         lock_.shut();
     }
 
   private:
     qolb::lock lock_{qolb::barging{1024}};
-    qolb::Condition some_, room_; // signalled for a job that was put, and for one that was taken
+    qolb::Condition some_, room_; // signalled after a job was put, and after one was taken
     std::deque<long> jobs_;
 };
 

@@ -1,8 +1,8 @@
-/* The tickets that calls abandoned, because they timed out too far from their turn to withdraw (entries.h). Tested and
- * explored, not proved.
+/* Abandoned tickets: those of calls that timed out when their turn was too far away to withdraw the request
+ * (entries.h). This file is tested and model-checked, and not proved.
  *
- * The thread that grants such a ticket passes it on. Each ticket has a guard by its number, so that calls which give up
- * at the same time do not sleep at one. */
+ * The thread that grants an abandoned ticket passes it on. The number of a ticket decides which guard it has, so that
+ * calls which give up at the same time do not all wait for one guard. */
 #include "entries.h"
 #include <errno.h>
 #include <stdlib.h>
@@ -28,7 +28,7 @@ void qolb_free_entry_(struct entry *e) {
     free(e);
 }
 
-/* Where a ticket's list is: not by its lock alone. */
+/* Returns the address by which a ticket's list and guard are found: it depends on the lock and on the number. */
 static uintptr_t place_of(uintptr_t lock, uint64_t number) { return lock + number * 16; }
 
 uint32_t qolb_abandon_(struct lock *lock, struct qolb_ticket *ticket, struct entry **spare) {

@@ -1,18 +1,21 @@
-/* The conditions of locks, and telling of a shut (lock.h). Tested and explored, not proved.
+/* Conditions of locks, and telling their waiters that the lock is shut (lock.h). This file is tested and model-checked,
+ * and not proved.
  *
- * A waiter is in two lists, by an entry on its stack: that of the condition, under a guard, from whose front a signal
- * takes one; and that of the lock, under the lock itself, by which a shut tells all. It sleeps on a word of its entry,
- * which is set once. It is counted as a thread without a ticket from before it leaves the lock until it has one again:
- * so the lock is not destroyed meanwhile. Who is told of a shut asks, too, and is answered CLOSED at its turn: the shut
- * is over by then. */
+ * A waiter has a `struct waiter` on its stack, which is in two lists. One is the list of the condition, under a guard;
+ * a signal takes the first waiter out of it. The other is the list of the lock, which only the holder uses; a shut
+ * tells all waiters in it. The waiter sleeps on the word `told` of its struct, which is set once.
+ *
+ * The lock must not be destroyed while a thread waits. Therefore the waiter is counted as a thread without a ticket
+ * from before it leaves the lock until it has a ticket again. A waiter that is told of a shut also requests the lock.
+ * It is answered CLOSED at its turn, when the shut is complete. */
 #include "entries.h"
 
 enum { NOTHING, SIGNALLED, SHUT };
 
 struct waiter {
-    struct link link;       /* in the condition's list; next is NULL when it is taken out */
-    struct waiter *beside;  /* the next of the lock's, in any order */
-    struct waiter **before; /* what points at it there */
+    struct link link;       /* in the condition's list; next is NULL once the waiter is taken out */
+    struct waiter *beside;  /* the next waiter in the lock's list, whose order does not matter */
+    struct waiter **before; /* what points to this waiter in the lock's list */
     atomic_uint told;
 };
 
@@ -30,7 +33,7 @@ static void stand_at(qolb_cond *cond, struct lock *lock, struct waiter *me) {
     return_guard(guard);
 }
 
-/* Removes itself from the condition's list; false if it had been taken out. */
+/* Takes the waiter out of the condition's list. Returns whether it was still in the list. */
 static int stand_no_more(qolb_cond *cond, struct waiter *me) {
     atomic_uint *guard = guard_at((uintptr_t)cond);
     int stood = me->link.next != NULL;
@@ -44,7 +47,7 @@ static int stand_no_more(qolb_cond *cond, struct waiter *me) {
     return stood;
 }
 
-/* The holder again. The lock's list is empty if the lock was shut meanwhile. */
+/* Takes the waiter, which holds the lock again, out of the lock's list. */
 static void stand_no_more_in(struct waiter *me) {
     *me->before = me->beside;
     if (me->beside) me->beside->before = me->before;
@@ -52,7 +55,7 @@ static void stand_no_more_in(struct waiter *me) {
 
 /* ---- Waiting ---- */
 
-/* Whether it had not been told yet. Then the waiter may no longer exist. */
+/* Tells a waiter, and wakes it. Returns whether the waiter had not been told before; if so, it may no longer exist. */
 static int tell_waiter(struct waiter *waiter, unsigned what) {
     unsigned nothing = NOTHING;
     atomic_uint *word = &waiter->told;
@@ -69,7 +72,7 @@ static unsigned await_word(struct waiter *me, const struct limit *limit) {
 }
 
 uint32_t qolb_cond_wait_at_(qolb_cond *cond, struct lock *lock, struct turn *at, uint64_t nanoseconds) {
-    struct limit limit = from_now(nanoseconds); /* leaving may make calls of tasks */
+    struct limit limit = from_now(nanoseconds); /* it begins now, because leaving may call callbacks of tasks */
     struct waiter me;
     stand_at(cond, lock, &me);
     atomic_fetch_add(&lock->without_ticket, 1);
@@ -87,7 +90,7 @@ enum qolb_result qolb_cond_wait_within(qolb_cond *cond, qolb_lock *of, uint64_t 
     struct lock *lock = lock_of(of);
     struct turn beyond, *at = qolb_take_turn_(lock, &beyond);
     if (!at) return QOLB_MISUSE;
-    struct turn turn = *at; /* not in the table: a call of a task may enter other locks */
+    struct turn turn = *at; /* not in the table, because a callback of a task may enter other locks */
     at->ticket = (struct qolb_ticket){0};
     uint32_t got = qolb_cond_wait_at_(cond, lock, &turn, nanoseconds);
     if (got != QOLB_GRANTED && got != QOLB_TIMEDOUT) return got;
@@ -120,8 +123,7 @@ enum qolb_result qolb_cond_signal(qolb_cond *cond) { return signal_some(cond, 0)
 
 enum qolb_result qolb_cond_broadcast(qolb_cond *cond) { return signal_some(cond, 1); }
 
-/* From here on the holder does nothing but shut the lock. Who is told asks behind it, and stays in the list until it is
- * answered. */
+/* After this the holder only shuts the lock. A waiter that is told requests the lock behind the holder. */
 void qolb_tell_shut_(struct lock *lock) {
     for (struct waiter *it = lock->waits; it; it = it->beside) tell_waiter(it, SHUT);
     lock->waits = NULL;

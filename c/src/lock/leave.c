@@ -1,16 +1,18 @@
-/* Leaving a lock, and whom to wake (lock.h); shutting and destroying. Tested and explored, not proved.
+/* Leaving a lock and deciding whom to wake (lock.h); shutting and destroying it. This file is tested and model-checked,
+ * and not proved.
  *
- * Leaving a strict lock releases a turn of the queue; leaving a barging one releases the lock word. With that step the
- * lock's memory may be gone: the thread that enters next may free it. So what follows has a `struct released` and no
- * pointer to the lock, but for one that an entry gives it: while an entry is in its list, its lock exists.
+ * A thread that leaves a strict lock releases a turn of the queue; one that leaves a barging lock releases the lock
+ * word. After this step the lock's memory may be gone, because the thread that enters next may free it. Therefore the
+ * code that follows has a `struct released` and no pointer to the lock. Only an entry can give it a pointer, because a
+ * lock exists while one of its entries is in a list.
  *
- * A release is told how many sleep at the cell of the granted ticket. It wakes them, unless no thread waits for the
- * ticket: one that a call abandoned, or a task gave up, is passed on; a task is due, and its call is made. A thread
- * that slept for its turn wakes the waiter behind the next one as well, if others sleep there: that thread gets up
- * during the critical section before its own.
+ * A releasing thread is told how many threads sleep at the cell of the granted ticket. It wakes them, unless no thread
+ * waits for the ticket. A ticket that a call abandoned, or that a task gave up, is passed on. If the ticket is a
+ * task's, the task is due, and its callback is called. A thread that slept for its own turn also wakes the waiter
+ * behind the next holder, so that this wake-up overlaps the next holder's critical section.
  *
- * A thread that is told that the lock is shut passes its turn on. Destroying is a try that finds nobody: no holder, no
- * waiter, and no thread without a ticket in a call. */
+ * A thread that is told that the lock is shut passes its turn on. Destroying a lock tries to enter it, and succeeds if
+ * there is no holder, no waiter, and no thread without a ticket in a call. */
 #include "entries.h"
 
 #define likely(it) __builtin_expect(!!(it), 1)
@@ -39,8 +41,8 @@ static uint32_t leave_barging(struct turn *at) {
     return likely(got == QOLB_DONE && !at->ticket.head_sleeps) ? got : leave_on(at, got, 1);
 }
 
-/* In the thread's own place for the lock, after a proved call that answered this: MISUSE, UNFINISHED, BUSY; or DONE,
- * and the lock may no longer exist. */
+/* Goes on in the thread's own place for the lock, after a proved call that returned `got`: MISUSE, UNFINISHED or BUSY;
+ * or DONE, and the lock may no longer exist. */
 SLOW static uint32_t leave_on(struct turn *at, uint32_t got, int barging) {
     struct lock *lock = lock_by(at);
     if (got == QOLB_MISUSE) {
@@ -72,7 +74,7 @@ static void make_call(uint64_t key) {
     if (key) qolb_make_call_(callbacks_of_task(key), key);
 }
 
-/* From a release on that answered this. */
+/* Repeats a release that returned `got` until it is done. */
 static void release(struct lock *lock, struct qolb_ticket *ticket, uint32_t got) {
     while (got == QOLB_UNFINISHED_) got = qolb_core_release_proved_(&lock->core, ticket);
     INVARIANT(got == QOLB_DONE);
@@ -82,7 +84,8 @@ static int is_slept_at(const uint64_t *cell) {
     return (load_word(cell) >> LAYOUT_SLEEPERS_BIT & LAYOUT_MAX_SLEEPERS) != 0;
 }
 
-/* A turn that slept has not been released yet, as the short way is for others: so it may look at its lock first. */
+/* A turn that slept has not been released yet, because only other turns take the short way. Therefore this may look at
+ * the lock's cells before the release. */
 void qolb_end_turn_(struct lock *lock, struct turn *at, uint32_t got) {
     struct released it = released_of(lock, at);
     uint64_t ahead = at->ticket.number + 2, key = 0;
@@ -95,7 +98,8 @@ void qolb_end_turn_(struct lock *lock, struct turn *at, uint32_t got) {
     make_call(key);
 }
 
-/* Releases the lock word, and wakes the queue head, or makes its call. From a leave on that answered this. */
+/* Repeats a leave that returned `got` until the lock word is released. Then wakes the queue head, or calls its
+ * callback. */
 static void leave_lock_word(struct lock *lock, struct turn *at, uint32_t got) {
     struct released it = released_of(lock, at);
     struct granted head = {.key = 0};
@@ -107,8 +111,8 @@ static void leave_lock_word(struct lock *lock, struct turn *at, uint32_t got) {
     make_call(head.key);
 }
 
-/* A ticket was granted at whose cell somebody sleeps: passes it on while no thread or task wants it, and wakes its
- * thread, or finds the key of its task's call. */
+/* Wakes the thread that waits for a granted ticket, or finds the key of its task's callback. A ticket that no thread or
+ * task wants any more is passed on, and the same is done for the next one. */
 SLOW static void wake(const struct released *it, uint64_t number, uint64_t *key) {
     enum found found;
     do {
@@ -126,7 +130,7 @@ SLOW static void wake(const struct released *it, uint64_t number, uint64_t *key)
     } while (found == GIVEN_UP);
 }
 
-/* ---- Passing on what is not to be kept ---- */
+/* ---- Passing on what must not be kept ---- */
 
 void qolb_settle_(struct lock *lock, struct turn *at) {
     uint32_t state = at->ticket.state;
@@ -154,7 +158,7 @@ enum qolb_result qolb_lock_shut(qolb_lock *of) {
 
 /* ---- Looking ---- */
 
-/* Of a strict lock: if a ticket is drawn while it looks, the thread that draws it enters. */
+/* A strict lock is about to be held if a ticket is drawn while this looks at it. */
 int qolb_lock_is_held(const qolb_lock *of) {
     const struct lock *lock = lock_of(of);
     if (!is_open(lock)) return 0;
@@ -165,15 +169,15 @@ int qolb_lock_is_held(const qolb_lock *of) {
 
 /* ---- Destroying ---- */
 
-/* In, and at the turn of the queue, of a lock that is shut or not. Whether it is the only one, and the lock open. A
- * thread without a ticket draws one before it counts itself out: so one that is not counted any more has asked after
- * this one. */
+/* Returns whether the caller, which is at its turn of the queue, is the only user of the lock, and the lock is open. A
+ * thread without a ticket draws one before it stops counting itself. So if a thread is no longer counted, its ticket
+ * was drawn after the caller's, and the tail shows it. */
 static int is_alone(struct lock *lock, struct turn *at, uint32_t got) {
     if (got == QOLB_WAITING || atomic_load(&lock->without_ticket) || tail_word(lock) != at->ticket.number + 1) return 0;
     return got == QOLB_GRANTED || qolb_core_reopen_proved_(&lock->core, &at->ticket) == QOLB_GRANTED;
 }
 
-/* Destroying moves no memory: the core stays as it is, open with nobody there, and the next use makes a new one. */
+/* Destroying frees no memory. The core stays as it is, open and unused, and the next use makes a new one. */
 enum qolb_result qolb_lock_destroy(qolb_lock *of) {
     struct lock *lock = lock_of(of);
     struct turn turn = {0}, *at = &turn;

@@ -1,14 +1,14 @@
-/* Opening a lock in its own bytes, at its first use (lock.h). Tested and explored, not proved.
+/* Opening a lock in its own bytes, at its first use (lock.h). This file is tested and model-checked, and not proved.
  *
- * The first that finds `core.at` NULL writes OPENING there, opens, and writes the core's address. Who finds OPENING
- * writes AWAITED and sleeps at that value; who has opened wakes if it found that. So the lock is opened once, and
- * nobody waits for it without a sleep.
+ * The first thread that finds NULL in `core.at` stores OPENING there, opens the lock, and then stores the core's
+ * address. A thread that finds OPENING stores AWAITED and sleeps on it. The opening thread wakes the sleepers if it
+ * finds AWAITED. So the lock is opened once, and a thread that has to wait for this sleeps.
  *
- * The core's blocks are bytes of the lock: the proved part asks for memory by heap.c, and gets these one after another.
- * So opening can't fail, and nothing has to be freed. */
+ * The blocks of the core are bytes of the lock: the proved part requests memory from heap.c, which gives it these
+ * blocks one after the other. Therefore opening cannot fail, and nothing has to be freed. */
 #include "lock.h"
 
-/* By who has written OPENING. */
+/* Opens the core, in the thread that has stored OPENING. */
 static void open_core(struct lock *lock) {
     static _Atomic uint64_t labels;
     struct qolb_core core = {NULL};
@@ -27,7 +27,7 @@ static void open_core(struct lock *lock) {
     if (was == AWAITED) qolb_unpark_((uint32_t *)&lock->core.at, 1);
 }
 
-/* From NULL or OPENING to the other: whether it was so. */
+/* Changes `core.at` from one value to another, and returns whether it had the first. */
 static int claims(struct lock *lock, uintptr_t from, uintptr_t to) {
     return __atomic_compare_exchange_n((uintptr_t *)&lock->core.at, &from, to, 0, __ATOMIC_SEQ_CST, __ATOMIC_SEQ_CST);
 }

@@ -1,21 +1,24 @@
-/* Tasks at a lock: who enters it without a thread that waits (qolb_task(3)). Tested and explored, not proved.
+/* Tasks, which enter a lock without a thread that waits (qolb_task(3)). This file is tested and model-checked, and not
+ * proved.
  *
- * A task draws a ticket as a thread does. While it waits, an entry has its ticket (entries.h). The thread that grants
- * that, or leaves the lock word, makes the task due, and then its call (../callbacks.c). From there on the turn is the
- * task's: its poll looks whether the lock is open, and passes on what is not to be kept; so a shut is told to one after
- * another. The entry is allocated before the ticket is drawn: so no call but the first can fail for want of memory.
+ * A task draws a ticket as a thread does. While the task waits, an entry has its ticket (entries.h). The thread that
+ * grants this ticket, or that leaves the lock word, makes the task due and calls its callback (../callbacks.c). From
+ * then on the task has the turn. Its poll looks whether the lock is open, and passes on what the task must not keep.
+ * Therefore tasks are told of a shut one after the other. The entry is allocated before the ticket is drawn, so only
+ * the call that enters can run out of memory.
  *
- * A task at its turn of the queue of a barging lock is the queue head, and watches nothing. If the lock word is held,
- * its entry goes to the list of heads, and then requests the handoff, so that no barging thread follows the holder, and
- * announces the head's sleep. The leaving thread is told of that, looks there, and takes the word for the task.
+ * A task at its turn of the queue of a barging lock is the queue head, but it cannot watch the lock word. If the lock
+ * word is held, the task's entry is put into the list of heads. Then the handoff is requested, so that no barging
+ * thread follows the holder, and the head's sleep is announced. The leaving thread is told of the sleep, looks at the
+ * list of heads, and takes the lock word for the task.
  *
- * The tasks of a lock have one guard. No call of a task is made under it: calls come last in passing on and in leaving,
- * and may use any task and lock; so everything is as it will be when they begin. */
+ * All tasks of a lock have one guard. No callback is called under it: a thread that passes a turn on or leaves calls
+ * callbacks last, when everything else is done, because a callback may use any task and lock. */
 #include "entries.h"
 
 struct entries qolb_tasks_;
 
-/* The key of a task's callback. */
+/* The key of a task's callback is the task's address. */
 #ifndef EXPLORED
 #define KEY_OF(task) ((uintptr_t)(task))
 #endif
@@ -24,7 +27,8 @@ static struct task *task_of(qolb_task *task) { return (struct task *)task; }
 
 static struct link **list_for(const struct entry *e) { return list_of(&qolb_tasks_, (uintptr_t)e->lock, e->number); }
 
-/* Takes the entry out of its list, and its sleep back: the ticket, which WAITS or is AT_TURN. */
+/* Takes the entry out of its list, and takes back the announced sleep. Returns the ticket, which WAITS or is AT_TURN.
+ */
 static struct qolb_ticket ticket_out(struct entry *e) {
     take_out(&qolb_tasks_, list_for(e), find_before(list_for(e), (uintptr_t)e->lock, e->number));
     return e->number == HEAD ? kept_ticket(e->lock, e->task->number, QOLB_TICKET_AT_TURN_) : retracted(e);
@@ -32,8 +36,8 @@ static struct qolb_ticket ticket_out(struct entry *e) {
 
 /* ---- A task's turn ---- */
 
-/* Of a task's ticket at its turn of the queue, whose entry is out: whether it waits on as the queue head, as it can't
- * take the lock word. */
+/* Takes the lock word for a task whose ticket is at its turn of the queue, and whose entry is out. Returns whether the
+ * task waits on as the queue head, because the lock word is held. In a strict lock there is no lock word to take. */
 static int waits_on(struct entry *e, struct qolb_ticket *ticket) {
     const struct qolb_core *core = &e->lock->core;
     INVARIANT(ticket->state == QOLB_TICKET_AT_TURN_ && e->task);
@@ -50,8 +54,8 @@ static int waits_on(struct entry *e, struct qolb_ticket *ticket) {
     return 0;
 }
 
-/* The task of an entry that is out is due: the key of its call. Once the guard is returned the task may no longer
- * exist. */
+/* Makes the task of an entry that is out due, and returns the key of its callback. Once the guard is returned, the task
+ * may no longer exist. */
 static uint64_t make_due(struct entry *e, const struct qolb_ticket *ticket) {
     struct task *task = e->task;
     uint64_t key = task->callback.key;
@@ -92,8 +96,8 @@ static void hold(struct task *me, const struct turn *at) {
     atomic_store(&me->state, HOLDS);
 }
 
-/* The task's turn, which is due: GRANTED or CLOSED. A task that is told CLOSED is idle before it passes its turn on:
- * the call of another task may enter with it. */
+/* Decides about the turn of a task that is due, and returns GRANTED or CLOSED. A task that is told CLOSED is made idle
+ * before it passes its turn on, because the callback of another task may enter with this task. */
 static uint32_t settle(struct task *me) {
     struct lock *lock = me->lock;
     struct turn at = {.ticket = kept_ticket(lock, me->number, me->turn)};
@@ -105,14 +109,14 @@ static uint32_t settle(struct task *me) {
     return got;
 }
 
-/* Has the entry in its list, unless the ticket is at its turn: WAITING, and the task will be due, if it is not already,
- * and may no longer exist; or GRANTED: at its turn, in a barging lock in by the lock word. */
+/* Puts the entry into its list, unless the ticket is at its turn. After WAITING the task will be due, or already is,
+ * and may no longer exist. After GRANTED it is at its turn, and in a barging lock it has the lock word. */
 static uint32_t stand_for(struct entry *e, struct qolb_ticket *ticket) {
     uint32_t got = QOLB_GRANTED;
     e->number = ticket->number;
     atomic_uint *guard = guard_at((uintptr_t)e->lock);
     if (ticket->state == QOLB_TICKET_WAITING_) got = stand(&qolb_tasks_, list_for(e), e, ticket);
-    while (got == QOLB_FULL_) { /* 65,535 threads sleep at its cell */
+    while (got == QOLB_FULL_) { /* 65,535 threads sleep at the ticket's cell */
         return_guard(guard);
         nap(FOR_EVER);
         take_guard(guard);
@@ -125,7 +129,8 @@ static uint32_t stand_for(struct entry *e, struct qolb_ticket *ticket) {
     return QOLB_GRANTED;
 }
 
-/* Draws a ticket, and stands for its turn: WAITING, and the task may no longer exist; GRANTED or CLOSED; NO_MEMORY. */
+/* Draws a ticket, and waits for its turn by an entry. Returns WAITING (the task may no longer exist), GRANTED, CLOSED
+ * or NO_MEMORY. */
 static uint32_t draw_and_stand(struct task *me, struct qolb_ticket *ticket) {
     struct entry *e = has_room(me->lock) ? qolb_new_entry_(me->lock, me) : NULL;
     if (!e) return QOLB_NO_MEMORY;
@@ -159,8 +164,9 @@ enum qolb_result qolb_task_enter_fd(qolb_task *task, qolb_lock *lock, int fd) {
 
 /* ---- Polling, and giving up ---- */
 
-/* Gives up for a task that waits. The ticket of one that is near is FREE afterwards, or AT_TURN, to be passed on, and
- * the entry is out; of one that is far the entry stays, for a ticket that is given up. */
+/* Gives up the request of a task that waits, and returns its ticket. If the turn is near, the entry is taken out, and
+ * the ticket is FREE, or AT_TURN and must be passed on. If the turn is far, the entry stays in the list for the ticket,
+ * which is given up. */
 static struct qolb_ticket withdraw(struct task *me, struct entry **gone) {
     struct entry *e = me->entry;
     me->entry = NULL;
@@ -175,8 +181,9 @@ static struct qolb_ticket withdraw(struct task *me, struct entry **gone) {
     return ticket;
 }
 
-/* The state of a task. The guard is taken, as a thread that makes it due is not done once its state says so. With a
- * ticket, a task that WAITS gives up, and is IDLE: the ticket is FREE, or AT_TURN. */
+/* Returns the state of a task. It takes the guard, because a thread that makes a task due still uses the task after it
+ * has set the state. If `withdrawn` is not NULL, a task that WAITS gives up and is IDLE, and `withdrawn` gets its
+ * ticket, which is FREE or AT_TURN. */
 static unsigned state_of(struct task *me, struct qolb_ticket *withdrawn) {
     struct entry *gone = NULL;
     atomic_uint *guard = guard_at((uintptr_t)me->lock);
@@ -199,7 +206,7 @@ enum qolb_result qolb_task_poll(qolb_task *task) {
     return settle(me);
 }
 
-/* The task may look at the lock while it waits or has a turn there. */
+/* While the task waits or has a turn, the lock exists, so this may look at it. */
 enum qolb_result qolb_task_cancel(qolb_task *task) {
     struct task *me = task_of(task);
     unsigned state = atomic_load(&me->state);

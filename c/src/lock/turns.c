@@ -1,18 +1,19 @@
-/* The thread's table of the locks that it holds (lock.h). Tested and explored, not proved.
+/* The table of the locks that a thread holds (lock.h). This file is tested and model-checked, and not proved.
  *
- * A turn has a place of its own by the lock's address; if that is taken, any other; and if all are, the part of its
- * ticket that is needed moves into the lock itself, which nobody else may hold meanwhile. So a thread holds any number
- * of locks, without memory of its own for them. A thread that ends as a holder leaves the lock held. */
+ * The address of a lock decides which place of the table it gets. If this place is taken, the lock gets any other
+ * place. If all places are taken, the number of the holder's ticket is stored in the lock itself, which nobody else can
+ * hold meanwhile. So a thread can hold any number of locks without allocating memory for them. If a thread ends while
+ * it holds a lock, the lock stays held. */
 #include "lock.h"
 
-/* ../../package/qolb.gdb looks for the holder of a lock here, and has these numbers as well. */
+/* ../../package/qolb.gdb finds the holder of a lock by this table, and repeats these numbers. */
 _Alignas(LINE) BY_THREAD struct own qolb_own_;
 _Static_assert(sizeof(struct turn) == 64 && offsetof(struct turn, core) == 56, "");
 _Static_assert(offsetof(struct turn, ticket.label) == 40, "");
 _Static_assert(offsetof(struct lock, label) == 96 && offsetof(struct lock, beyond_by) == 112, "");
 
-/* Whether a place says that its thread holds this lock. It says so of one that lay at this address before, too: their
- * labels differ. */
+/* Returns whether a place says that its thread holds this lock. The place may mean an earlier lock at the same address,
+ * whose label is another. */
 static int says_held(const struct turn *at, const struct lock *lock) {
     return (at->core & ~(uintptr_t)SLEPT) == own_of(lock) + HELD;
 }
@@ -50,8 +51,9 @@ uint64_t qolb_draw_number_(void) {
     return THIS_THREAD->number = atomic_fetch_add(&threads, 1) + 1;
 }
 
-/* A place that says that the thread holds a lock which lay at this address before is free. One whose ticket is in use
- * is not: the program's malloc, which a waiting call may make, enters locks. */
+/* Returns whether a place can be used for this lock. A place that says that the thread holds an earlier lock at the
+ * same address is free. A place whose ticket is in use is not, because a call that waits may call the program's malloc,
+ * which may enter locks. */
 static int is_free(const struct turn *at, const struct lock *lock) {
     return has(at, HELD) ? says_held(at, lock) : at->ticket.state == QOLB_TICKET_FREE_;
 }

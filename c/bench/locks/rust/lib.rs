@@ -1,10 +1,10 @@
-//! The mutex of Rust's standard library, and with the feature of that name parking_lot's. A thread keeps its guard in its part of the lock.
+//! The mutex of Rust's standard library, and with the feature `parking_lot` also the mutex of that crate. A thread keeps its guard in its part of the lock.
 #![allow(non_upper_case_globals)]
 
 use std::ffi::{c_char, c_int, c_void};
 use std::ptr;
 
-/// `struct lock_type` of lock.h.
+/// The same as `struct lock_type` of lock.h.
 #[repr(C)]
 pub struct LockType {
     name: *const c_char,

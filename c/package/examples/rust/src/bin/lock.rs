@@ -1,4 +1,4 @@
-//! Threads that come and go add to a count, and to a table that a barging mutex guards.
+//! Threads that start and end add to a count, and to a table that a barging mutex protects.
 use qolb::{Mutex, Stopped};
 use std::collections::HashMap;
 use std::thread;

@@ -1,12 +1,12 @@
-//! A queue of at most eight jobs, under a mutex with two conditions. Who takes a job looks up each millisecond; at the end the mutex is shut, which ends all waits.
-//! It is barging, as processors may be few: a strict one waits at each turn until the next thread runs.
+//! A queue of at most eight jobs, which a mutex with two conditions protects. A thread that waits for a job wakes every millisecond. At the end the mutex is
+//! shut, which ends all waits. The mutex is barging because there may be few processors: a strict one would wait each time until the next thread runs.
 use qolb::{Condition, Mutex, Stopped};
 use std::collections::VecDeque;
 use std::thread;
 use std::time::Duration;
 
 static JOBS: Mutex<VecDeque<u64>> = Mutex::with_barging(VecDeque::new(), 1024);
-/// Signalled for a job that was put, and for one that was taken.
+/// Signalled after a job was put, and after one was taken.
 static SOME: Condition = Condition::new();
 static ROOM: Condition = Condition::new();
 
@@ -18,7 +18,7 @@ fn put(job: u64) -> Result<(), Stopped> {
     Ok(())
 }
 
-/// Takes the oldest job. `Stopped::Closed` once the mutex is shut.
+/// Takes the oldest job. Fails with `Stopped::Closed` once the mutex is shut.
 fn take() -> Result<u64, Stopped> {
     let mut jobs = JOBS.lock()?;
     loop {
