@@ -86,7 +86,7 @@ FAULTS = {
     "nodes: a wake adds nothing": (WAKES, WAKES.splitlines(True)[1]),
     "nodes: the wake comes before the addition": (WAKES, "".join(reversed(WAKES.splitlines(True)))),
     "nodes: who releases reads the count before the release": (RELEASES, COUNTED_EARLY),
-    "nodes: a sleeper sleeps at another's place": ("sleep_at(my, place_at(my->line, word), limit)", "sleep_at(my, place_at(my->line, word + LAYOUT_PLACE_WORDS), limit)"),
+    "nodes: a sleeper sleeps at another's place": ("sleep_at_place(my, place_at(my->line, word), limit)", "sleep_at_place(my, place_at(my->line, word + LAYOUT_PLACE_WORDS), limit)"),
     "nodes: a sleeper does not take itself off its place": (OFF_PLACE, ""),
     "nodes: a sleeper does not take itself off its line": (OFF_LINE, ""),
     "nodes: who releases wakes at its own place": ("wake_at(place_at(line, look.went_to))", "wake_at(place_at(line, look.wait_word))"),

@@ -131,7 +131,7 @@ static uint32_t spin(struct node *my, const char *slot, const struct limit *limi
 }
 
 /* Sleeps at the node's place. It polls once between counting itself as a sleeper and the sleep. */
-static uint32_t sleep_at(struct node *my, struct place *place, const struct limit *limit) {
+static uint32_t sleep_at_place(struct node *my, struct place *place, const struct limit *limit) {
     atomic_fetch_add(&place->sleepers, 1);
     atomic_fetch_add(&my->line->callbacks.waiting, 1);
     unsigned word = atomic_load(&place->word);
@@ -160,7 +160,7 @@ static uint32_t await_turn(struct node *my, const struct limit *limit) {
     struct spin spun = {.yields_from = YIELD_UNSURE};
     for (;;) {
         uint32_t got = spin(my, slot, limit, &spun);
-        if (got == QOLB_WAITING && left(limit)) got = sleep_at(my, place_at(my->line, word), limit);
+        if (got == QOLB_WAITING && left(limit)) got = sleep_at_place(my, place_at(my->line, word), limit);
         if (got != QOLB_WAITING) return got;
         if (left(limit) == 0) return give_up_turn(my);
     }
