@@ -291,24 +291,6 @@ def largest_step_picture(program):
     drawn_whole(program, ["draw", "--steps", "--svg"], script, what)
 
 
-ROOT = os.path.join(os.path.dirname(os.path.abspath(__file__)), "..")
-# The pictures of the pages that the program drew, with the arguments and the example of each.
-DRAWN = {
-    "withdraw_and_close": ["draw", "--svg"],
-    "late_linker": ["draw", "--steps", "--svg"],
-}
-
-
-def pictures_of_the_pages(program):
-    """Each picture is what the program draws of the example of its name."""
-    for name, words in DRAWN.items():
-        with open(os.path.join(ROOT, "crates/example_scripts/data", f"{name}.txt"), "rb") as script:
-            found = run(program, words, script.read())
-        with open(os.path.join(ROOT, "docs/figures", f"{name}.svg"), encoding="latin-1") as figure:
-            expect(f"docs/figures/{name}.svg", (0, figure.read(), ""), found)
-    print(f"{len(DRAWN)} pictures of the pages are what the program draws", flush=True)
-
-
 # Jobs of `CROWD` workers at one line, each a turn of the line. A worker that waits awake gives up its processor voluntarily at most a hundred
 # times; a worker that sleeps does so for each long wait, which at a crowded line is each of its jobs. A run without sleepers makes few calls that
 # wake: at the ends of its threads. Work whose progress is told lasts until all workers have been seen.
@@ -446,7 +428,6 @@ def main():
         one_command_too_many(program)
         largest_schedule_picture(program)
         largest_step_picture(program)
-        pictures_of_the_pages(program)
         sleepers(program)
         nobody_is_woken(program)
         progress_is_told(program)

@@ -10,13 +10,15 @@ same place would be refused, too: it shows nothing. A mutant is for a test to re
 that threads run at the same time). Only that test is run, without a proof, by `rt try --test`. A test that takes all memory fails there for any body,
 so such a mutant is judged by `rt test`, and only with --proved: that proves all crates from the changed one on.
 
-Mutants without a test are tried over the work that `tools/prove` keeps, which is called first. For each mutant it prints a line:
+Mutants without a test are tried over the work that `tools/prove` keeps, which is called first. Those that edit the bodies of different functions of a
+crate are tried in one check, and each is refused by the goals of its own function. A mutant that edits anything else (a type, a constant, a contract, a
+proof, a macro, two functions), or that no goal of its function refuses there, gets a check of its own; with --alone all do. Each gets a line:
 
   answer  CRATE/NAME  FUNCTION: GOAL    an answer that is written in proofs/ no longer proves the goal of that name
   search  CRATE/NAME  FUNCTION: GOAL    the tactics no longer prove a goal of that name, which they proved before
   false   CRATE/NAME  FUNCTION: GOAL    the goal is false: the prover found values
   meant   CRATE/NAME  FUNCTION: GOAL    the same change made harmless is proved: a condition that it adds is what is refused
-  test    CRATE/NAME  TEST              the test failed, or did not end
+  test    CRATE/NAME  TEST              the test failed, or it did not end, and ended without the mutant
   new     CRATE/NAME  FUNCTION: GOAL    only goals are open, or answers refused, that have a new name: find out whether a harmless rewrite is refused alike
   shape   CRATE/NAME  FUNCTION: GOAL    the same change made harmless is refused alike: it shows nothing, rewrite it
   names   CRATE/NAME  FUNCTION          only names of the proof are missing: it shows nothing, rewrite it
@@ -31,7 +33,7 @@ tried again, unless it was BROKEN, or with --anew: `kept from` that day is print
 With --anchors it tries nothing. It names each mutant whose old text its function does not have exactly once, with the place where the text is now, and
 the files and lines of mutants that are not read. `.ci/run` calls it.
 
-  tools/edits.py [--jobs N] [--only WORD] [--anew] [--proved] [--keep FOLDER] [CRATE ..]
+  tools/edits.py [--jobs N] [--only WORD] [--by goals|tests] [--anew] [--alone] [--proved] [--keep FOLDER] [CRATE ..]
   tools/edits.py --anchors
 """
 
@@ -47,12 +49,13 @@ import subprocess
 import sys
 import tempfile
 
-from crates import ROOT, below, copy_sources, lay_out, named, read_crates, run_main, say, side_by_side, spawn, take_kept
-from mutants import changed, harmless, mutants_of, out_of_place
-from tests import leave_out, tests_of
+from crates import ROOT, below, copy_sources, lanes, lay_out, named, read_crates, run_main, say, side_by_side, spawn, take_kept
+from mutants import changed, edited_function, harmless, mutants_of, out_of_place
+from tests import leave_out, path_of_builds, tests_of
 
 KEPT = ROOT / "out" / "mutants.tsv"
 HEAD = "# What refused each mutant: its name, how, by what; a sum of what it was tried on, the day (tools/edits.py).\n"
+BY_A_GOAL = ("answer", "search", "false")
 NOTHING_SHOWN = ("new", "shape", "names", "ALIVE", "BROKEN")
 MINUTES = 120
 
@@ -60,6 +63,9 @@ MINUTES = 120
 NAMES_ALONE = re.compile(r"is not in scope|has no field|has no `|was not admitted")
 # The compiler refused the text, before any goal.
 NO_CODE = re.compile(r"^.*\berror\[[\w-]+\].*$", re.M)
+# A function whose callee is not proved, which is not tried to its end; and one that is not proved for this or another reason.
+WAITS = re.compile(r"^fn \S+: .*\bwhich is not proved", re.M)
+REFUSED = re.compile(r": error: |^fn \S+: (?!proved$)", re.M)
 # Declarations that rest on other refused ones: these, and those.
 UNCHECKED = re.compile(r"^\./proofs/(\S+)/Answers\.antt:\d+:\d+: error: \d+ declarations? that depends? on (.*?), which \w+ rejected, \w+ not checked: (.*)$", re.M)
 VERDICT = re.compile(r"^logic=", re.M)
@@ -134,6 +140,23 @@ def two(goals):
     return "; ".join(f"{folder}: {goal}" for folder, goal in goals[:2])
 
 
+def said_of(log):
+    """What a check says of each function, by its folder of proofs: what is refused there, the notes above the function's line, and this line. What it
+    refuses elsewhere is under the name of the file, or under no name."""
+    said, notes = collections.defaultdict(list), []
+    for line in re.sub(r"^so far: ", "", log, flags=re.M).splitlines():
+        found = re.match(r"\./(?:proofs|specs)/(\S+?)(?:/(?:Answers|Invariants|Proof))?\.antt:|fn \w+::(\S+): ", line)
+        if found:
+            said[found[1] or found[2].replace("::", "/")] += [*notes, line]
+        elif ": error: " in line:
+            said[""].append(line)
+        if line.startswith("note: "):
+            notes.append(line)
+        elif not line.startswith("help: "):
+            notes = []
+    return said
+
+
 def by_check(log, goals):
     """What refused an edit: the kind, and the function with its goal."""
     if is_proved(log):
@@ -141,7 +164,9 @@ def by_check(log, goals):
     if not VERDICT.search(log):
         why = NO_CODE.search(log)
         return "BROKEN", why[0][:160] if why else last_line(log)
-    log = re.sub(r"^so far: ", "", log, flags=re.M)
+    # A function that calls one which is not proved is refused for that, whatever its own goals are.
+    said = ["\n".join(it) for it in said_of(log).values()]
+    log = "\n".join(it for it in said if not WAITS.search(it))
     refused = re.findall(r"^\./proofs/(\S+)/(?:Answers|Invariants)\.antt:\d+:\d+: error: `([^`]+)`(.*)$", log, re.M)
     answers = {(folder, goal) for folder, goal, why in refused if not NAMES_ALONE.search(why)}
     # An answer rests on a lemma beside it that no longer holds.
@@ -165,11 +190,16 @@ def by_check(log, goals):
     return "names", ("gone: " if gone else "") + first[:160]
 
 
+def has_ended(log, status):
+    """Returns False if a run of tests was ended because it was out of time."""
+    return status != 124 and not re.search(r"had not ended|did not end within|run=(?!ended|none)", log)
+
+
 def by_tests(log, test, status):
     """The outcome of a mutant with this test, from the output of `rt try --test` or `rt test`."""
     if re.search(rf"^test {re.escape(test)} \.\.\. ok$", log, re.M):
         return "ALIVE", test
-    if f"test {test} ... FAILED" in log or re.search(r"had not ended|run=(?!ended|none)", log) or status == 124:
+    if f"test {test} ... FAILED" in log or not has_ended(log, status):
         return "test", test
     if re.search(r"^logic=not-proved", log, re.M):
         return "goal", next((it for it in log.splitlines() if ": no proof" in it or "error: `" in it), "")[:160]
@@ -194,9 +224,10 @@ def is_of_tests(crate, mutant):
 
 class Checks:
     """The mutants of one crate that a goal must refuse, each tried in a copy of the crate over the work that was kept; with its tests if one is of
-    what is read only for these."""
+    what is read only for these. A check of several mutants has up to `jobs` processes."""
 
-    def __init__(self, crates, crate, mutants, room):
+    def __init__(self, crates, crate, mutants, room, jobs):
+        self.jobs = jobs
         self.with_tests = ["--test"] * any(is_of_tests(crate, it) for it in mutants)
         self.folder = lay_out(crates, crate.name, room / "repository")
         take_kept(crate, self.folder)
@@ -204,19 +235,19 @@ class Checks:
             raise SystemExit(f"{crate.name} is not proved as it is")
         generated = room / "generated"
         generated.mkdir()
-        self.check("--generated", str(generated))
+        self.check("--generated", str(generated), jobs=jobs)
         self.goals = goals_of(generated)
 
-    def check(self, *more):
-        return ran(["rt", "check", "--jobs", "1", *self.with_tests, *more], self.folder)[0]
+    def check(self, *more, jobs=1):
+        return ran(["rt", "check", "--jobs", str(jobs), *self.with_tests, *more], self.folder)[0]
 
-    def check_with(self, changes):
+    def check_with(self, changes, jobs=1):
         """The output of a check of the crate with the changes, or why they can't be made; afterwards the crate is as it was."""
         bodies, why = changed(self.folder, changes)
         was = {path: path.read_bytes() for path in bodies}
         for path, body in bodies.items():
             path.write_text(body)
-        log = "" if why else self.check()
+        log = "" if why else self.check(jobs=jobs)
         for path, body in was.items():
             path.write_bytes(body)
         return log, why
@@ -233,10 +264,68 @@ class Checks:
                 kind = "meant" if is_proved(said) else "shape"
         return kind, where, log
 
+    def folder_of(self, mutant):
+        """The folder of proofs of the one function whose body a mutant edits; None if it edits anything else, or if the folder is not certain."""
+        file, function = edited_function(self.folder, mutant.changes) or ("", None)
+        if not function:
+            return None
+        owners = [it for it in re.findall(r"\w+", function.owner) if len(it) > 1] or [pathlib.PurePath(file).stem]
+        found = [it for it in self.goals if re.search(rf"\b(?:{'|'.join(owners)})\w*/{function.name}$", it)]
+        return found[0] if len(found) == 1 else None
+
+    def tried_at_once(self, mutants):
+        """What one check says of mutants that each edit the body of another function, by the folders of these: how each was refused, by what, the output.
+
+        The proof of a function reads its own body and the contracts of the others: only functions that call one another in a cycle can open each other's
+        bodies, and these have one folder, which `folder_of` does not find. So an edit of a body opens goals of this function alone, and what the check
+        refuses of a function is refused because of its own mutant. If the check refuses anything of another function, or gives no verdict, then one
+        of the mutants reaches further than its function: nothing is concluded, and each half is tried by itself. A function that calls one that is not
+        proved is not tried to its end. The check says so, and shows nothing of its mutant, which `waits`.
+        """
+        log, why = self.check_with([change for it in mutants.values() for change in it.changes], min(self.jobs, len(mutants)))
+        said = {folder: "\n".join(lines) for folder, lines in said_of(log).items()}
+        strangers = [it for it, text in said.items() if it not in mutants and REFUSED.search(text) and not WAITS.search(text)]
+        if why or strangers or not VERDICT.search(log):
+            half, parts = len(mutants) // 2, list(mutants.items())
+            return self.tried_at_once(dict(parts[:half])) | self.tried_at_once(dict(parts[half:])) if half else {}
+        outcomes = {}
+        for folder in mutants:
+            log = said.get(folder, "") + "\nlogic=not-proved"
+            outcomes[folder] = *(("waits", "") if WAITS.search(log) else by_check(log, self.goals)), log
+        return outcomes
+
+    def each_tried(self, mutants, is_alone):
+        """Yields each mutant, how it was refused, by what, and the output. Those that edit the body of a function are tried at once with such mutants of other
+        functions, and alone if no goal of the function was open then. All others are tried alone, and all if `is_alone`."""
+        left, alone, waiting = collections.defaultdict(list), [], []
+        for it in mutants:
+            folder = None if is_alone else self.folder_of(it)
+            (left[folder] if folder else alone).append(it)
+        while left:
+            # Those that waited come next, without those that they waited for.
+            tried = {folder: left[folder][0] for folder in waiting or left}
+            outcomes = self.tried_at_once(tried)
+            controls = {folder: harmless(tried[folder].changes) for folder, (kind, *_) in outcomes.items() if kind == "search"}
+            controls = {folder: changes for folder, changes in controls.items() if changes}
+            is_meant = controls and is_proved(self.check_with(sum(controls.values(), []), min(self.jobs, len(controls)))[0])
+            waiting = [folder for folder, (kind, *_) in outcomes.items() if kind == "waits"]
+            if len(waiting) == len(tried):
+                waiting = []
+            for folder in (it for it in tried if it not in waiting):
+                mutant = left[folder].pop(0)
+                kind, where, log = outcomes.get(folder, ("", "", ""))
+                if kind in BY_A_GOAL and (is_meant or folder not in controls):
+                    yield mutant, "meant" if folder in controls else kind, where, log
+                else:
+                    alone.append(mutant)
+            left = {folder: some for folder, some in left.items() if some}
+        for it in alone:
+            yield it, *self.tried(it)
+
 
 def tried_by_test(crates, mutant, room):
     """The outcome of a mutant with its test: how it was refused, by what, and the output."""
-    words, tested, test = ["rt", "try", "--test"], mutant.tested, mutant.test.partition("::")[2]
+    words, tested, test = ["env", f"PATH={path_of_builds(room)}", "rt", "try", "--test"], mutant.tested, mutant.test.partition("::")[2]
     if mutant.takes_all_memory():
         words = ["rt", "test"]
         lay_out(crates, tested.name, room)
@@ -249,22 +338,30 @@ def tried_by_test(crates, mutant, room):
     bodies, why = changed(room / "crates" / mutant.crate.name, mutant.changes)
     if why:
         return "BROKEN", why, ""
+    was = {path: path.read_text() for path in bodies}
     for path, body in bodies.items():
         path.write_text(body)
     log, status = ran(words, room / "crates" / tested.name)
-    return *by_tests(log, test, status), log
+    kind, where = by_tests(log, test, status)
+    if kind == "test" and not has_ended(log, status):
+        # On a busy machine the test may be out of time without the mutant, too.
+        for path, body in was.items():
+            path.write_text(body)
+        said, status = ran(words, room / "crates" / tested.name)
+        if not has_ended(said, status):
+            return "BROKEN", f"{test} was out of time without the mutant, too", log
+    return kind, where, log
 
 
 def try_batch(crates, mutants, kept, args):
     """Tries the mutants of one batch, prints each, and keeps the outcomes."""
     with tempfile.TemporaryDirectory(prefix="mutants-") as room:
-        checks = None
-        for it in mutants:
-            if it.test:
-                kind, where, log = tried_by_test(crates, it, pathlib.Path(room))
-            else:
-                checks = checks or Checks(crates, it.crate, mutants, pathlib.Path(room))
-                kind, where, log = checks.tried(it)
+        room = pathlib.Path(room)
+        if mutants[0].test:
+            outcomes = ((it, *tried_by_test(crates, it, room)) for it in mutants)
+        else:
+            outcomes = Checks(crates, mutants[0].crate, mutants, room, max(1, lanes() // args.jobs)).each_tried(mutants, args.alone)
+        for it, kind, where, log in outcomes:
             kept.write(it, kind, where)
             print(f"{kind:7} {it.name}  {where}", flush=True)
             if args.keep:
@@ -283,7 +380,7 @@ def try_all(mutants, args):
     lost = []
 
     def start(name, _jobs):
-        more = ["--anew"] * args.anew + ["--proved"] * args.proved + (["--keep", args.keep] if args.keep else [])
+        more = ["--jobs", str(args.jobs)] + ["--anew"] * args.anew + ["--alone"] * args.alone + ["--proved"] * args.proved + (["--keep", args.keep] if args.keep else [])
         return spawn([sys.executable, __file__, "--batch", name, "--only", args.only, *more], ROOT)
 
     def ended(name, status, _seconds):
@@ -308,8 +405,10 @@ def main():
     parser = argparse.ArgumentParser(description=__doc__, formatter_class=argparse.RawDescriptionHelpFormatter)
     parser.add_argument("--jobs", type=int, default=1, help="how many are tried side by side")
     parser.add_argument("--only", default="", help="only mutants whose names contain this")
+    parser.add_argument("--by", choices=("goals", "tests"), help="only those that a goal must refuse, or only those that a test must refuse")
     parser.add_argument("--anew", action="store_true", help="also those that were tried as they are")
     parser.add_argument("--proved", action="store_true", help="also those whose tests must be proved to be run")
+    parser.add_argument("--alone", action="store_true", help="each in a check of its own")
     parser.add_argument("--keep", type=os.path.abspath, help="where to keep what was said, a file a mutant")
     parser.add_argument("--anchors", action="store_true", help="only say which are out of place")
     parser.add_argument("--batch", help=argparse.SUPPRESS)
@@ -322,6 +421,8 @@ def main():
     KEPT.parent.mkdir(exist_ok=True)
     kept = Kept(crates)
     mutants = [it for it in mutants_of(crates, args.names, args.only) if not args.batch or it.batch == args.batch]
+    if args.by:
+        mutants = [it for it in mutants if bool(it.test) == (args.by == "tests")]
     if args.only and not mutants:
         sys.exit(f"no mutant's name has {args.only!r}")
     is_known = lambda it: not args.anew and (kept.known(it) or ["BROKEN"])[0] != "BROKEN"

@@ -31,7 +31,7 @@ PARTS = ["qolb", "qolb_lock", "qolb_node", "qolb_task"]
 OF_PAGE = {"qolb": "qolb_version|qolb_result|qolb_ok", "qolb_lock": "qolb_lock|qolb_cond", "qolb_task": "qolb_task|qolb_notify"}
 # Sections of the header that are parts of DESCRIPTION, before and behind the calls; those that stand alone; all others are parts of NOTES.
 BEFORE_CALLS, BEHIND_CALLS = ["INITIALISERS", "WORDS", "KINDS"], ["ORDER AND BARGING", "TIMEOUTS", "BUSY", "NOTIFICATIONS", "TASKS"]
-ALONE = ["RETURN VALUE", "ERRORS", "EXAMPLE", "WHAT YOU MUST KEEP"]
+ALONE = ["RETURN VALUE", "ERRORS", "EXAMPLE", "RULES FOR CALLERS"]
 # The results that a page has in ERRORS, and what is above them there.
 ERRORS = {f"QOLB_{it}" for it in "MISUSE OCCUPIED NO_MEMORY BAD_KIND BAD_NODES BAD_LEASE TOO_FEW".split()}
 OF_RESULTS, OF_ERRORS = "qolb(3) has a table of the results of all calls.", "A call that returns one of these results has changed nothing."

@@ -43,6 +43,7 @@ HOLE = re.compile(r"\$([a-z_]\w*)")
 # What a file may have between two words or signs of a pattern.
 GAP = r"(?:\s|//[^\n]*\n|/\*(?:[^*]|\*(?!/))*\*/)*"
 CLOSING = set(")]}")
+MACRO = re.compile(r"^macro_rules!.*?^\}", re.M | re.S)
 KEYS = {".edits": "in|old|new|harmless|shows|test", ".edit": "file|old|new|harmless|shows|test"}
 
 
@@ -169,6 +170,23 @@ def spots(text, change):
         if len(to_the_letter) == 1:
             return to_the_letter
     return [spot for begin, end in within(text, change) for spot in pattern(change.old).finditer(text, begin, end)]
+
+
+def edited_function(folder, changes):
+    """The file and the function whose body these changes edit; None if they edit more than one body, a macro, or anything that callers read of a function."""
+    found = set()
+    for it in changes:
+        text = (folder / it.file).read_text()
+        for spot in spots(text, it):
+            around = [fn for fn in functions(text) if fn.begin <= spot.start() and spot.end() <= fn.end]
+            macros = [macro for macro in MACRO.finditer(text) if macro.start() < spot.start() < macro.end()]
+            if macros or len(around) != 1:
+                return None
+            # A body begins at the first brace that ends a line as far to the left as the function's head.
+            head = re.match(" *", text[around[0].begin :])[0]
+            body = re.compile(rf"^{head}(?! ).*\{{$", re.M).search(text, around[0].begin, around[0].end)
+            found.add((it.file, around[0]) if body and body.end() <= spot.start() else None)
+    return found.pop() if len(found) == 1 else None
 
 
 def lacking(text, change):

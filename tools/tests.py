@@ -123,6 +123,15 @@ def leave_out_of_files(folder, is_left_out):
 # ---- Running them ----
 
 
+def path_of_builds(room):
+    """Writes the stand-in for the shell to `room`, and returns the PATH with which `rt try` finds it."""
+    shell = room / "bin" / "sh"
+    shell.parent.mkdir(exist_ok=True)
+    shell.write_text(SHELL)
+    shell.chmod(0o755)
+    return f"{shell.parent}:{os.environ['PATH']}"
+
+
 def late_of(said):
     """The names of the tests that were out of time."""
     return [name for name, why in FAILED.findall(said) if OUT_OF_TIME.search(why)]
@@ -150,16 +159,13 @@ def lay_out_tests(crates, names, room):
 def try_all(crates, names, room):
     """Runs the tests of these crates, in a copy of the repository in `room`; returns how many passed, how many failed, and which were out of time."""
     tried = lay_out_tests(crates, names, room)
-    shell = room / "bin" / "sh"
-    shell.parent.mkdir()
-    shell.write_text(SHELL)
-    shell.chmod(0o755)
+    builds_alone = ["env", f"PATH={path_of_builds(room)}"]
     counts = {"passed": 0, "failed": 0}
     all_late = []
 
     def start(name, _jobs):
         with (room / f"{name}.log").open("w") as log:
-            words = ["env", f"PATH={shell.parent}:{os.environ['PATH']}", "rt", "try", "--test", "--seconds", str(CLOCK_SECONDS)]
+            words = [*builds_alone, "rt", "try", "--test", "--seconds", str(CLOCK_SECONDS)]
             # At the first limit a process gets SIGXCPU, which tells it from one that ended for lack of memory.
             return spawn(["prlimit", f"--cpu={SECONDS}:{SECONDS + 60}", *words], room / "crates" / name, log)
 

@@ -103,8 +103,8 @@
  * SANITIZERS AND DEBUGGERS
  *
  * The library tells the thread sanitizer (-fsanitize=thread) of each grant and each release. The sanitizer sees every
- * lock as an object of its own. It sees lines that have the same label as one object, and also a few lines that have
- * different labels, so it may miss a race between such lines.
+ * lock as an object of its own. Lines that have the same label are one object to it, and so are some lines that have
+ * different labels. Therefore it may miss a race between such lines.
  *
  * Files that are compiled with -DQOLB_HELGRIND or -DQOLB_DRD tell the same to helgrind or drd, the tools of valgrind.
  * These tools must suppress reports about the library's own accesses to memory:
@@ -195,8 +195,8 @@
  *
  * Usually a thread is overtaken less often, because the first waiter requests the lock. It does so once a barging
  * thread has overtaken it and it has found the lock taken for 2 us, or 1 ms after it fell asleep. Then the next thread
- * that leaves hands the lock over to it. A limit above 65,535 counts as 65,535. A lock with a limit of 0 or 1 is
- * strict.
+ * that leaves the lock hands it over to the first waiter. A limit above 65,535 counts as 65,535. A lock with a limit
+ * of 0 or 1 is strict.
  *
  * Use a barging lock with a limit of 1,024 where you would use a mutex. Use a strict lock where threads have to be
  * served in the order in which they asked, or where the longest wait matters more than throughput.
@@ -219,14 +219,15 @@
  *
  * WAITING
  *
- * A thread with a ticket polls first. If it is the next one, it polls every 90 ns. For each other thread before it, its
- * pause is 150 ns longer. Once it has seen how long a hand-over takes, its pause is three quarters of that time longer
- * instead, but at most 500 ns for each thread. How long the thread polls depends on the number of threads before it,
- * and on the number of processors that the process may use:
+ * A thread with a ticket polls first. If it is the next one, it polls every 90 ns. Each other thread before it makes
+ * the pause between two polls 150 ns longer. Once the thread has seen how long a hand-over takes, each of them makes
+ * the pause longer by three quarters of that time instead, up to 500 ns. How long the thread polls depends on the
+ * number of threads before it, and on the number of processors that the process may use:
  *
- * - If there are fewer threads than processors, it polls for 50 us, or for 1 us for each thread if that is longer.
- * - If there are fewer than twice as many threads as processors, it polls for 50 us.
- * - If there are more threads, it polls for 2 us.
+ * - If fewer threads are before it than there are processors, it polls for 50 us, or for 1 us for each of these threads
+ *   if that is longer.
+ * - If fewer than twice as many threads are before it, it polls for 50 us.
+ * - If more threads are before it, it polls for 2 us.
  *
  * Once a thread in a strict lock has seen as many threads before it as there are processors, it yields instead of
  * pausing before each poll, while fewer than twice as many threads are before it. Each yield counts as 500 ns of
@@ -277,7 +278,7 @@
  * - A qolb::Mutex is not poisoned. Its lock() fails with Stopped::Closed or Stopped::Misuse.
  * - Its lock is on the heap from its first use on, because a value in Rust may move.
  *
- * WHAT YOU MUST KEEP
+ * RULES FOR CALLERS
  *
  * - Initialise a lock or a condition by an initialiser or with zeros. Do not move or copy it once it has been used.
  * - The thread that entered a lock must leave it before the thread ends. If a thread ends while it holds a lock, the
@@ -287,9 +288,9 @@
  *   call it. You may free it even if a thread that left the lock has not returned from that call.
  * - Free the memory of a condition only while no thread is in a call on it.
  * - Do not call the library in a signal handler, nor in the forked child of a process with several threads.
- * - Use one copy of the library for a lock. Do not mix the static copy in a program with another copy in what the
- *   program opens at run time. A plugin that contains the static library should stay open, because glibc has room for
- *   the thread-local data of two such plugins and does not always get this room back.
+ * - Use one copy of the library for a lock. Do not mix the static copy in a program with another copy in a library
+ *   that the program opens at run time. A plugin that contains the static library should stay open, because glibc has
+ *   room for the thread-local data of two such plugins and does not always get this room back.
  *
  * If a lock does not allow a call for any other reason, the call returns QOLB_MISUSE and changes nothing.
  *
@@ -356,7 +357,7 @@
  *     link              1,232     1,784     5,096    36,008   111,528
  *     ticket            1,360     2,296     7,912    60,328   151,208
  *
- * WHAT YOU MUST KEEP
+ * RULES FOR CALLERS
  *
  * - Initialise a handle with zeros: `qolb_node node = {0};`.
  * - Move a handle by qolb_move. Never copy it.
@@ -382,8 +383,8 @@
  * twice as many nodes as the process may use processors they poll for 50 us, and on other lines for 20 us. Then they
  * sleep on a futex until the line is released, and poll again.
  *
- * They yield after a sleep. On a line that has more nodes than processors, but at most twice as many, they also yield
- * instead of pausing, once they have polled for 500 ns. What qolb_lock(3) says about waiting holds here, too.
+ * Both calls yield after a sleep. On a line that has more nodes than processors, but at most twice as many, they also
+ * yield instead of pausing, once they have polled for 500 ns. What qolb_lock(3) says about waiting holds here, too.
  *
  * A call that releases the line wakes the next holder, and also the waiter behind that one, ahead of its turn. These
  * calls are qolb_deqolb, qolb_shut, and every call that returns QOLB_CLOSED.
@@ -404,7 +405,7 @@
  * THREADS THAT END
  *
  * If a thread ends while its node holds the line or waits for it, all nodes behind it wait. Any other thread to which
- * the handle was handed (WHAT YOU MUST KEEP) may go on with it. qolb_state returns the state of the node.
+ * the handle was handed (RULES FOR CALLERS) may go on with it. qolb_state returns the state of the node.
  *
  * SPEED
  *
@@ -433,7 +434,7 @@
  *     if (got == QOLB_GRANTED) work(), qolb_task_leave(&task);
  *     // QOLB_WAITING: after the call of ready, call qolb_task_poll
  *
- * A node waits for an eventfd, which epoll, poll or io_uring watches:
+ * A node is notified by an eventfd, which epoll, poll or io_uring watches:
  *
  *     enum qolb_result got = qolb_enqolb(&node);
  *     if (got == QOLB_QUEUED) got = qolb_notify_fd(&node, fd);
@@ -916,8 +917,8 @@ enum qolb_result qolb_lock_leave(qolb_lock *lock);
 
 /* Leaves the lock and shuts it: takes it out of service.
  *
- * All waiting threads and tasks, those at a condition among them, and all later callers are told that the lock is
- * shut. They are told one after the other, each once the one before it has polled.
+ * All threads and tasks that wait, also at a condition, and all later callers are told that the lock is shut. They are
+ * told one after the other, each once the one before it has polled.
  *
  * Returns:
  * - QOLB_DONE: The lock is shut, and the calling thread has left it.
@@ -1062,9 +1063,9 @@ int qolb_task_holds(const qolb_task *task);
  * Returns a number of the same form as QOLB_VERSION, which is the version of the header. */
 uint32_t qolb_version(void);
 
-/* Moves the node from one handle to another, which the call returns.
+/* Moves the node to a new handle, which the call returns, and empties the old one.
  *
- * Returns a handle that has the node. The handle `from` is empty afterwards. */
+ * Returns the handle that has the node. */
 static inline qolb_node qolb_move(qolb_node *from) {
     qolb_node to = *from;
     from->own = QOLB_NULL_;

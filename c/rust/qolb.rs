@@ -327,7 +327,7 @@ pub fn version() -> u32 {
 /// A node of a line. A node that is dropped withdraws its request, or releases the line if it holds it.
 pub struct Node(UnsafeCell<Handle>);
 
-// SAFETY: a handle may go to another thread (qolb_node(3), WHAT YOU MUST KEEP). For the proved part this is proved, as `send` of `Handle` in
+// SAFETY: a handle may go to another thread (qolb_node(3), RULES FOR CALLERS). For the proved part this is proved, as `send` of `Handle` in
 // crates/qolb_nodes. The C code around it keeps what it has of a node in the node's block. No call takes a `&Node`, so nothing is shared.
 unsafe impl Send for Node {}
 

@@ -1,5 +1,5 @@
-/* What all internal files of the library use of the compiler: the visibility of names, thread-local data, and the
- * distance that keeps data apart. */
+/* Features of the compiler that all internal files of the library use: the visibility of names, thread-local data, and
+ * the distance that keeps data apart. */
 #ifndef QOLB_COMMON_H
 #define QOLB_COMMON_H
 

@@ -1,6 +1,6 @@
 // Tests ten thousand coroutines over four loops with a thread each. They share lines and a lock, and some are destroyed
 // while they wait. It also tests coroutines without a loop, which run in the releasing thread, and what a coroutine is
-// told that may not request, gives up, or finds its line closed. Prints only errors.
+// told whose node may not request the line, that gives up, or that finds its line closed. Prints only errors.
 //
 //   build/coroutines_cpp [COROUTINES [ROUNDS [SEED [SECONDS]]]]
 //

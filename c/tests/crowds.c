@@ -1,4 +1,4 @@
-/* Tests locks with great numbers: of calls that give up, of tasks and threads that wait, and of locks on the stack.
+/* Tests locks with large numbers of calls that give up, of tasks and threads that wait, and of locks on the stack.
  *
  *   build/crowds [SECONDS [THREADS [LOCKS]]]     1 second of calls that give up at once, 1,000 threads, 20,000 locks
  *
@@ -23,7 +23,15 @@ static qolb_lock lock;
 static int tells;
 static const uint32_t barging[] = {0, 2, 1024};
 
-static void begin(uint32_t barging) { lock = (qolb_lock)QOLB_LOCK_INIT_BARGING(barging); }
+/* Timeouts in nanoseconds that suffice to draw a ticket: of a strict lock, where the call then does not even sleep; and
+ * of a barging lock, where a thread spins for 10 us before it draws one. */
+enum { SHORT = 1500, SHORT_WITH_SPIN = 20000 };
+static uint64_t short_timeout;
+
+static void begin(uint32_t barging) {
+    lock = (qolb_lock)QOLB_LOCK_INIT_BARGING(barging);
+    short_timeout = barging ? SHORT_WITH_SPIN : SHORT;
+}
 
 static double ms_since(double since) { return (seconds(CLOCK_MONOTONIC) - since) * 1e3; }
 
@@ -129,11 +137,8 @@ static void tasks_wait(int many) {
 
 /* ---- Requests that gave up, far from their turns ---- */
 
-/* A timeout in nanoseconds that suffices to draw a ticket, and is too short to sleep. */
-enum { SHORT = 1500 };
-
 static void *gives_up_often(void *times) {
-    for (int k = 0; k < (int)(intptr_t)times; k++) MUST(qolb_lock_enter_within(&lock, SHORT), QOLB_TIMEDOUT);
+    for (int k = 0; k < (int)(intptr_t)times; k++) MUST(qolb_lock_enter_within(&lock, short_timeout), QOLB_TIMEDOUT);
     return NULL;
 }
 
@@ -187,8 +192,9 @@ static void *looks_often(void *limit) {
 }
 
 /* Makes calls that give up at once, again and again, while the holder is stalled. */
-static int looks_in_vain(double length, int limit, uint32_t barging) {
+static int looks_in_vain(double length, int draws, uint32_t barging) {
     begin(barging);
+    int limit = draws ? (int)short_timeout : 0;
     MUST(qolb_lock_enter(&lock), QOLB_GRANTED);
     in_another(gives_up_often, 1);
     tasks_wait(1);
@@ -383,7 +389,7 @@ int main(int argc, char **argv) {
     alarm((unsigned)length * 6 + 600);
     for (size_t k = 0; k < sizeof barging / sizeof barging[0]; k++) {
         if (late_in_time(barging[k]) || passes(GIVEN_UP, barging[k]) || passes(2 * MOST_OPEN, barging[k])) return 1;
-        if (looks_in_vain(length / 6, 0, barging[k]) || looks_in_vain(length / 6, SHORT, barging[k])) return 1;
+        if (looks_in_vain(length / 6, 0, barging[k]) || looks_in_vain(length / 6, 1, barging[k])) return 1;
         if (tasks_by_the_thousand(barging[k], 0) || tasks_by_the_thousand(barging[k], 1)) return 1;
     }
     return keeps_the_order() || too_many_tasks() || by_the_thousand(SANITIZED ? threads / 5 : threads) ||

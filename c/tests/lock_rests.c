@@ -21,14 +21,15 @@ enum { MS = 1000000, KEPT = 8 };
 
 /* How often a waiter polls before it sleeps, as qolb.h says, with four processors. If only the holder is before it, it
  * polls every 90 ns for 50 us. For each further thread before it, its pause is 150 ns longer. With eight threads before
- * it, it polls for 2 us. A spin that ends with a sleep halves the next one, and each spin begins with an eighth more.
- */
+ * it, it polls for 2 us. Once it has seen four or more before it, and while fewer than eight are, it yields in place of
+ * each pause, and a yield counts as 500 ns. A spin that ends with a sleep halves the next one, and each spin begins
+ * with an eighth more. */
 enum { PROCESSORS = 4, SOME_BEFORE = 5, MANY_BEFORE = 8 };
 #define PAUSE(before) (90 + 150 * ((before)-1))
 enum {
     NEAR = 50000 / PAUSE(1),
     BEHIND_ONE = (50000 - 90) / PAUSE(2) + 1,
-    BEHIND_SOME = (50000 - 90) / PAUSE(SOME_BEFORE) + 1,
+    BEHIND_SOME = 50000 / 500,
     BEHIND_MANY = (2000 - 90) / PAUSE(MANY_BEFORE) + 1,
     LESS = NEAR * 90 / 2 * 9 / 8 / 90
 };
@@ -253,30 +254,43 @@ static int granted_awake(void) {
 /* A call waits behind this number of threads, the holder among them, until it times out. */
 static struct turn waiting[MANY_BEFORE];
 
-static int begins_behind(unsigned before, uint64_t nanoseconds) {
+static int is_behind(unsigned before) {
     memset(waiting, 0, sizeof waiting);
     if (is_held(0)) return 1;
     for (unsigned k = 1; k < before; k++)
         WANT(qolb_core_draw_proved_(&lock_of(&lock)->core, &waiting[k].ticket), QOLB_WAITING);
+    return 0;
+}
+
+static int begins_behind(unsigned before, uint64_t nanoseconds) {
+    if (is_behind(before)) return 1;
     begins(NULL);
     WANT(enters(nanoseconds), QOLB_TIMEDOUT);
     WANT(sleeps, 1);
     return 0;
 }
 
-static int all_leave(unsigned before) {
-    leaves();
-    for (unsigned k = 1; k < before; k++) {
-        WANT(qolb_core_poll_proved_(&lock_of(&lock)->core, &waiting[k].ticket), QOLB_GRANTED);
-        WANT(qolb_core_check_open_proved_(&lock_of(&lock)->core, &waiting[k].ticket), QOLB_GRANTED);
-        qolb_leave_at_(lock_of(&lock), &waiting[k]);
-    }
+static int has_its_turn(unsigned k) {
+    WANT(qolb_core_poll_proved_(&lock_of(&lock)->core, &waiting[k].ticket), QOLB_GRANTED);
+    WANT(qolb_core_check_open_proved_(&lock_of(&lock)->core, &waiting[k].ticket), QOLB_GRANTED);
+    qolb_leave_at_(lock_of(&lock), &waiting[k]);
+    return 0;
+}
+
+static int rest_leave(unsigned first, unsigned before) {
+    for (unsigned k = first; k < before; k++)
+        if (has_its_turn(k)) return 1;
     WANT(qolb_lock_destroy(&lock), QOLB_DONE);
     return 0;
 }
 
-/* Behind at least as many threads as there are processors, a waiter yields before each poll. Behind twice as many, it
- * polls for a shorter time, and does not yield. */
+static int all_leave(unsigned before) {
+    leaves();
+    return rest_leave(1, before);
+}
+
+/* Behind at least as many threads as there are processors, a waiter yields in place of each pause. Behind twice as
+ * many, it polls for a shorter time, and does not yield. */
 static int far_from_its_turn(void) {
     if (begins_behind(PROCESSORS - 1, MS)) return 1;
     WANT(yields, 0);
@@ -287,6 +301,23 @@ static int far_from_its_turn(void) {
     WANT(polls, BEHIND_MANY);
     WANT(yields, 0);
     return all_leave(MANY_BEFORE);
+}
+
+static void two_leave(void) {
+    leaves();
+    if (has_its_turn(1)) wrong++;
+}
+
+/* A waiter still yields once fewer threads are before it than there are processors. The poll of the thread that has its
+ * turn meanwhile is counted, too. */
+static int yields_when_nearer(void) {
+    if (is_behind(SOME_BEFORE)) return 1;
+    begins(two_leave);
+    event.at_poll = 10;
+    WANT(enters(MS), QOLB_TIMEDOUT);
+    WANT(polls, BEHIND_SOME + 1);
+    WANT(yields, BEHIND_SOME);
+    return rest_leave(2, SOME_BEFORE);
 }
 
 /* If yields last as long as yields to a busy thread of another program, there are none for a quarter of a second. */
@@ -520,7 +551,8 @@ int main(void) {
     if (with_one_processor()) return 1;
     atomic_store(&qolb_pauses_, 80); /* it is set because there may be one processor */
     atomic_store(&qolb_processors_, PROCESSORS);
-    if (late(0) || late(64) || sleeps_on() || head_sleeps_on() || granted_awake() || far_from_its_turn()) return 1;
+    if (late(0) || late(64) || sleeps_on() || head_sleeps_on() || granted_awake()) return 1;
+    if (far_from_its_turn() || yields_when_nearer()) return 1;
     if (at_the_end(0) || at_the_end(1) || woken_for_nothing(0) || woken_for_nothing(64) || at_condition()) return 1;
     for (uint64_t barging = 0; barging <= 64; barging += 64)
         if (at_condition_beside_a_call(barging, 15 * MS) || at_condition_beside_a_call(barging, 60 * MS)) return 1;

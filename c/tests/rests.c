@@ -34,13 +34,17 @@ enum { BY_PROBE = 1 };
 enum { BY_PROBE = 0 };
 #endif
 
-/* How often a node polls before it sleeps, as qolb.h says. It polls every 60 ns: for 50 us on a line with no more nodes
- * than processors (here four), and for 20 us on other lines. It polls for at least 2 us, and for at least 10 us once it
+/* How often a node polls before it sleeps, as qolb.h says, with four processors. It polls every 60 ns: for 50 us on a
+ * line of at most eight nodes, and for 20 us on other lines. It polls for at least 2 us, and for at least 10 us once it
  * has slept. It pauses as long as 90 ns are left. There is one poll before the pauses, one after each pause, and one
  * before the sleep. */
-enum { PAUSE = 60 };
+enum { PROCESSORS = 4, PAUSE = 60 };
 #define POLLS(nanoseconds) (((nanoseconds)-90) / PAUSE + 1)
 enum { NEAR = POLLS(50000), UNKNOWN = POLLS(20000), LEAST = POLLS(2000) };
+/* On a line of five to eight nodes it pauses nine times, until 500 ns are over, and then yields in place of each pause.
+ * A yield counts as 500 ns. */
+enum { FIRST_PAUSES = 9, YIELD = 500 };
+#define YIELDS(nanoseconds) (((nanoseconds)-90 - FIRST_PAUSES * PAUSE) / YIELD + 1)
 /* The same after a spin that ended with a sleep: half as often, and an eighth of that more. */
 enum { LESS = POLLS(NEAR * PAUSE / 2 * 9 / 8) };
 /* How long 64 pauses take by the clock in each run in which they are timed, between two clock calls, and the number of
@@ -356,47 +360,71 @@ static int rests(uint32_t kind) {
     return 0;
 }
 
-/* Returns the polls of the next spin that ends with a sleep. Its length is an eighth more than before, but at most 50
- * us. On a line with more nodes than processors it ends after 20 us. Afterwards the length is half of it, but not below
- * `least`. */
-static uint64_t next_spin(uint64_t *length, uint64_t nodes, uint64_t least) {
+static int may_all_run(uint64_t nodes) { return nodes <= PROCESSORS; }
+static int are_too_many_to_tell(uint64_t nodes) { return nodes > 2 * PROCESSORS; }
+
+/* A spin that ends with a sleep: how often the node pauses or yields, and how often it yields. */
+struct rests {
+    uint64_t all, yields;
+};
+
+static struct rests rests_in(uint64_t length, uint64_t nodes) {
+    if (may_all_run(nodes) || are_too_many_to_tell(nodes)) return (struct rests){POLLS(length), 0};
+    return (struct rests){FIRST_PAUSES + YIELDS(length), YIELDS(length)};
+}
+
+/* Returns the next spin that ends with a sleep. Its length is an eighth more than before, but at most 50 us. On a line
+ * with more than twice as many nodes as processors it ends after 20 us. The last yield counts as no more than what is
+ * left. Afterwards the length is half of it, but not below `least`. */
+static struct rests next_spin(uint64_t *length, uint64_t nodes, uint64_t least) {
     uint64_t grown = *length + *length / 8;
     *length = *length && grown < 50000 ? grown : 50000;
-    uint64_t polls = POLLS(nodes > 4 && *length > 20000 ? 20000 : *length), half = polls * PAUSE / 2;
+    if (are_too_many_to_tell(nodes) && *length > 20000) *length = 20000;
+    struct rests spin = rests_in(*length, nodes);
+    uint64_t lasts = (spin.all - spin.yields) * PAUSE + spin.yields * YIELD;
+    uint64_t half = (lasts < *length ? lasts : *length) / 2;
     *length = half > least ? half : least;
-    return polls;
+    return spin;
 }
 
 /* Each spin that ends with a sleep makes the next one shorter, down to the least. A spin after a sleep has a length of
- * its own. On a line with more nodes than processors both are shorter. */
+ * its own, and a yield before its first pause. */
 static int learns(uint32_t kind, uint64_t nodes) {
+    enum { MOST = 9 };
     qolb_bytes zeros = {{0}};
-    qolb_node n[6] = {{0}};
-    uint64_t length[2] = {0, 0}, first = 0, woken = 0;
+    qolb_node n[MOST] = {{0}};
+    uint64_t length[2] = {0, 0};
+    struct rests first = {0}, woken = {0};
     WANT(qolb_open(kind, 1, nodes, QOLB_NO_LEASE, &zeros, n, nodes), QOLB_DONE);
     WANT(qolb_acquire(&n[0]), QOLB_GRANTED);
     begins(NULL);
     for (unsigned k = 0; k < 20; k++) {
-        looks = 0;
+        looks = yields = 0;
         holder = &n[k % 2];
         event.does = releases;
         event.at_sleep = sleeps + 2;
         WANT(qolb_acquire(&n[1 - k % 2]), QOLB_GRANTED);
         first = next_spin(&length[0], nodes, 2000);
         woken = next_spin(&length[1], nodes, 10000);
-        WANT(looks, first + 2 + woken + 2 + 1);
+        WANT(looks, first.all + 2 + woken.all + 2 + 1);
+        WANT(yields, first.yields + 1 + woken.yields);
     }
-    WANT(first >= LEAST && first <= LEAST * 3 / 2, 1);
-    WANT(woken, POLLS(10000 * 9 / 8));
+    struct rests least = rests_in(2000, nodes), least_woken = rests_in(10000 * 9 / 8, nodes);
+    WANT(first.all >= least.all && first.all <= least.all * 3 / 2, 1);
+    WANT(woken.all, least_woken.all);
+    WANT(woken.yields, least_woken.yields);
     for (unsigned k = 0; k < 60; k++) {
         holder = &n[k % 2];
         event.does = releases;
         event.at_look = looks + 2;
         WANT(qolb_acquire(&n[1 - k % 2]), QOLB_GRANTED);
     }
-    looks = 0;
+    looks = yields = 0;
     WANT(qolb_acquire_within(&n[1], MS), QOLB_TIMEDOUT);
-    WANT(looks, (nodes > 4 ? UNKNOWN : NEAR) + 2);
+    if (may_all_run(nodes)) WANT(looks, NEAR + 2);
+    else if (are_too_many_to_tell(nodes)) WANT(looks, UNKNOWN + 2);
+    else WANT(looks, FIRST_PAUSES + YIELDS(50000) + 2);
+    WANT(yields, may_all_run(nodes) || are_too_many_to_tell(nodes) ? 0 : YIELDS(50000));
     WANT(qolb_deqolb(&n[0]), QOLB_DONE);
     for (uint64_t k = 0; k < nodes; k++) WANT(qolb_node_free(&n[k]), QOLB_DONE);
     return 0;
@@ -717,10 +745,11 @@ int main(void) {
     now = 5000000000;
     if (counts_pauses() || has_one_processor()) return 1;
     atomic_store(&qolb_pauses_, 80); /* it is set because there may be one processor */
-    atomic_store(&qolb_processors_, 4);
+    atomic_store(&qolb_processors_, PROCESSORS);
     for (uint32_t kind = 0; kind < QOLB_KINDS; kind++)
-        if (rests(kind) || learns(kind, 2) || learns(kind, 6) || withdraws_late(kind, 0) || withdraws_late(kind, 1) ||
-            each_passes_on(kind) || wakes_whom_it_should(kind) || woken_for_nothing(kind))
+        if (rests(kind) || learns(kind, 2) || learns(kind, 4) || learns(kind, 5) || learns(kind, 8) ||
+            learns(kind, 9) || withdraws_late(kind, 0) || withdraws_late(kind, 1) || each_passes_on(kind) ||
+            wakes_whom_it_should(kind) || woken_for_nothing(kind))
             return 1;
     WANT(wrong, 0);
     return 0;

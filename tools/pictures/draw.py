@@ -1,5 +1,5 @@
 #!/usr/bin/env python3
-"""Writes the pictures of the pages, docs/figures/*.svg.
+"""Writes the pictures of the pages that the program does not draw, docs/figures/*.svg.
 
     tools/pictures/draw.py            writes them
     tools/pictures/draw.py --check    writes nothing, and ends with 1 if one differs from what would be written
@@ -10,16 +10,14 @@ To see one as an image: rsvg-convert --background-color white docs/figures/layer
 import pathlib
 import sys
 
-import handovers
-import layers
+import diagrams
 import plots
-import states
 
 FOLDER = pathlib.Path(__file__).resolve().parents[2] / "docs/figures"
 
 
 def main():
-    drawn = {**handovers.pictures(), **layers.pictures(), **plots.pictures(), **states.pictures()}
+    drawn = {**diagrams.pictures(), **plots.pictures()}
     stale = []
     for name, picture in drawn.items():
         path = FOLDER / f"{name}.svg"

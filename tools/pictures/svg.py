@@ -7,7 +7,7 @@ import pathlib
 import re
 from xml.sax.saxutils import escape
 
-PROGRAM = pathlib.Path(__file__).resolve().parents[2] / "crates/qolb_shapes/src/svg.rt"
+PROGRAM = pathlib.Path(__file__).resolve().parents[2] / "crates/qolb_draw/src/svg.rt"
 # The key: the class of a bar in the program's pictures, and what it means.
 KEY = {"waits": "waits", "turn": "may take its turn", "holds": "holds the line"}
 

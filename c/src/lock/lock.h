@@ -1,5 +1,5 @@
-/* The C code around the proved core of a lock (qolb_lock(3)): the layout of a lock's bytes, and what the files of this
- * folder call of each other.
+/* The C code around the proved core of a lock (qolb_lock(3)): the layout of a lock's bytes, and the functions by which
+ * the files of this folder call each other.
  *
  * The decision logic is proved: each step on a shared word that grants, passes, withdraws, shuts or counts is a call of
  * core.h, with the lock and a ticket. The files of this folder find the ticket, spin, sleep and wake. A file calls only

@@ -1,4 +1,4 @@
--- The law that the first lane of a line never falls. (Of this project.)
+-- The data invariant that the first lane of a line never decreases. The definitions are this project's own.
 use Rattle.std.specs.Prelude.{ℕ, ◌≤◌, List}
 use Rattle.std.proofs.Math.Nat.{le_refl}
 use Rattle.line_lanes.specs.Lane.{lane_of}
@@ -7,6 +7,6 @@ use Rattle.line_lanes.specs.Lane.{lane_of}
 abbrev pub Rises : List ℕ → List ℕ → Type 0
 Rises old new = lane_of old 0 ≤ lane_of new 0
 
--- the law allows a turn that changes nothing
+-- the data invariant allows a turn that changes nothing
 pub rises_by_nothing : (bytes : List ℕ) → Rises bytes bytes
 rises_by_nothing bytes = le_refl (lane_of bytes 0)

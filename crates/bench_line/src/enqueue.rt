@@ -1,4 +1,4 @@
-//! How a node under stress requests the line: by one call, or by two with a pause in between.
+//! How a node under stress requests the line: by one call, or by two calls with a pause between them.
 ghost use Rattle.std.specs.Prelude.{◌≡◌, ◌⊎◌, IsTrue};
 ghost use Rattle.qolb_model.specs.PortStates.{may_ask};
 ghost use Rattle.qolb_model.specs.AtTurn.{IsGranted};

@@ -1,4 +1,4 @@
-//! Rounds of a fair lock around a line: enter, add 1, leave.
+//! Rounds of a fair lock around a line: a thread enters, adds 1, and leaves.
 use crate::mutex::add_one;
 use crate::run::RunError;
 use fair_lock::FairLock;

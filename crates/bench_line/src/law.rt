@@ -1,9 +1,9 @@
-//! The law of the benchmark's lines.
+//! The data invariant of the benchmark's lines.
 ghost use Rattle.bench_line.specs.NonDecreasing.{Rises, rises_by_nothing};
 
 use qolb_model::Keep;
 
-/// The law that the first lane never falls.
+/// The data invariant that the first lane never falls.
 pub struct NonDecreasing;
 
 impl Keep for NonDecreasing {

@@ -1,4 +1,4 @@
-//! Times a line, or puts it under stress.
+//! Times the calls of a line, or puts the line under stress.
 #![tactic(auto)]
 
 ghost use Rattle.std.specs.Prelude.{All, IsTrue};

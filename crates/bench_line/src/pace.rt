@@ -1,4 +1,4 @@
-//! The time of a round.
+//! The time of one round.
 ghost use Rattle.std.specs.Prelude.{◌≡◌, ◌*◌, ◌/◌, max};
 ghost use Rattle.std.specs.Duration.{as_nanos};
 

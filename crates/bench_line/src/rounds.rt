@@ -1,4 +1,4 @@
-//! Rounds: acquire the line, add 1, release.
+//! Rounds of a line: a thread acquires it, adds 1, and releases it.
 ghost use Rattle.std.specs.Prelude.{◌≡◌, IsTrue};
 ghost use Rattle.qolb_model.specs.PortStates.{may_ask};
 ghost use Rattle.qolb_model.specs.AtTurn.{IsGranted};

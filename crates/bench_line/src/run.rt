@@ -1,4 +1,4 @@
-//! A run: opens a line, runs a task by all its nodes, merges the ports' views, and finishes the line.
+//! A run opens a line, runs a task with all its nodes, merges the views of the ports, and finishes the line.
 ghost use Rattle.std.specs.Prelude.{All, IfOk, IsTrue};
 ghost use Rattle.qolb_model.specs.PortStates.{may_ask};
 

@@ -1,4 +1,4 @@
-//! Nodes that ask, poll, withdraw, write and release at random, until one of them closes the line.
+//! Nodes request, poll, withdraw, write and release at random, until one of them closes the line.
 ghost use Rattle.std.specs.Prelude.{◌≡◌, ◌≢◌, IsTrue};
 ghost use Rattle.std.specs.Int.{abs_diff};
 ghost use Rattle.qolb_model.specs.PortStates.{may_ask};
@@ -62,7 +62,7 @@ enum Turn {
     Granted,
     /// The node withdrew its request.
     Withdrawn,
-    /// The node could not ask, because its last request is not passed yet.
+    /// The node could not ask, because its last request has not been passed yet.
     Busy,
     /// The line is closed.
     Closed,
@@ -179,7 +179,8 @@ fn ask<R: Wait, L: LineSync<NonDecreasing>, A: EnqueueStrategy<L>>(
     }
 }
 
-/// Polls until the turn. After a poll it withdraws once in 64 times, else yields once in 16 times, else spins.
+/// Polls until the turn. After a poll it withdraws once in 64 times, otherwise yields once in 16 times, otherwise
+/// spins.
 fn wait_or_withdraw<R: Wait, L: LineSync<NonDecreasing>>(
     rt: &R,
     line: &L,

@@ -1,4 +1,5 @@
-//! One history of all turns, which only grows. It exists in proofs alone; threads share a word, its length.
+//! One history of all turns, which only grows. It exists in proofs alone; threads share only one word, which has its
+//! length.
 ghost use Rattle.std.specs.Prelude.{◌≡◌, ◌+◌, ◌==◌, ◌<◌, ◌≤◌, ◌^◌, ◌++◌, ◌∷◌, ◌⊎◌, [], length, MatchBool};
 ghost use mathlib.Core.List.{IsPrefix};
 ghost use Rattle.example_fair_lock.specs.Turns.{IsChain, IsLonger, last_left};

@@ -1,7 +1,7 @@
 //! A count of acquisitions, whose total over all threads is proved.
 //!
-//! Each thread has tickets, one for each time that it enters. The value under the lock has the book of all tickets that
-//! are left. So the count and the tickets make up the number of acquisitions.
+//! Each thread has one ticket for each time that it enters. The value under the lock has the book of all tickets that
+//! are left. Therefore the count and the remaining tickets together give the number of acquisitions.
 ghost use Rattle.std.specs.Prelude.{◌≡◌, ℕ, ◌+◌, ◌*◌, ◌^◌, ◌<◌, ◌≤◌, IfSome};
 
 use fair_lock::FairLock;

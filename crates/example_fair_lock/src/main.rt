@@ -1,4 +1,5 @@
-//! Threads come and go, and share a value under a fair lock: a count whose total is proved, and a pair whose sum is.
+//! Threads come and go, and share a value under a fair lock. The examples are a count whose total is proved, a pair
+//! whose sum is proved, and a number with its proved history.
 #![tactic(auto)]
 
 mod book;

@@ -1,4 +1,5 @@
-//! Two purses under one lock: a thread that is served sees as many coins as there were, however they are moved.
+//! Two purses under one lock. A thread that is served always sees the same number of coins, however other threads moved
+//! them.
 ghost use Rattle.std.specs.Prelude.{◌≡◌, ◌+◌, ◌<◌, ◌≤◌, IfSome};
 
 use fair_lock::FairLock;

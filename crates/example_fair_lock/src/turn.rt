@@ -1,4 +1,4 @@
-//! A turn at the lock, as a history has it.
+//! A turn at the lock, as a history records it.
 
 /// What a turn found, and what it left.
 #[derive(Clone, Copy)]

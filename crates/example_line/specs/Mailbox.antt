@@ -1,4 +1,4 @@
--- The outcome of a request for the mailbox, and of a turn at it. (Of this project.)
+-- What became of a request for the mailbox, and of a turn at it. The definitions are this project's own.
 use Rattle.std.specs.Prelude.{◌≡◌, ◌≢◌, ◌⊎◌, ℕ, zero, suc, ◌+◌, ◌-◌, ◌%◌, ◌^◌, min, false, List, ◌∷◌, ◌++◌, length, drop, replicate, slice_get, Some}
 use Rattle.line_lanes.specs.Lane.{lane_of}
 use Rattle.qolb_model.specs.declared.write.Write.{Write}
@@ -13,7 +13,7 @@ use Rattle.qolb_model.specs.AtTurn.{IsWithdrawn}
 use Rattle.qolb_model.specs.Releasing.{IsTold}
 use Rattle.qolb_model.specs.Sums.{sum_of_own, KnowsOwnPlaces}
 
--- no new request, because an earlier withdrawn one is not passed yet; or the new request was withdrawn
+-- no new request, because an earlier withdrawn one has not been passed yet; or the new request was withdrawn
 abbrev pub IsLate : View → View → Type 0
 IsLate old new = IsBusy old new ⊎ IsWithdrawn new
 

@@ -1,4 +1,4 @@
--- The law that at most `SEATS` seats are sold. (Of this project.)
+-- The data invariant that at most `SEATS` seats are sold. The definitions are this project's own.
 use Rattle.std.specs.Prelude.{◌≡◌, ◌⊎◌, ℕ, ◌+◌, ◌≤◌, ◌==◌, nat_lt, if◌then◌else◌, List}
 use Rattle.line_lanes.specs.Lane.{lane_of}
 use Rattle.qolb_model.specs.declared.view.View.{View}
@@ -10,7 +10,7 @@ use Rattle.example_line.specs.declared.capacity.TheConstants.{SEATS}
 abbrev pub IsWithin : List ℕ → Type 0
 IsWithin bytes = lane_of bytes 0 ≤ SEATS
 
--- a turn that finds the law kept leaves it kept
+-- a turn that finds the data invariant kept leaves it kept
 abbrev pub StaysWithin : List ℕ → List ℕ → Type 0
 StaysWithin old new = IsWithin old → IsWithin new
 

@@ -1,4 +1,4 @@
-//! A law of the client's own: clerks sell seats from several threads, and no schedule sells more than `SEATS`.
+//! A data invariant of the client's own: clerks sell seats in several threads, and no schedule sells more than `SEATS`.
 ghost use Rattle.std.specs.Prelude.{◌≡◌, ◌*◌, ◌≤◌, IfSome, IsTrue, drop, min};
 ghost use Rattle.line_lanes.specs.Lane.{lane_of};
 ghost use Rattle.qolb_model.specs.PortStates.{may_ask};
@@ -22,7 +22,7 @@ pub const SEATS: u64 = 100;
 /// All bytes of a line. The first lane counts the seats that are sold.
 const WHOLE: Mask = Mask(0xffff_ffff_ffff_ffff);
 
-/// The law that at most `SEATS` seats are sold.
+/// The data invariant that at most `SEATS` seats are sold.
 pub struct SeatLimit;
 
 impl Keep for SeatLimit {

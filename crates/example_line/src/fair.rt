@@ -1,4 +1,5 @@
-//! Fairness for a client: a bound on a wait, in turns of other nodes, from what the interface promises of any line.
+//! Fairness for a client: a bound on a wait, counted in turns of other nodes. It follows from what the interface
+//! promises of any line.
 ghost use Rattle.std.specs.Prelude.{◌≡◌, ◌+◌, ◌≤◌, length, IsTrue};
 ghost use Rattle.qolb_model.specs.PortStates.{may_ask};
 ghost use Rattle.qolb_model.specs.Enqueueing.{Asks};

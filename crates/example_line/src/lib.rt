@@ -1,4 +1,5 @@
-//! Small programs over any line, to copy: a shared counter, a mailbox, a timed addition, and a law of the client's own.
+//! Small programs over any line, to copy: a shared counter, a mailbox, an addition with a timeout, and a data invariant
+//! of the client's own.
 #![tactic(auto)]
 
 pub mod capacity;

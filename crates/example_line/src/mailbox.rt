@@ -1,5 +1,5 @@
-//! A line as a mailbox for one value. Node 1 puts values and node 2 takes them. Neither waits for ever: after `PATIENCE` polls a node
-//! withdraws its request.
+//! A line as a mailbox for one value. Node 1 puts values into it, and node 2 takes them out. Neither waits for ever:
+//! after `PATIENCE` polls a node withdraws its request.
 ghost use Rattle.std.specs.Prelude.{◌≡◌, ◌≢◌, ◌⊎◌, ◌+◌, ◌%◌, ◌^◌, ◌≤◌, map, IsTrue, IfSome, IfNone, false};
 ghost use Rattle.std.specs.List.{sum_by};
 ghost use Rattle.qolb_model.specs.PortStates.{may_ask};
@@ -27,7 +27,7 @@ const WHOLE: Mask = Mask(0xffff_ffff_ffff_ffff);
 pub enum Acquired {
     /// The node holds the line.
     Granted,
-    /// The node withdrew its request, or made none because an earlier withdrawn request is not passed yet.
+    /// The node withdrew its request, or made none because an earlier withdrawn request has not been passed yet.
     Late,
     /// The line is closed.
     Closed,

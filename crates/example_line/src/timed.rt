@@ -1,4 +1,5 @@
-//! A turn within a time limit, or none: a node that times out withdraws, and may ask again later.
+//! A thread gets a turn within a timeout, or none. A node that times out withdraws its request, and may ask again
+//! later.
 ghost use Rattle.std.specs.Prelude.{◌≡◌, ◌≢◌, IsTrue};
 ghost use Rattle.qolb_model.specs.PortStates.{may_ask};
 ghost use Rattle.qolb_model.specs.Enqueueing.{Asks};

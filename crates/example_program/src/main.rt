@@ -1,4 +1,5 @@
-//! Threads count together over a line: each takes the line, adds 1 to its first lane, and releases it to the next.
+//! Threads count together over a line. Each thread acquires the line, adds 1 to its first lane, and releases it to the
+//! next.
 #![tactic(auto)]
 
 ghost use Rattle.std.specs.Prelude.{IsTrue};

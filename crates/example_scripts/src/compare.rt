@@ -3,7 +3,8 @@ ghost use Rattle.std.specs.Prelude.{◌≡◌, ◌↔◌, IsOk};
 
 use anyhow::{bail, ensure};
 use line_kinds::{ALL, Lock};
-use qolb_run::{AlwaysOpen, AnyKind, KINDS, WaitMode, answer_work, run_schedule_with, run_steps};
+use qolb_draw::{Form as PictureForm, draw_schedule, draw_steps};
+use qolb_run::{AlwaysOpen, REPLAYED, WaitMode, answer_work, run_schedule_with, run_steps};
 use qolb_script::{Watched, WorkKind};
 use std::alloc::Global;
 use std::sync::Wait;
@@ -34,7 +35,7 @@ pub fn compare<R: Threads + Wait + Sync>(
 ) -> anyhow::Result<()> {
     match form {
         Form::Schedule => {
-            for &kind in &KINDS {
+            for &kind in &REPLAYED {
                 let said = replay(alloc, script, kind)?;
                 expect(said.as_slice(), wanted)?;
             }
@@ -51,6 +52,28 @@ pub fn compare<R: Threads + Wait + Sync>(
         }
     }
     Ok(())
+}
+
+/// Draws the script as an SVG, and compares.
+///
+/// # Errors
+///
+/// The picture differs, or the script is refused or is work.
+pub fn compare_picture(
+    alloc: Global,
+    form: Form,
+    script: &[u8],
+    wanted: &[u8],
+) -> anyhow::Result<()> {
+    let drawn = match form {
+        Form::Schedule => draw_schedule(alloc, script, PictureForm::Svg),
+        Form::Steps => draw_steps(alloc, script, PictureForm::Svg),
+        Form::Work(_) => bail!("work has no picture"),
+    };
+    match drawn {
+        Ok(picture) => expect(picture.as_slice(), wanted),
+        Err(why) => bail!("it is refused: {why}"),
+    }
 }
 
 /// Returns an error unless `compare` takes a right answer, and refuses a wrong one and another form.
@@ -79,7 +102,7 @@ fn expect(said: &[u8], wanted: &[u8]) -> anyhow::Result<()>
 }
 
 /// The output of the schedule over lines of the kind.
-fn replay(alloc: Global, script: &[u8], kind: AnyKind) -> anyhow::Result<Vec<u8>> {
+fn replay(alloc: Global, script: &[u8], kind: Option<Lock>) -> anyhow::Result<Vec<u8>> {
     let mut said = Vec::new(alloc);
     let done = run_schedule_with(
         alloc,

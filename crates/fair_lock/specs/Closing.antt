@@ -1,4 +1,4 @@
--- What a thread knows that is not served.
+-- What a thread knows of the lock if it was not served.
 use Rattle.std.specs.Prelude.{◌≡◌, ℕ, ◌≤◌}
 use Rattle.atomic_table.specs.declared.shared.Seat.{Seat}
 use Rattle.lock_core.specs.declared.view.View.{View}
@@ -14,20 +14,20 @@ use Rattle.fair_lock.specs.declared.outcomes.TryEnterError.TheVariants as tried
 use Rattle.fair_lock.specs.declared.outcomes.EnterError.{EnterError}
 use Rattle.fair_lock.specs.declared.outcomes.EnterError.TheVariants as entered
 
--- it is not inside
+-- the thread is not inside
 abbrev pub IsOut : View → Type 0
 IsOut v = v.inside ≡ 0
 
 module _ {T : Type 0} where
-  -- it has no request at this lock, and is outside
+  -- the thread has no request at this lock, and is outside
   abbrev pub HasNoRequest : FairLock T → Seat T View → Type 0
   HasNoRequest lock seat = (seat.table_id ≡ lock.table.shared.table_id) × IsOutside (view_of seat)
 
-  -- the span of this length was over, and it has no request
+  -- the span of this length was over, and the thread has no request
   abbrev pub IsTimedOutAt : FairLock T → Duration → TimedOut T → Type 0
   IsTimedOutAt lock at_most timed_out = HasNoRequest lock timed_out.seat × (timed_out.over.at_most ≡ at_most)
 
-  -- it was told that this lock is shut, and is not served
+  -- the thread was told that this lock is shut, and is not served
   abbrev pub IsToldShut : FairLock T → Closed T → Type 0
   IsToldShut lock c = HasNoRequest lock c.seat × IsNotServed (view_of c.seat) × KnowsShut (view_of c.seat)
 
@@ -47,10 +47,10 @@ module _ {T : Type 0} where
   IfEnterTimedOut P (entered.Closed c) = Unit {0}
   IfEnterTimedOut P (entered.TimedOut l) = P l
 
-  -- it has left this lock: its request has ended, it is outside, and is not served
+  -- the thread has left this lock: its request has ended, it is outside, and it is not served
   abbrev pub HasLeft : FairLock T → Left T → Type 0
   HasLeft lock l = IsSeatOf lock.table.shared.table_id lock.table.shared.key l.seat × IsIdle (view_of l.seat) × IsNotServed (view_of l.seat) × (2 ≤ lock.barging_limit → IsOutside (view_of l.seat))
 
-  -- the requests of smaller numbers than this have ended, as far as it knows
+  -- all requests with smaller numbers than this have ended, as far as the thread knows
   abbrev pub ended_by : Left T → ℕ
   ended_by l = (view_of l.seat).ended

@@ -1,4 +1,4 @@
--- Whose span is over, or is not.
+-- Which spans of time are over, and which are not.
 use Rattle.std.specs.Prelude.{◌≡◌}
 use Rattle.fair_lock.specs.declared.span.Span.{Span}
 use Rattle.fair_lock.specs.declared.span.Over.{Over}
@@ -8,6 +8,6 @@ use Rattle.fair_lock.specs.declared.span.Rest.{Rest}
 abbrev pub IsOverOf : Span → Over → Type 0
 IsOverOf span over = (over.at_most ≡ span.at_most) × (over.since ≡ span.since.at)
 
--- that is what was left of this span, since its own beginning
+-- this is what was left of this span, since its own beginning
 abbrev pub IsRestOf : Span → Rest → Type 0
 IsRestOf span rest = (rest.at_most ≡ span.at_most) × (rest.since ≡ span.since.at)

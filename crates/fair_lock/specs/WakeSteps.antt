@@ -1,4 +1,4 @@
--- What a step on a wake word tells.
+-- What a step on a wake word tells the thread that takes it.
 use Rattle.std.specs.Prelude.{◌≡◌, ℕ, ◌+◌, ◌%◌}
 use Rattle.atomic_table.specs.Table.{Step, Me}
 use Rattle.fair_lock.specs.declared.wake.Look.{Look}
@@ -6,7 +6,7 @@ use Rattle.fair_lock.specs.declared.wake.Look.{Look}
 abbrev pub nothing_shown : Look
 nothing_shown = record { word = 0; found = 0; left = 0 }
 
--- it found this in its word, and left it so, or added to it
+-- the step found this in its word, and left it unchanged or added to it
 abbrev pub reads : Step ℕ → Me ℕ Look → ℕ → Me ℕ Look → Type 0
 reads st m n m' = m' ≡ (record { word = st.word; found = n; left = n }, m.1)
 

@@ -1,4 +1,4 @@
--- What an announcement of a sleep, a release and a wake say.
+-- What an announcement of a sleep, a release and a wake-up promise.
 use Rattle.std.specs.Prelude.{◌≡◌, ℕ, ◌+◌, ◌%◌, ◌<◌, true, false}
 use Rattle.atomic_table.specs.declared.shared.Seat.{Seat}
 use Rattle.lock_core.specs.declared.view.View.{View}
@@ -11,7 +11,7 @@ use Rattle.fair_lock.specs.declared.wake.Counted.{Counted}
 use Rattle.fair_lock.specs.declared.wake.Announced.{Announced}
 use Rattle.fair_lock.specs.declared.wake.Announced.TheVariants as announced
 
--- the waiter is at its turn; it is counted; it is not
+-- the claim holds if the waiter is at its turn, if it is counted, or if it is not
 abbrev pub IfAnnouncedAtTurn : Announced → Type 0 → Type 0
 IfAnnouncedAtTurn announced.AtTurn P = P
 IfAnnouncedAtTurn (announced.Counted c) P = Unit {0}
@@ -32,17 +32,17 @@ IfNotAnnounced announced.AtTurn P = Unit {0}
 IfNotAnnounced (announced.Counted c) P = Unit {0}
 IfNotAnnounced announced.Not P = P
 
--- it sleeps at the word that it read, while that is what it read
+-- the waiter sleeps at the word that it read, while the word is still what it read
 abbrev pub IsAtWordOf : Seen → Counted → Type 0
 IsAtWordOf seen counted = (counted.place ≡ seen.place) × (counted.low ≡ seen.low)
 
--- The thread that granted a ticket must wake the sleepers at that ticket's wake word: where it must wake any, its step found some counted there. Where it
--- must wake nobody, nobody slept for the ticket.
+-- What a thread that granted a ticket must do. If it must wake sleepers at that ticket's wake word, its step found some
+-- counted there. If it must wake nobody, nobody slept for the ticket.
 abbrev pub IsToldOf : ToWake → View → Type 0
 IsToldOf told v = (told.place ≡ v.granted % 32) × (told.asleep ≡ true → 0 < count_of v.looks.found) × (told.asleep ≡ false → GrantedToNobodyAsleep v)
 
--- The thread that left the lock word must wake the queue head at its wake word, where its step found the queue head asleep. Where it must wake nobody,
--- no queue head slept there.
+-- What a thread that left the lock word must do. If it must wake the queue head at its wake word, its step found the
+-- queue head asleep. If it must wake nobody, no queue head slept there.
 abbrev pub IsToldOfHead : ToWake → View → Type 0
 IsToldOfHead told v = (told.place ≡ 32) × (told.asleep ≡ true → asleep_of v.looks.found ≡ 1) × (told.asleep ≡ false → LeftQuietly v)
 

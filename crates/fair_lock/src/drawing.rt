@@ -1,4 +1,4 @@
-//! A thread draws a ticket, and waits for its turn.
+//! A thread draws a ticket and waits for its turn.
 ghost use Rattle.std.specs.Prelude.{◌≡◌, ◌≤◌, false};
 ghost use Rattle.fair_lock.specs.Closing.{IsOut};
 ghost use Rattle.fair_lock.specs.Found.{ShowsNoEntry};
@@ -10,17 +10,17 @@ use lock_core::layout::MAX_WINDOW;
 use lock_core::{DrawWithinResult, ValueSeat, draw_within};
 use std::sync::{Wait, WaitMethods};
 
-/// A ticket at its turn.
+/// A turn of the queue, or of a newcomer.
 #[derive(Clone, Copy)]
 pub(crate) struct Turn {
     pub(crate) ticket: u64,
-    /// Its thread may have slept for it. Then the thread wakes ahead: not only the waiter that it grants, but also the one
-    /// behind.
+    /// Whether the thread may have slept for this turn. If so, it wakes ahead: it wakes not only the waiter that it
+    /// grants, but also the waiter behind that one.
     pub(crate) slept: bool,
 }
 
 impl Turn {
-    /// A turn that was found at once.
+    /// Returns the turn of a ticket that was at its turn at once.
     pub(crate) fn at_once(ticket: u64) -> Turn
         ensures { result.ticket ≡ ticket }
     {
@@ -30,7 +30,7 @@ impl Turn {
         }
     }
 
-    /// The turn of a newcomer, which is a thread that barged: it has no ticket.
+    /// Returns the turn of a newcomer, which is a thread that barged and has no ticket.
     pub(crate) fn of_newcomer() -> Turn
         ensures { result.ticket ≡ 0 }
     {
@@ -39,10 +39,11 @@ impl Turn {
 }
 
 impl<T> FairLock<T> {
-    /// Draws a ticket, and waits until the ticket is at its turn. Blocks. In a barging lock its caller has tried to barge.
+    /// Draws a ticket, and waits until the ticket is at its turn. Blocks. In a barging lock the caller has already
+    /// tried to barge.
     ///
-    /// While 2^29 requests are open it draws none, and looks again from time to time. Once `MAX_TICKETS` are drawn it waits
-    /// forever.
+    /// While 2^29 requests are open, the thread draws no ticket, and looks again from time to time. Once `MAX_TICKETS`
+    /// have been drawn, it waits forever.
     pub(crate) fn come_to_turn<R: Wait>(&self, rt: &R, seat: &mut ValueSeat<T>) -> Turn
         requires seat { IsSeatOf self.now.table.shared.table_id self.now.table.shared.key seat.old }
         requires idle { InTime seat.old IsIdle }

@@ -1,4 +1,4 @@
-//! A thread enters.
+//! A thread enters the lock, with or without waiting.
 ghost use Rattle.std.specs.Prelude.{◌≡◌, ◌≤◌, true, false, IfOk, IfErr};
 ghost use Rattle.fair_lock.specs.Closing.{IsOut, IsToldShut, HasNoRequest, IfTryClosed, IfTryBusy};
 ghost use Rattle.lock_core.specs.Views.{InTime, IsSeatOf, IsAtTurn, IsOvertakenInBounds, IsHeadInside, ServedOpen, KnowsShut};
@@ -17,15 +17,16 @@ use lock_core::{
 use std::sync::Wait;
 
 impl<T> FairLock<T> {
-    /// Enters, and waits for as long as that takes: polls for some 20 us, or for 2 us with more than four requests before
-    /// its own, and then sleeps. Blocks.
+    /// Enters, and waits for as long as that takes. Blocks: it polls for some 20 us, or for 2 us with more than four
+    /// requests before its own, and then sleeps.
     ///
-    /// A strict lock serves its callers in the order of requests. In a barging lock a thread may barge, and be served at
-    /// once. Between a request and its turn at most (p + 1) * (`barging_limit` - 1) threads barge, with p requests before it.
+    /// A strict lock serves its callers in the order of their requests. In a barging lock a thread may barge, and is
+    /// then served at once. With p requests before it, at most (p + 1) * (`barging_limit` - 1) threads barge between a
+    /// request and its turn.
     ///
     /// # Errors
     ///
-    /// If the lock is shut.
+    /// The call fails if the lock is shut.
     pub fn enter<R: Wait>(&self, rt: &R) -> Result<Guard<'_, T>, Closed<T>>
         ensures guard { IfOk result (λ guard. IsGuard guard × IsOpen guard) }
         ensures order { IfOk result IsInOrder }
@@ -45,13 +46,13 @@ impl<T> FairLock<T> {
         self.release_inside(rt, seat, turn, open)
     }
 
-    /// Enters if that can be done at once, and leaves nothing behind if not. Does not block.
+    /// Enters if that is possible at once, and otherwise leaves nothing behind. Does not block.
     ///
-    /// In a strict lock it enters, or is refused as busy, in at most five atomic steps.
+    /// In a strict lock the call enters, or is refused as busy, in at most five atomic steps.
     ///
     /// # Errors
     ///
-    /// If the lock is shut, or another thread is served or waits.
+    /// The call fails if the lock is shut, or if another thread is served or waits.
     pub fn try_enter<R: Wait>(&self, rt: &R) -> Result<Guard<'_, T>, TryEnterError<T>>
         ensures guard { IfOk result (λ guard. IsGuard guard × IsOpen guard) }
         ensures order { IfOk result IsInOrder }
@@ -127,7 +128,7 @@ impl<T> FairLock<T> {
         Err(Closed { seat })
     }
 
-    /// Releases the turn of a queue head that is inside, and leaves the lock word if the lock is shut.
+    /// Releases the turn of a queue head that is inside. If the lock is shut, the thread also leaves the lock word.
     pub(crate) fn release_inside<R: Wait>(
         &self,
         rt: &R,

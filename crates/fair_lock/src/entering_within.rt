@@ -1,4 +1,4 @@
-//! A thread enters with a timeout.
+//! A thread enters the lock with a timeout.
 ghost use Rattle.std.specs.Prelude.{◌≡◌, true, false, IfOk, IfErr};
 ghost use Rattle.fair_lock.specs.Closing.{IsOut, IsToldShut, IsTimedOutAt, IfEnterClosed, IfEnterTimedOut};
 ghost use Rattle.lock_core.specs.Views.{InTime, IsSeatOf, IsAtTurn, IsOvertakenInBounds, IsOutside};
@@ -18,15 +18,16 @@ use std::sync::{Wait, WaitMethods};
 use std::time::Duration;
 
 impl<T> FairLock<T> {
-    /// Enters, or times out once `at_most` is over and its turn has not come. Blocks for no longer than about `at_most`.
+    /// Enters, or times out once `at_most` is over and the thread's turn has not come. Blocks for no longer than about
+    /// `at_most`.
     ///
-    /// The call draws a ticket only while its request could be withdrawn. With more than some 60 requests before it, the
-    /// thread waits without a ticket, looks again every 200 us, and may time out. A thread that came later and waits without
-    /// a timeout is then served before it.
+    /// The call draws a ticket only while its request could be withdrawn. With more than some 60 requests before it,
+    /// the thread waits without a ticket, looks again every 200 us, and may time out. A thread that came later and
+    /// waits without a timeout is then served before it.
     ///
     /// # Errors
     ///
-    /// If the lock is shut, or the call timed out before its turn had come.
+    /// The call fails if the lock is shut, or if it timed out before the thread's turn had come.
     pub fn enter_within<R: Wait + Clock>(
         &self,
         rt: &R,
@@ -66,7 +67,7 @@ impl<T> FairLock<T> {
         unreachable!()
     }
 
-    /// Returns the error of a caller that has no request, once its span is over.
+    /// Returns the error of a caller that has no request, once its timeout is over.
     fn timed_out(&self, seat: ValueSeat<T>, over: Over) -> EnterError<T>
         requires seat { IsSeatOf self.now.table.shared.table_id self.now.table.shared.key seat }
         requires outside { InTime seat IsOutside }
@@ -76,8 +77,8 @@ impl<T> FairLock<T> {
         EnterError::TimedOut(TimedOut { seat, over })
     }
 
-    /// Begins the critical section of a thread at its turn of the queue. In a barging lock the call times out if the queue
-    /// head has to wait until the span is over.
+    /// Begins the critical section of a thread at its turn of the queue. In a barging lock the call times out if the
+    /// queue head would have to wait longer than the span.
     fn begin_within<R: Wait + Clock>(
         &self,
         rt: &R,

@@ -1,4 +1,5 @@
-//! A token without bytes, of what a seat showed at one moment. Only the function here makes it.
+//! A `Found` is a token without bytes that says what a seat showed at one moment. Only the function of this file makes
+//! one.
 ghost use Rattle.std.specs.Prelude.{◌≡◌, ◌<◌, ◌≤◌, ◌⊎◌};
 ghost use Rattle.lock_core.specs.Views.{InTime};
 ghost use Rattle.fair_lock.specs.Closing.{IsOut};
@@ -6,12 +7,13 @@ ghost use Rattle.fair_lock.specs.Found.{ShowsTaken};
 
 use lock_core::ValueSeat;
 
-/// The lock was taken: another thread was served, waited, or drew a ticket at that moment. The caller was outside.
+/// The lock was taken: another thread was served, waited, or drew a ticket at that moment. The caller itself was
+/// outside.
 #[derive(Drop)]
 pub(crate) struct FoundTaken(());
 
 impl FoundTaken {
-    /// Makes the token by the last steps of the seat.
+    /// Makes the token from the last steps of the seat.
     pub(crate) fn by<T>(seat: &ValueSeat<T>) -> FoundTaken
         requires taken { ShowsTaken seat.now }
         requires out { InTime seat.now IsOut }

@@ -1,4 +1,4 @@
-//! A critical section at a lock, with the right to its value.
+//! The guard of a critical section: it has the right to the lock's value until it leaves.
 ghost use Rattle.std.specs.Prelude.{◌≡◌, ◌<◌, ◌≤◌, ◌∷◌, [], IsTrue};
 ghost use Rattle.std.specs.Borrow.{sem, Lends};
 ghost use Rattle.lock_core.specs.Views.{view_of, InTime, IsSeatOf, KnowsShut, SameKnown};
@@ -12,7 +12,8 @@ use crate::outcomes::Left;
 use lock_core::ValueSeat;
 use std::sync::Wait;
 
-/// A critical section at a lock. The guard lends the lock's value, and its thread must leave: the type is not `Drop`.
+/// The guard of a critical section. It lends the lock's value, and its thread must call `leave`, because the type is
+/// not `Drop`.
 pub struct Guard<'a, T> {
     pub(crate) lock: &'a FairLock<T>,
     pub(crate) seat: ValueSeat<T>,
@@ -21,7 +22,7 @@ pub struct Guard<'a, T> {
 }
 
 impl<T> FairLock<T> {
-    /// Returns the guard of a thread that is served, and came in its order.
+    /// Returns the guard of a thread that is served and came in its order.
     #[tactic(auto, unfolding(crate::specs::Turns::IsGuard))]
     pub(crate) fn guard(&self, seat: ValueSeat<T>, turn: Turn) -> Guard<'_, T>
         requires seat { IsSeatOf self.now.table.shared.table_id self.now.table.shared.key seat }
@@ -42,7 +43,7 @@ impl<T> FairLock<T> {
 }
 
 impl<T> Guard<'_, T> {
-    /// Lends the value. The guard stays what it is, whatever is written.
+    /// Lends the value. The guard stays valid, whatever the thread writes.
     pub fn value_mut(&mut self) -> &mut T
         requires guard { IsGuard self.old }
         ensures* writes_back { sem 𝓛 (LendsValue T.row self.entry result) }
@@ -53,8 +54,8 @@ impl<T> Guard<'_, T> {
         self.seat.slot_mut(&lock.table.shared, 0)
     }
 
-    /// Shuts the lock: nobody is served after this thread, and each waiter learns that the lock is shut. One atomic step.
-    /// Until this thread leaves, `try_enter` is busy.
+    /// Shuts the lock: no thread is served after this one, and each waiter learns that the lock is shut. One atomic
+    /// step. Until this thread leaves, `try_enter` answers that the lock is busy.
     #[tactic(auto, unfolding(crate::specs::Turns::IsGuard))]
     pub fn shut(&mut self)
         requires guard { IsGuard self.old }
@@ -68,8 +69,8 @@ impl<T> Guard<'_, T> {
         lock_core::shut(&self.lock.table.shared, &mut self.seat);
     }
 
-    /// Ends the critical section: grants the next ticket, or leaves the lock word of a barging lock, and wakes the threads
-    /// that sleep for that. Does not block. A lock that was shut stays shut.
+    /// Ends the critical section. The call grants the next ticket, or leaves the lock word of a barging lock, and wakes
+    /// the threads that sleep for that. It does not block. A lock that was shut stays shut.
     #[tactic(auto, unfolding(crate::specs::Turns::IsGuard))]
     pub fn leave<R: Wait>(self, rt: &R) -> Left<T>
         requires guard { IsGuard self }
@@ -95,10 +96,10 @@ impl<T> Guard<'_, T> {
         Left { seat }
     }
 
-    /// Shows in a proof that a strict lock serves its callers in the order of requests: each request that `left` knows to
-    /// have ended is before the guard's own. One load.
+    /// Shows in a proof that a strict lock serves its callers in the order of their requests: each request that `left`
+    /// knows to have ended is before the guard's own. One load.
     ///
-    /// So of two guards of one lock, the one with the smaller number left before the other was served.
+    /// Therefore, of two guards of one lock, the one with the smaller number left before the other was served.
     #[tactic(auto, unfolding(crate::specs::Turns::IsGuard))]
     pub fn learn_order(&mut self, left: Left<T>)
         requires guard { IsGuard self.old }

@@ -1,4 +1,4 @@
-//! The queue head of a barging lock waits until it is inside.
+//! The queue head of a barging lock waits until it holds the lock word.
 ghost use Rattle.std.specs.Prelude.{◌≡◌, ◌≤◌, true, false, IfOk, IfErr};
 ghost use Rattle.fair_lock.specs.Closing.{IsOut};
 ghost use Rattle.fair_lock.specs.Found.{NotedOrNotHeld};
@@ -13,7 +13,7 @@ use std::rt::Clock;
 use std::sync::{Wait, WaitMethods};
 
 impl<T> FairLock<T> {
-    /// Waits as the queue head until it is inside. `false`: the lock is shut. Blocks.
+    /// Waits as the queue head until it is inside. Returns `false` if the lock is shut. Blocks.
     pub(crate) fn take_as_head<R: Wait>(&self, rt: &R, seat: &mut ValueSeat<T>, ticket: u64) -> bool
         requires barging { 2 ≤ self.now.barging_limit }
         requires seat { IsSeatOf self.now.table.shared.table_id self.now.table.shared.key seat.old }
@@ -46,7 +46,8 @@ impl<T> FairLock<T> {
         unreachable!()
     }
 
-    /// Waits as the queue head until it is inside, or the span is over. `false`: the lock is shut. Blocks.
+    /// Waits as the queue head until it is inside, or until the span is over. Returns `false` if the lock is shut.
+    /// Blocks.
     pub(crate) fn take_as_head_within<R: Wait + Clock>(
         &self,
         rt: &R,
@@ -112,8 +113,8 @@ impl<T> FairLock<T> {
         counted.woken();
     }
 
-    /// Requests a handoff, and sleeps until the lock word may be reserved, for no longer than is left. Blocks, but returns
-    /// at once if the lock word changed at that moment.
+    /// Requests a handoff, and sleeps until the lock word may be reserved, for no longer than the rest of the span.
+    /// Blocks, but returns at once if the lock word changed at that moment.
     fn sleep_as_head_within<R: Wait>(
         &self,
         rt: &R,

@@ -1,4 +1,7 @@
-//! A lock of a value for threads that come and go, in strict order or with barging.
+//! A fair lock: it guards a value for threads that come and go, and is strict or lets threads barge.
+//!
+//! The crate adds waiting and waking to the core of `lock_core`, and keeps the value in the slot of the core's table. A
+//! thread calls `enter`, `try_enter` or `enter_within`, and gets a guard that lends it the value.
 #![tactic(auto)]
 
 mod drawing;

@@ -1,4 +1,4 @@
-//! A lock of a value: how it is made, and taken apart.
+//! The lock and its value: how a program makes a lock, and takes it apart.
 ghost use Rattle.std.specs.Prelude.{◌≡◌, ◌≤◌, IfOk, IfErr};
 ghost use Rattle.lock_core.specs.Layout.{IsValueTable};
 ghost use Rattle.lock_core.specs.Answers.{barging_limit_of, HasValidLimit, IsOpenErrorOf};
@@ -7,9 +7,9 @@ use crate::wake::WakeWords;
 use lock_core::{LockKind, OpenError, OpenValueError, ValueTable, check_kind, open_value};
 use std::alloc::{AllocFailed, Global};
 
-/// A lock of a value for threads that come and go, in strict order or with barging.
+/// A fair lock, which owns a value. Threads that come and go enter it, in strict order or with barging.
 ///
-/// It owns the value. A thread enters, and has a guard that lends the value until it leaves.
+/// A thread that enters gets a guard, which lends the value until the thread leaves.
 #[derive(Drop)]
 pub struct FairLock<T> {
     pub(crate) table: ValueTable<T>,
@@ -20,7 +20,7 @@ pub struct FairLock<T> {
     ghost bound: { table.shared.key ≡ barging_limit },
 }
 
-/// Why a lock was not made, with the value.
+/// Why a lock was not made, with the value that the caller handed in.
 #[derive(Drop)]
 pub struct NewError<T> {
     pub error: OpenError,
@@ -28,11 +28,11 @@ pub struct NewError<T> {
 }
 
 impl<T> FairLock<T> {
-    /// Makes a strict lock, which serves its callers in the order of requests. Allocates.
+    /// Makes a strict lock, which serves its callers in the order of their requests. Allocates.
     ///
     /// # Errors
     ///
-    /// `OpenError::Memory` where memory is short. The value is returned.
+    /// The call fails with `OpenError::Memory` if memory is short. The error returns the value.
     pub fn new(alloc: Global, value: T) -> Result<FairLock<T>, NewError<T>>
         ensures strict { IfOk result (λ lock. lock.barging_limit ≡ 1) }
         ensures err { IfErr result (λ e. (e.value ≡ value) × (e.error ≡ OpenError.Memory)) }
@@ -40,13 +40,13 @@ impl<T> FairLock<T> {
         FairLock::of_kind(alloc, LockKind::Strict, value)
     }
 
-    /// Makes a barging lock, in which newly arriving threads may overtake the queue: at most `barging_limit` - 1 of them
-    /// from one queue head to the next. The limit is from 2 to 65,535. Allocates.
+    /// Makes a barging lock, in which newly arriving threads may overtake the queue. At most `barging_limit` - 1 of
+    /// them barge from one queue head to the next. The limit is from 2 to 65,535. Allocates.
     ///
     /// # Errors
     ///
-    /// `OpenError::BadBargingLimit` for a limit of less than two, `OpenError::Memory` where memory is short. The value is
-    /// returned.
+    /// The call fails with `OpenError::BadBargingLimit` if the limit is less than two, and with `OpenError::Memory` if
+    /// memory is short. The error returns the value.
     pub fn with_barging(
         alloc: Global,
         barging_limit: u16,

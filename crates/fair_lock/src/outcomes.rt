@@ -1,17 +1,19 @@
-//! Why a thread was not served, and what it has after its critical section.
+//! The outcomes of a critical section: why a thread was not served, and what it has after it left.
 ghost use Rattle.std.specs.Prelude.{◌≡◌};
 
 use crate::found::FoundTaken;
 use crate::span::Over;
 use lock_core::ValueSeat;
 
-/// The lock is shut, and serves nobody any more. This has no bytes, and shows in proofs that the caller was told of it.
+/// The lock is shut, and serves no thread any more. This value has no bytes, and shows in proofs that the caller was
+/// told so.
 #[derive(Drop)]
 pub struct Closed<T> {
     pub(crate) seat: ValueSeat<T>,
 }
 
-/// Another thread was served, or waited. This has no bytes, and shows in proofs that nothing is left behind.
+/// Another thread was served, or waited. This value has no bytes, and shows in proofs that the call left nothing
+/// behind.
 #[derive(Drop)]
 pub struct Busy<T> {
     pub(crate) seat: ValueSeat<T>,
@@ -45,7 +47,7 @@ pub enum EnterError<T> {
     TimedOut(TimedOut<T>),
 }
 
-/// A critical section has ended. This has no bytes, and shows in proofs that its thread has left.
+/// A critical section has ended. This value has no bytes, and shows in proofs that its thread has left.
 #[derive(Drop)]
 pub struct Left<T> {
     pub(crate) seat: ValueSeat<T>,

@@ -1,11 +1,11 @@
-//! A reading of the clock. Only the function here makes one, and none can be copied: a caller that shows one has read
-//! the clock.
+//! A reading of the clock. Only the function of this file makes one, and nobody can copy it. So a caller that shows a
+//! reading has read the clock.
 ghost use Rattle.std.specs.Prelude.{◌≡◌};
 
 use std::rt::Clock;
 use std::time::Instant;
 
-/// What the clock showed; none if it could not be read.
+/// What the clock showed, or `None` if it could not be read.
 #[derive(Drop)]
 pub(crate) struct Reading {
     at: Option<Instant>,

@@ -1,5 +1,5 @@
-//! A turn of the queue is released, and the lock word is left. The thread that does so is told of sleepers, and must wake
-//! them.
+//! Releases: a thread grants the next ticket, and leaves the lock word. The thread that does so is told of sleepers,
+//! and must wake them.
 ghost use Rattle.std.specs.Prelude.{◌≡◌, ◌<◌, ◌≤◌, false, IfSome, IfNone};
 ghost use Rattle.lock_core.specs.Views.{view_of, InTime, InTimeFrom, LoadGrows, IsSeatOf, IsIdle, IsInside, IsOutside, IsNotServed, HasEnded, HasTurnOf, SameKnown, SameOvertaking, SameTurn};
 ghost use Rattle.lock_core.specs.Looks.{LeavesAsFound};
@@ -12,11 +12,12 @@ use std::sync::{Wait, WaitMethods};
 
 /// The duty to wake the sleepers that a call was told of.
 ///
-/// A linear token: the type is not `Drop`, and its fields are this file's. So a thread that has it can only wake.
+/// This is a linear token: the type is not `Drop`, and its fields are private to this file. A thread that has it can
+/// therefore only wake the sleepers.
 pub(crate) struct ToWake {
     place: usize,
     asleep: bool,
-    /// The thread must also wake the waiter of the ticket behind, ahead of its turn.
+    /// Whether the thread must also wake the waiter of the ticket behind, one turn early.
     ahead: bool,
     ghost within: { place < 33 },
 }
@@ -24,7 +25,8 @@ pub(crate) struct ToWake {
 impl WakeWords {
     ghost use Rattle.fair_lock.specs.Wakes.{AddsOne};
 
-    /// Wakes the threads that sleep at the place of `told`, if it says that somebody does: then it changes the word there.
+    /// Wakes the threads that sleep at the place of `told`, if `told` says that any do. It changes the word there
+    /// first.
     #[inline]
     pub(crate) fn wake(&self, told: ToWake) -> Option<WordSeat>
         ensures woken { IfSome result (AddsOne told.place) }
@@ -50,8 +52,8 @@ impl WakeWords {
 impl<T> FairLock<T> {
     ghost use Rattle.fair_lock.specs.Wakes.{IsToldOf, IsToldOfHead};
 
-    /// Ends a turn of the queue: passes withdrawn requests, and grants the first one that is not withdrawn. A queue head
-    /// that is inside stays inside.
+    /// Ends a turn of the queue: passes withdrawn requests, and grants the first request that is not withdrawn. A queue
+    /// head that is inside stays inside.
     pub(crate) fn release<R: Wait>(&self, rt: &R, seat: &mut ValueSeat<T>, turn: Turn) -> ToWake
         requires seat { IsSeatOf self.now.table.shared.table_id self.now.table.shared.key seat.old }
         requires has { InTime seat.old (HasTurnOf turn.ticket) }
@@ -83,7 +85,7 @@ impl<T> FairLock<T> {
         unreachable!()
     }
 
-    /// Leaves the lock word. The thread must wake the queue head if that sleeps there.
+    /// Leaves the lock word. The thread must wake the queue head if the queue head sleeps there.
     pub(crate) fn leave_lock_word<R: Wait>(&self, rt: &R, seat: &mut ValueSeat<T>) -> ToWake
         requires seat { IsSeatOf self.now.table.shared.table_id self.now.table.shared.key seat.old }
         requires inside { InTime seat.old IsInside }

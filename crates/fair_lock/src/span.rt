@@ -1,4 +1,4 @@
-//! A span of time, by readings of the clock.
+//! A span of time, measured by readings of the clock.
 ghost use Rattle.std.specs.Prelude.{◌≡◌, ◌<◌, IfOk, IfErr};
 ghost use Rattle.std.specs.Duration.{as_nanos};
 ghost use Rattle.fair_lock.specs.Spans.{nanos_left};
@@ -7,14 +7,14 @@ use crate::reading::Reading;
 use std::rt::Clock;
 use std::time::{Duration, Instant};
 
-/// A span of time. It counts as over if the clock could not be read.
+/// A span of time. If the clock could not be read, the span counts as over.
 #[derive(Drop)]
 pub(crate) struct Span {
     since: Reading,
     at_most: Duration,
 }
 
-/// A span of `at_most` was over. Only `Span::left` makes one, by a reading of its own.
+/// Shows that a span of `at_most` was over. Only `Span::left` makes one, from a reading of its own.
 #[derive(Drop)]
 pub(crate) struct Over {
     since: Option<Instant>,
@@ -23,7 +23,7 @@ pub(crate) struct Over {
     ghost whole: { nanos_left since at_most by.at ≡ 0 },
 }
 
-/// What was left of a span that was not over. Only `Span::left` makes one, by a reading of its own.
+/// What was left of a span that was not over. Only `Span::left` makes one, from a reading of its own.
 #[derive(Drop)]
 pub(crate) struct Rest {
     since: Option<Instant>,
@@ -37,7 +37,7 @@ pub(crate) struct Rest {
 impl Span {
     ghost use Rattle.fair_lock.specs.Timeouts.{IsRestOf};
 
-    /// Begins a span, by a reading of the clock.
+    /// Begins a span, and reads the clock for it.
     pub(crate) fn begin<R: Clock>(rt: &R, at_most: Duration) -> Span
         ensures { result.at_most ≡ at_most }
     {
@@ -69,7 +69,7 @@ impl Span {
 }
 
 impl Rest {
-    /// Returns how long it is.
+    /// Returns how much time was left.
     pub(crate) fn left(&self) -> Duration
         ensures { result ≡ self.now.left }
     {
@@ -77,7 +77,7 @@ impl Rest {
     }
 }
 
-/// Returns what is left of `at_most` since the one reading, by the other: nothing if either failed.
+/// Returns what is left of `at_most` between the two readings, or nothing if either reading failed.
 #[tactic(auto, unfolding(crate::specs::Spans::nanos_left))]
 fn left_at(since: Option<Instant>, at_most: Duration, now: Option<Instant>) -> Duration
     ensures { as_nanos result ≡ nanos_left since at_most now }

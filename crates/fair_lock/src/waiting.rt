@@ -1,4 +1,4 @@
-//! A thread with a ticket waits for its turn: it polls, and then sleeps.
+//! A thread with a ticket waits for its turn: it polls first, and then sleeps.
 ghost use Rattle.std.specs.Prelude.{◌≡◌, true, false, IfOk, IfErr};
 ghost use Rattle.fair_lock.specs.Closing.{IsOut};
 ghost use Rattle.fair_lock.specs.Found.{FoundWaiting};
@@ -17,7 +17,8 @@ use std::sync::{Wait, WaitMethods};
 use std::thread::yield_now;
 
 impl<T> FairLock<T> {
-    /// Waits until the ticket is at its turn: polls, and then sleeps. `true`: the thread may have slept. Blocks.
+    /// Waits until the ticket is at its turn: polls, and then sleeps. Returns whether the thread may have slept.
+    /// Blocks.
     pub(crate) fn wait<R: Wait>(&self, rt: &R, seat: &mut ValueSeat<T>, ticket: u64) -> bool
         requires seat { IsSeatOf self.now.table.shared.table_id self.now.table.shared.key seat.old }
         requires queued { InTime seat.old (IsQueued ticket) }
@@ -37,14 +38,14 @@ impl<T> FairLock<T> {
             if self.sleep(rt, seat, ticket) {
                 return slept;
             }
-            // A thread that is woken may have taken the processor of the thread inside.
+            // A thread that was woken may have taken the processor of the thread that is inside.
             yield_now();
         }
         unreachable!()
     }
 
-    /// Waits until a ticket within the window of withdrawal is at its turn, or withdraws the request once the span is over.
-    /// `true`: the thread may have slept.
+    /// Waits until a ticket within the window of withdrawal is at its turn, or withdraws the request once the span is
+    /// over. If the ticket is at its turn, returns whether the thread may have slept. Blocks.
     pub(crate) fn wait_within<R: Wait + Clock>(
         &self,
         rt: &R,
@@ -93,7 +94,7 @@ impl<T> FairLock<T> {
         unreachable!()
     }
 
-    /// Polls for a while. `true`: the ticket is at its turn.
+    /// Polls for a while. Returns whether the ticket is at its turn.
     fn spin(&self, seat: &mut ValueSeat<T>, ticket: u64) -> bool
         requires seat { IsSeatOf self.now.table.shared.table_id self.now.table.shared.key seat.old }
         requires queued { InTime seat.old (IsQueued ticket) }
@@ -118,7 +119,7 @@ impl<T> FairLock<T> {
         false
     }
 
-    /// Sleeps until the ticket may be at its turn. `true`: it is. Blocks.
+    /// Sleeps until the ticket may be at its turn. Returns whether it is. Blocks.
     fn sleep<R: Wait>(&self, rt: &R, seat: &mut ValueSeat<T>, ticket: u64) -> bool
         requires seat { IsSeatOf self.now.table.shared.table_id self.now.table.shared.key seat.old }
         requires queued { InTime seat.old (IsQueued ticket) }
@@ -141,7 +142,8 @@ impl<T> FairLock<T> {
         }
     }
 
-    /// Sleeps until the ticket may be at its turn, for no longer than is left. `true`: it is. Blocks.
+    /// Sleeps until the ticket may be at its turn, for no longer than the rest of the span. Returns whether it is.
+    /// Blocks.
     fn sleep_within<R: Wait>(
         &self,
         rt: &R,

@@ -1,11 +1,11 @@
-//! Where waiters sleep, and how they are woken. Nothing here decides who has a turn.
+//! The words at which waiters sleep, and how a releasing thread wakes them. This file does not decide who has a turn.
 //!
-//! The kernel compares the low half of a word before it puts a thread to sleep, and a grant changes the high half of a
-//! cell. So waiters sleep at words of their own, 32 by their tickets and one for the queue head. A waiter reads that word,
-//! announces its sleep by the proved call, and sleeps while the word is what it read. A thread that is told of sleepers
-//! adds one to the word of the ticket that it granted, and then wakes all that sleep there. So no wake is lost between the
-//! announcement and the sleep, and 32 waiters in a row have a word each. A thread that slept also wakes the waiter behind
-//! that ticket.
+//! The kernel compares the low half of a word before it puts a thread to sleep, but a grant changes the high half of a
+//! cell. Waiters therefore sleep at words of their own: 32 words by ticket number, and one for the queue head. A waiter
+//! reads its word, announces its sleep by the proved call, and sleeps while the word is what it read. A thread that is
+//! told of sleepers adds one to the word of the ticket that it granted, and then wakes all threads that sleep there. So
+//! no wake-up is lost between the announcement and the sleep, and 32 waiters in a row have a word each. A thread that
+//! slept also wakes the waiter behind the ticket that it grants.
 ghost use Rattle.std.specs.Prelude.{◌≡◌, ◌<◌, ◌≤◌, ◌%◌, IfSome, IfNone};
 ghost use Rattle.lock_core.specs.Layout.{HasLockWords, cell_at, lock_word_at, handoff_of, to_go};
 ghost use Rattle.lock_core.specs.Views.{view_of, InTime, InTimeFrom, LoadGrows, IsSeatOf, IsQueued, IsQueuedWithin, IsAsleep, IsAtTurn, IsOvertakenInBounds, SameInside, SleepsAtLockWord, SleepsInTake, Kept};
@@ -23,23 +23,24 @@ use std::alloc::{AllocError, Global};
 use std::sync::{Wait, WaitMethods};
 use std::time::Duration;
 
-/// The number of wake words of tickets, which have them in turn.
+/// The number of wake words for tickets. A ticket uses the word of its number modulo this.
 pub(crate) const TICKETS: usize = 32;
 
-/// The wake word of the queue head, behind those.
+/// The wake word of the queue head, which comes after those of the tickets.
 pub(crate) const HEAD: usize = TICKETS;
 
-/// What a step on a wake word showed: the word, what was found there, and what was left. No value of it is made.
+/// What a step on a wake word showed: the word, what the step found there, and what it left there. The program makes no
+/// value of this type.
 pub(crate) struct Look {
     pub word: u64,
     pub found: u64,
     pub left: u64,
 }
 
-/// Shows in proofs what the last step on a wake word was. It has no bytes.
+/// Shows in proofs what the last step on a wake word was. This value has no bytes.
 pub(crate) type WordSeat = Seat<u64, Look>;
 
-/// The invariant of the wake words: none.
+/// The invariant of the wake words, which requires nothing.
 pub(crate) struct WakeInvariant;
 
 impl TableRule<u64, Look, u64> for WakeInvariant {
@@ -48,14 +49,14 @@ impl TableRule<u64, Look, u64> for WakeInvariant {
     ghost first = { λ _. steps.nothing_shown };
 }
 
-/// A look at a wake word.
+/// A thread reads a wake word.
 pub(crate) struct Read;
 
 impl Play<u64, Look> for Read {
     ghost then = { steps.reads };
 }
 
-/// A number is added to a wake word.
+/// A thread adds a number to a wake word.
 pub(crate) struct Add;
 
 impl Play<u64, Look> for Add {
@@ -69,10 +70,10 @@ pub(crate) struct WakeWords {
     ghost sized: { table.shared.table_id.words ≡ 40 },
 }
 
-/// What a waiter read at its wake word, before it announces its sleep.
+/// What a waiter read at its wake word before it announced its sleep.
 ///
-/// A linear token: the type is not `Drop`, and its fields are this file's. Only `WakeWords::see_ticket` and `see_head` make
-/// one, and only an announcement ends it.
+/// This is a linear token: the type is not `Drop`, and its fields are private to this file. Only
+/// `WakeWords::see_ticket` and `see_head` make one, and only an announcement ends it.
 pub(crate) struct Seen {
     place: usize,
     low: u32,
@@ -81,9 +82,10 @@ pub(crate) struct Seen {
     ghost as_found: { (step.me.0.word ≡ place) × (low ≡ step.me.0.found % 4294967296) },
 }
 
-/// A waiter that has announced its sleep after it read its wake word, and is counted where a release finds it.
+/// A waiter that announced its sleep after it had read its wake word, and that is counted where a release finds it.
 ///
-/// A linear token, which only an announcement makes. A thread sleeps by it, and then has to look again.
+/// This is a linear token, which only an announcement makes. A thread that has it may sleep, and has to look again
+/// afterwards.
 pub(crate) struct Counted {
     place: usize,
     low: u32,
@@ -94,14 +96,14 @@ pub(crate) struct Counted {
 pub(crate) enum Announced {
     AtTurn,
     Counted(Counted),
-    /// The waiter is not counted: its cell changed at that moment, or counts as many sleepers as it can.
+    /// The waiter is not counted, because its cell changed at that moment or can count no more sleepers.
     Not,
 }
 
 impl WakeWords {
     ghost use Rattle.fair_lock.specs.Wakes.{Finds, AddsOne};
 
-    /// Makes wake words at which nobody sleeps. Allocates 320 bytes.
+    /// Makes the wake words of a lock at which nobody sleeps. Allocates 320 bytes.
     pub(crate) fn new(alloc: Global) -> Result<WakeWords, AllocError> {
         let (table, _) = Table::of_words(alloc, &[0; 40], &0)?;
         Ok(WakeWords { table })
@@ -138,17 +140,18 @@ impl WakeWords {
         self.table.shared.load_new_seat::<Read>(place)
     }
 
-    /// Sleeps while the wake word is what the waiter read before it announced its sleep; may return early. Blocks.
+    /// Sleeps while the wake word is what the waiter read before it announced its sleep. The call may return early.
+    /// Blocks.
     pub(crate) fn park<R: Wait>(&self, rt: &R, counted: &Counted) {
         self.sleep_at(rt, counted.place, counted.low, counted);
     }
 
-    /// Sleeps in the same way, for no longer than is left.
+    /// Sleeps in the same way, but for no longer than the rest of the span.
     pub(crate) fn park_timeout<R: Wait>(&self, rt: &R, counted: &Counted, rest: &Rest) {
         self.sleep_at_within(rt, counted.place, counted.low, counted, rest.left(), rest);
     }
 
-    /// Has the kernel put the thread to sleep at the place, while the low half of the word there is `low`.
+    /// Lets the kernel put the thread to sleep at the place, while the low half of the word there is `low`.
     fn sleep_at<R: Wait>(&self, rt: &R, place: usize, low: u32, counted: &Counted)
         requires place { place ≡ counted.now.place }
         requires low { low ≡ counted.now.low }
@@ -157,7 +160,7 @@ impl WakeWords {
         self.table.shared.park(rt, place, low);
     }
 
-    /// Does the same, for at most `at_most`.
+    /// Does the same, but for no longer than `at_most`.
     fn sleep_at_within<R: Wait>(
         &self,
         rt: &R,
@@ -176,7 +179,8 @@ impl WakeWords {
         self.table.shared.park_timeout(rt, place, low, at_most);
     }
 
-    /// Wakes all that sleep at the place: first its word changes, so that nobody goes to sleep there any more.
+    /// Wakes all threads that sleep at the place. It first changes the word there, so that no other thread goes to
+    /// sleep there.
     #[cold]
     pub(crate) fn wake_all(&self, place: usize) -> WordSeat
         requires { place < 33 }
@@ -197,7 +201,7 @@ impl WakeWords {
         step
     }
 
-    /// Has the kernel wake all that sleep at the place, whose word has changed.
+    /// Lets the kernel wake all threads that sleep at the place, whose word has changed.
     fn wake_sleepers(&self, place: usize, changed: &WordSeat)
         requires place { place < 33 }
         requires changed { AddsOne place changed.now }
@@ -247,8 +251,8 @@ impl Seen {
         }
     }
 
-    /// Announces the sleep of the queue head that has requested a handoff and read its wake word. A step of this call notes
-    /// what it answers.
+    /// Announces the sleep of the queue head, which has requested a handoff and read its wake word. A step of this call
+    /// notes the sleep that the call answers.
     pub(crate) fn announce_head<T>(
         self,
         table: &SharedValue<T>,
@@ -282,7 +286,7 @@ impl Seen {
 }
 
 impl Counted {
-    /// Takes the count of a waiter back. Answers as `poll`.
+    /// Takes back the count of a waiter. Returns the same as `poll`.
     pub(crate) fn retract<T>(
         self,
         table: &SharedValue<T>,
@@ -304,7 +308,8 @@ impl Counted {
         retract_sleep(table, seat, ticket)
     }
 
-    /// The queue head has slept, and looks at the lock word again: the thread that leaves takes its note off there.
+    /// Ends a sleep of the queue head, which then looks at the lock word again. The thread that leaves the lock word
+    /// clears the note of the sleep there.
     pub(crate) fn woken(self) {
         let Counted { place: _, low: _ } = self;
     }

@@ -1,20 +1,21 @@
-//! How the queue head of a barging lock watches the lock word, so that threads may barge for a while.
+//! How the queue head of a barging lock watches the lock word, so that threads may barge for a while before it requests
+//! a handoff.
 ghost use Rattle.std.specs.Prelude.{◌≡◌, ◌≢◌, ◌+◌, ◌≤◌, Some, false};
 ghost use Rattle.lock_core.specs.Answers.{IfSeenHeld, IfSeenFree, IfSeenForHead};
 
 use crate::policy::{HEAD_LOOKS, REQUEST_PART, pause_as_head};
 use lock_core::LockWordState;
 
-/// What the queue head does after a look.
+/// What the queue head does after a look at the lock word.
 #[derive(Clone, Copy, Debug, PartialEq, Eq)]
 pub(crate) enum Next {
-    /// It takes the lock word, if the word is as it was seen.
+    /// The queue head takes the lock word, if the word is still as it was seen.
     Take,
-    /// It pauses, and looks again.
+    /// The queue head pauses, and looks again.
     Look,
-    /// It requests a handoff, and looks again.
+    /// The queue head requests a handoff, and looks again.
     Request,
-    /// It requests a handoff, and sleeps until it is woken.
+    /// The queue head requests a handoff, and sleeps until it is woken.
     Sleep,
 }
 
@@ -23,16 +24,16 @@ pub(crate) enum Next {
 pub(crate) struct Watch {
     /// The number of threads that may barge before the queue head requests a handoff.
     patience: u64,
-    /// The newcomers, which are threads that barged, since the last queue head, when it first saw the word held.
+    /// How many newcomers, which are threads that barged, the lock word counted when the queue head first saw it held.
     first: Option<u64>,
-    /// The same at its last look.
+    /// The same number at the queue head's last look.
     last: Option<u64>,
     looks: u32,
     requested: bool,
 }
 
 impl Watch {
-    /// The queue head has seen nothing yet of a lock with this barging limit.
+    /// Begins a watch. The queue head has not looked yet at the lock with this barging limit.
     pub(crate) fn new(barging_limit: u64) -> Watch {
         Watch {
             patience: barging_limit / REQUEST_PART,
@@ -43,8 +44,8 @@ impl Watch {
         }
     }
 
-    /// Returns what to do after this look. The queue head takes a word that is reserved for it, or that it sees free with no
-    /// acquisition since its last look.
+    /// Returns what the queue head does after this look. It takes the word if the word is reserved for it, or if it
+    /// sees the word free with no acquisition since its last look.
     pub(crate) fn next(&mut self, seen: LockWordState) -> Next
         ensures for_head { IfSeenForHead seen (result ≡ Next.Take) }
         ensures free { IfSeenFree seen (λ n. result ≡ Next.Take → self.old.last ≡ Some n) }
@@ -96,7 +97,7 @@ impl Watch {
         Next::Look
     }
 
-    /// Pauses before the next look: shorter once a handoff is requested.
+    /// Pauses before the next look, for a shorter time once a handoff is requested.
     pub(crate) fn pause(&self) {
         pause_as_head(self.requested);
     }

@@ -1,4 +1,4 @@
--- Answers that aren't late.
+-- Answers other than `Late`.
 use Rattle.std.proofs.Common.{◌≡◌}
 use Rattle.line_accounts.specs.declared.answer.Reply.TheVariants.{Done, Short, Over, Late, NoAccount}
 

@@ -1,4 +1,4 @@
--- The word steps of the ports of a desk.
+-- The atomic steps of the ports of a desk.
 use Rattle.std.proofs.Common.{◌≡◌, ◌≢◌, ℕ, List, set, slice_get, Some, sym, ap, ◌∙◌, subst}
 use mathlib.Core.Logic.{dite}
 use native.Mathlib.Decide.{ℕ_discrete}

@@ -1,4 +1,5 @@
--- Accounts over lines: account a is lane a mod 8 of line a / 8, and a lane is its balance. (Of this project.)
+-- Accounts over lines: account a is lane a mod 8 of line a / 8, and the number in a lane is the balance of its account.
+-- The definitions are this project's own.
 use Rattle.std.specs.Prelude.{ℕ, ◌+◌, ◌-◌, ◌/◌, ◌%◌, ◌<◌, ◌≤◌, List}
 use Rattle.line_lanes.specs.Lane.{lane_of, with_lane_of}
 use Rattle.line_accounts.specs.declared.law.TheConstants.{MAX_BALANCE}
@@ -14,7 +15,7 @@ lane_in account = account % 8
 abbrev pub AreBalances : List ℕ → Type 0
 AreBalances line = (k : ℕ) → k < 8 → lane_of line k ≤ MAX_BALANCE
 
--- the change of a turn: balances before and after it
+-- the change that a turn may make: all lanes are balances before it and after it
 abbrev pub StayBalances : List ℕ → List ℕ → Type 0
 StayBalances old new = AreBalances old × AreBalances new
 

@@ -1,4 +1,5 @@
--- The calls of a desk: what each does to the desk, with a field for each answer or for a part of it. (Of this project.)
+-- The calls of a desk: what each call does to the desk, with a field for each answer or for a part of it. The
+-- definitions are this project's own.
 use Rattle.std.specs.Prelude.{◌≡◌, ◌≢◌, ◌⊎◌, ℕ, ◌*◌, ◌<◌, ◌≤◌, List, slice_set, slice_get, Some}
 use Rattle.qolb_model.specs.declared.view.View.{View}
 use Rattle.line_accounts.specs.declared.answer.Reply.{Reply}
@@ -7,14 +8,14 @@ use Rattle.line_accounts.specs.Accounts.{line_of, lane_in}
 use Rattle.line_accounts.specs.Desks.{DeskOf}
 use Rattle.line_accounts.specs.Moves.{PaysIn, PaysOut, MovesWithin, MovesAcross, IsRefusedEither}
 
--- over `lines` lines both accounts exist, and they are two
+-- both accounts exist over `lines` lines, and they are different
 pub record AreTwo (lines source target : ℕ) : Type 0 where
   pub source_known : source < 8 * lines
   pub target_known : target < 8 * lines
   pub apart : source ≢ target
 
 module _ {Port : Type 0} (view : Port → View) where
-  -- the port at `place` changed so, and no other port was called
+  -- the port at `place` changed in this way, and no other port was called
   pub record ChangesPort (place : ℕ) (Does : View → View → Type 0) (old new : List Port) : Type 0 where
     pub port : Port
     pub port_then : Port
@@ -22,7 +23,7 @@ module _ {Port : Type 0} (view : Port → View) where
     pub is : new ≡ slice_set old place port_then
     pub does : Does (view port) (view port_then)
 
-  -- the ports at the two places changed so together, and no other port was called
+  -- the ports at the two places changed together in this way, and no other port was called
   pub record ChangesTwo (first second : ℕ) (Does : View → View → View → View → Type 0) (old new : List Port) : Type 0 where
     pub one : Port
     pub one_then : Port
@@ -33,21 +34,22 @@ module _ {Port : Type 0} (view : Port → View) where
     pub is : new ≡ slice_set (slice_set old first one_then) second other_then
     pub does : Does (view one) (view one_then) (view other) (view other_then)
 
-  -- `deposit`, over `lines` lines
+  -- what `deposit` promises, over `lines` lines
   pub record Deposits (lines account amount : ℕ) (old new : DeskOf Port) (reply : Reply) : Type 0 where
     pub unknown : reply ≡ NoAccount → (8 * lines ≤ account) × (new ≡ old)
     pub known : reply ≢ NoAccount → account < 8 * lines
     pub pays : reply ≢ NoAccount → ChangesPort (line_of account) (λ v w. PaysIn v w (lane_in account) amount old.paid_in new.paid_in reply) old.ports new.ports
     pub paid_out : new.paid_out ≡ old.paid_out
 
-  -- `take_out`
+  -- what `take_out` promises
   pub record TakesOut (lines account amount : ℕ) (old new : DeskOf Port) (reply : Reply) : Type 0 where
     pub unknown : reply ≡ NoAccount → (8 * lines ≤ account) × (new ≡ old)
     pub known : reply ≢ NoAccount → account < 8 * lines
     pub pays : reply ≢ NoAccount → ChangesPort (line_of account) (λ v w. PaysOut v w (lane_in account) amount old.paid_out new.paid_out reply) old.ports new.ports
     pub paid_in : new.paid_in ≡ old.paid_in
 
-  -- `transfer`: in one turn if both accounts are of one line; else in one turn of each line, of which the lower is asked for first
+  -- what `transfer` promises: it takes one turn if both accounts are on one line, and otherwise one turn of each line,
+  -- of which it requests the lower first
   pub record Transfers (lines source target amount : ℕ) (old new : DeskOf Port) (reply : Reply) : Type 0 where
     pub unknown : reply ≡ NoAccount → ((8 * lines ≤ source) ⊎ (8 * lines ≤ target)) × (new ≡ old)
     pub same : reply ≡ SameAccount → (source < 8 * lines) × (source ≡ target) × (new ≡ old)

@@ -1,4 +1,4 @@
--- The change of a port's view of its line in a call of a desk. (Of this project.)
+-- How a call of a desk changes a port's view of its line. The definitions are this project's own.
 use Rattle.std.specs.Prelude.{◌≡◌, ◌⊎◌, ℕ, ◌+◌, ◌<◌, ◌≤◌, ◌^◌, Bool, true, false, List, take, slice_get, Some}
 use Rattle.line_lanes.specs.Lane.{lane_of}
 use Rattle.qolb_model.specs.declared.write.Write.{Write}
@@ -19,12 +19,13 @@ use Rattle.qolb_model.specs.Sums.{KnowsOwnPlaces, HasNotShut}
 use Rattle.line_accounts.specs.Paid.{rise, fall, paid_by, drawn_by}
 use Rattle.line_accounts.specs.Desks.{IsAtRest}
 
--- the port has paid in `more` more, and drawn `drawn` more
+-- the port has paid in `more` more than before, and drawn `drawn` more
 pub record Pays (old new : View) (more drawn : ℕ) : Type 0 where
   pub paid_in : paid_by new ≡ paid_by old + more
   pub paid_out : drawn_by new ≡ drawn_by old + drawn
 
--- a turn served the port's last request: it found these bytes and left those. The turn closed the line only as the last of a lease
+-- A turn served the port's last request; it found these bytes and left those. The turn closed the line only if it was
+-- the last of a lease.
 pub record IsServed (v : View) (found left : List ℕ) : Type 0 where
   pub place : ℕ
   pub write : Write
@@ -39,7 +40,8 @@ pub record IsServed (v : View) (found left : List ℕ) : Type 0 where
 abbrev pub Leaves : View → View → List ℕ → Type 0
 Leaves held_line new left = (write : Write) × (write.bytes.bytes ≡ left) × Releases StayBalances false held_line new write
 
--- the port asked, and had a turn that found these bytes and left those. In that turn it did not shut the line
+-- The port requested the line, and had a turn that found these bytes and left those. In that turn it did not shut the
+-- line.
 pub record TakesTurn (old new : View) (found left : List ℕ) : Type 0 where
   pub continues : Continues StayBalances old new
   pub at_rest : IsAtRest new
@@ -52,7 +54,7 @@ pub record TakesTurn (old new : View) (found left : List ℕ) : Type 0 where
 abbrev pub Looks : View → View → List ℕ → Type 0
 Looks old new found = TakesTurn old new found found
 
--- the port asked, and holds the line; its turn has written nothing yet
+-- the port requested the line and holds it, and its turn has written nothing yet
 pub record Holds (old new : View) (turn : Write) : Type 0 where
   pub continues : Continues StayBalances old new
   pub places : KnowsOwnPlaces new
@@ -61,15 +63,15 @@ pub record Holds (old new : View) (turn : Write) : Type 0 where
   pub unshut : HasNotShut old → HasNotShut new
   pub pays : Pays old new 0 0
 
--- the port asked, and had no turn
+-- the port requested the line, and had no turn
 pub record AsksInVain (old new : View) : Type 0 where
   pub continues : Continues StayBalances old new
   pub at_rest : IsAtRest new
   pub unshut : HasNotShut old → HasNotShut new
   pub pays : Pays old new 0 0
 
--- why the port had no turn: its request was withdrawn; or was told that the line is closed; or could not be made. No other answer is
--- possible
+-- Why the port had no turn: its request was withdrawn, was told that the line is closed, or could not be made. No other
+-- answer is possible.
 abbrev pub IsRefused : View → View → Reply → Type 0
 IsRefused old new Late = AsksInVain old new × Asks old new × IsWithdrawn new
 IsRefused old new Closed = AsksInVain old new × Asks old new × IsTold new
@@ -113,13 +115,13 @@ MovesWithin old new source target amount Busy = IsRefused old new Busy
 MovesWithin old new source target amount NoAccount = ⊥
 MovesWithin old new source target amount SameAccount = ⊥
 
--- a refusal at one of two lines. Either the first was asked for and not granted, and the second not asked for; or the first was
--- released unchanged, since the second was asked for and not granted
+-- A refusal at one of two lines. Either the port requested the first line, was not granted it, and did not request the
+-- second; or it released the first unchanged, because it requested the second and was not granted it.
 abbrev pub IsRefusedEither : View → View → View → View → Reply → Type 0
 IsRefusedEither first first_then second second_then reply =
     (IsRefused first first_then reply × (second_then ≡ second)) ⊎ ((found : List ℕ) × Looks first first_then found × IsRefused second second_then reply)
 
--- two held lines were checked, then both were written, or neither, and both were released
+-- two held lines were checked, then either both were written or neither was, and both were released
 abbrev pub Carries : View → View → View → View → ℕ → ℕ → ℕ → Reply → Type 0
 Carries source source_then target target_then from to amount Done =
     Leaves source source_then (debited (bytes_of source) from amount) × Leaves target target_then (credited (bytes_of target) to amount) × (amount ≤ lane_of (bytes_of source) from) × HasRoom (bytes_of target) to amount
@@ -148,7 +150,8 @@ MovesAcross refused source source_then target target_then from to amount Busy = 
 MovesAcross refused source source_then target target_then from to amount NoAccount = ⊥
 MovesAcross refused source source_then target target_then from to amount SameAccount = ⊥
 
--- the same from the first of two lines up to the second, or from the second down to the first. The first is asked for first
+-- The same, from the first of two lines to the second, or from the second to the first. The first line is requested
+-- first.
 abbrev pub MovesBetween : Bool → View → View → View → View → ℕ → ℕ → ℕ → Reply → Type 0
 MovesBetween true low low_then high high_then from to amount reply = MovesAcross (IsRefusedEither low low_then high high_then) low low_then high high_then from to amount reply
 MovesBetween false low low_then high high_then from to amount reply = MovesAcross (IsRefusedEither low low_then high high_then) high high_then low low_then from to amount reply

@@ -1,4 +1,4 @@
--- Settling: all lines are finished, with all desks over them. (Of this project.)
+-- Settling: all lines are finished, together with all desks over them. The definitions are this project's own.
 use Rattle.std.specs.Prelude.{◌≡◌, ◌≢◌, ℕ, ◌<◌, List, ◌++◌, ◌∷◌, [], length, map, slice_get, Option, Some, None}
 use Rattle.std.specs.List.{sum_by}
 use Rattle.line_lanes.specs.Lane.{lanes_total}
@@ -39,19 +39,19 @@ module _ {Line Port : Type 0} (view : Port → View) (config_of : Line → LineC
   abbrev pub AreAllThere : Type 0
   AreAllThere = (i : ℕ) (line : Line) → slice_get lines i ≡ Some line → EachNode (config_of line).nodes (HasPort view desks i)
 
-  -- the least node without a port of line i. Line i is the least line that lacks a port
+  -- The smallest node without a port of line i. Line i is the smallest line that lacks a port.
   pub record IsFirstMissing (i node : ℕ) : Type 0 where
     pub line : Line
     pub at : slice_get lines i ≡ Some line
     pub least : IsLeast (config_of line).nodes (LacksPort view desks i) (HasPort view desks i) node
     pub before : (j : ℕ) (other : Line) → j < i → slice_get lines j ≡ Some other → EachNode (config_of other).nodes (HasPort view desks j)
 
-  -- why nothing is settled: a node has no port; or, only if each has one, want of memory
+  -- why nothing is settled: a node has no port; or, only if each node has one, lack of memory
   abbrev pub MayNotSettle : SettleError → Type 0
   MayNotSettle (Missing i node) = IsFirstMissing i node
   MayNotSettle Memory = AreAllThere
 
--- what `settle` hands back with an error: all that was passed, and for want of memory nothing
+-- what `settle` hands back with an error: all that the caller handed in, or nothing if memory is short
 abbrev pub IsBack : {X : Type 0} → X → SettleError → Option X → Type 0
 IsBack all (Missing i node) back = back ≡ Some all
 IsBack all Memory back = back ≡ None
@@ -62,14 +62,15 @@ pub record ArePortsOf {Port : Type 0} (desks : List (DeskOf Port)) (i : ℕ) (po
   pub each : (k : ℕ) (desk : DeskOf Port) → slice_get desks k ≡ Some desk → slice_get ports k ≡ slice_get desk.ports i
 
 module _ {Line Port : Type 0} (view : Port → View) (label_of : Line → ℕ) (config_of : Line → LineConfig) (lines : List Line) (desks : List (DeskOf Port)) where
-  -- line i was finished with the desks' ports of it: they are of one history, in which all of its requests have ended
+  -- line i was finished with the desks' ports of it, which are of one history in which all requests of the line have
+  -- ended
   pub record IsSettled (i : ℕ) (line : Line) : Type 0 where
     pub ports : List Port
     pub are : ArePortsOf desks i ports
     pub bytes : List ℕ
     pub finished : IsFinished AreBalances StayBalances (label_of line) (config_of line) (map view ports) bytes
 
-  -- each line was settled so
+  -- each line was settled in this way
   abbrev pub AreSettled : Type 0
   AreSettled = (i : ℕ) (line : Line) → slice_get lines i ≡ Some line → IsSettled i line
 

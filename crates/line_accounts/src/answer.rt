@@ -1,4 +1,4 @@
-//! Answers of a desk.
+//! The answers of a desk.
 ghost use Rattle.std.specs.Prelude.{◌≡◌, ℕ};
 
 /// The answer of a desk's call. Only `Done` changes a balance or a counter.
@@ -8,13 +8,14 @@ pub enum Reply {
     Done,
     /// The account's balance is less than the amount.
     Short,
-    /// The balance would pass `MAX_BALANCE`, or the desk's counter its type.
+    /// The balance would exceed `MAX_BALANCE`, or the desk's counter would exceed its type.
     Over,
-    /// The line was not granted within `patience` polls; the request is withdrawn.
+    /// The line was not granted within `patience` polls, and the request is withdrawn.
     Late,
     /// The line is closed.
     Closed,
-    /// The port's last request is not clear yet; the port did not ask. That request was withdrawn, or was left in its mailbox.
+    /// The port's last request is not clear yet, so the port made none. That last request was withdrawn, or the line
+    /// was left in its mailbox.
     Busy,
     /// There is no such account.
     NoAccount,
@@ -27,7 +28,7 @@ pub enum Reply {
 pub enum OpenDesksError {
     /// Memory was refused.
     Memory,
-    /// Line `line` has fewer ports than there were to be desks. It is the least such line.
+    /// The line `line` has fewer ports than there should be desks. It is the smallest such line.
     Few { line: u64 },
 }
 
@@ -36,7 +37,8 @@ pub enum OpenDesksError {
 pub enum SettleError {
     /// Memory was refused.
     Memory,
-    /// No desk has a port of `node` on `line`. It is the least such line, and there the least such node.
+    /// No desk has a port of `node` on `line`. It is the smallest such line, and `node` is the smallest such node
+    /// there.
     Missing { line: u64, node: u64 },
 }
 

@@ -1,4 +1,4 @@
-//! The bounded acquire of a port of a line of accounts.
+//! A port of a line of accounts acquires its line with a bounded number of polls.
 ghost use Rattle.std.specs.Prelude.{◌≡◌, ◌≤◌, ◌+◌, Err, IfOk, IfErr, IsTrue};
 ghost use Rattle.qolb_model.specs.Counting.{IsWithinCalls};
 ghost use Rattle.line_accounts.specs.Desks.{IsAtRest, HasWaited};
@@ -8,9 +8,10 @@ use crate::answer::Reply;
 use crate::law::AccountLaw;
 use qolb_model::{Acquired, LineSync, acquire_bounded};
 
-/// Asks for the line, and polls at most `patience` times; then withdraws the request. Does not allocate.
+/// Requests the line, polls at most `patience` times, and then withdraws the request. Does not allocate.
 ///
-/// Returns `Ok` if the port holds the line, else the reply that says why it does not: `Late`, `Closed` or `Busy`.
+/// Returns `Ok` if the port holds the line, and otherwise the reply that says why it does not: `Late`, `Closed` or
+/// `Busy`.
 pub fn ask<L: LineSync<AccountLaw>>(
     line: &L,
     port: &mut L::Port,

@@ -1,4 +1,4 @@
-//! Balances of a line, and the place of each account.
+//! The balances in a line, and the place of each account.
 ghost use Rattle.std.specs.Prelude.{◌≡◌, ℕ, ◌+◌, ◌*◌, ◌<◌, ◌≤◌, MatchOption};
 ghost use Rattle.line_lanes.specs.Lane.{lane_of};
 ghost use Rattle.line_accounts.specs.Accounts.{line_of, lane_in, HasRoom, credited, debited};
@@ -18,7 +18,7 @@ pub fn place_of(account: u64, lines: usize) -> Option<(usize, usize)>
     Some((line as usize, (account % 8) as usize))
 }
 
-/// Returns the line with `amount` more in lane `k`. Returns `None` if the balance would pass `MAX_BALANCE`.
+/// Returns the line with `amount` more in lane `k`, or `None` if the balance would exceed `MAX_BALANCE`.
 pub fn credited(line: &Line64, k: usize, amount: u64) -> Option<Line64>
     requires { k < 8 }
     ensures { MatchOption result (HasRoom line.now.bytes k amount → ⊥) (λ next.

@@ -1,4 +1,5 @@
-//! Transfers over two lines. The lower line is asked for first, and both balances are checked before either is written.
+//! Transfers between accounts of two lines. The desk requests the lower line first, and checks both balances before it
+//! writes either.
 ghost use Rattle.std.specs.Prelude.{◌≡◌, ◌≢◌, ◌⊎◌, ◌<◌, ◌≤◌, ◌+◌, Err, IfOk, IfErr, length};
 ghost use Rattle.qolb_model.specs.Counting.{IsWithinCalls};
 ghost use Rattle.qolb_model.specs.AtTurn.{IsGranted};
@@ -13,7 +14,7 @@ use crate::law::AccountLaw;
 use crate::turn::{held_line, release_unchanged, write_and_release};
 use qolb_model::LineSync;
 
-/// Asks for the first line and then for the second. If the second is not granted, the first is released unchanged.
+/// Requests the first line and then the second. If the second is not granted, releases the first unchanged.
 fn ask_both<L: LineSync<AccountLaw>>(
     first: &L,
     first_port: &mut L::Port,
@@ -106,7 +107,7 @@ fn carry<L: LineSync<AccountLaw>>(
     Reply::Done
 }
 
-/// Moves the amount to the higher line if `up`, else to the lower one. Asks for the lower line first.
+/// Moves the amount to the higher line if `up` is set, and otherwise to the lower one. Requests the lower line first.
 pub fn move_between<L: LineSync<AccountLaw>>(
     low: &L,
     low_port: &mut L::Port,

@@ -33,7 +33,8 @@ impl<L: LineSync<AccountLaw>> Model for Desk<L> {
 }
 
 impl<L: LineSync<AccountLaw>> Desk<L> {
-    /// Makes a desk of these ports, one of each line. None of them has made a request; nothing was paid at the desk.
+    /// Makes a desk of these ports, one of each line. None of them has made a request, and nothing was paid at the
+    /// desk.
     pub fn new(ports: Vec<L::Port>) -> Desk<L>
         requires { All (λ port. ((L.view port).state ≡ PortState.Idle)
             × ((L.view port).count ≡ 0)) ports.items }
@@ -72,7 +73,7 @@ impl<L: LineSync<AccountLaw>> Desk<L> {
         &self.ports[i]
     }
 
-    /// Removes the last port, and returns it; `None` if there is none.
+    /// Removes the last port and returns it, or returns `None` if there is none.
     pub(crate) fn take_last(&mut self) -> Option<L::Port>
         ensures { MatchOption result (self.new ≡ self.old) (λ port.
             self.old ≡ record self.new { ports = self.new.ports ++ port ∷ [] }) }
@@ -141,7 +142,8 @@ pub fn take_out<L: LineSync<AccountLaw>>(
 
 /// Moves the amount from one account to another. Polls at most `patience` times for each turn. Does not allocate.
 ///
-/// Over two lines the lower is asked for first; if the second is not granted, the first is released unchanged.
+/// For a transfer over two lines, the call requests the lower line first. If the second is not granted, it releases the
+/// first unchanged.
 pub fn transfer<L: LineSync<AccountLaw>>(
     lines: &[L],
     desk: &mut Desk<L>,

@@ -9,10 +9,10 @@ use crate::law::AccountLaw;
 use qolb_model::LineSync;
 use std::alloc::{AllocError, Global};
 
-/// Makes `count` desks over these lines, each with one port of each line. Desk k has the port at place k of each line; ports beyond `count`
-/// are dropped. Keeps the order of the lines.
+/// Makes `count` desks over these lines, each with one port of each line. Desk k has the port at place k of each line,
+/// and ports beyond `count` are dropped. The call keeps the order of the lines.
 ///
-/// Returns an error if a line has too few ports, or memory was refused; then lines and ports are dropped.
+/// It returns an error if a line has too few ports or if memory was refused, and then drops the lines and the ports.
 pub fn open_desks<L: LineSync<AccountLaw> + Drop>(
     alloc: Global,
     opened: Vec<(L, Vec<L::Port>)>,

@@ -1,10 +1,10 @@
-//! The law of a line of accounts.
+//! The data invariant of a line of accounts.
 use qolb_model::Keep;
 
 /// The largest balance of an account: 2^48.
 pub const MAX_BALANCE: u64 = 281_474_976_710_656;
 
-/// The law of a line of eight accounts. Each has at most `MAX_BALANCE` before and after each turn.
+/// The data invariant of a line of eight accounts. Each has at most `MAX_BALANCE` before and after each turn.
 pub struct AccountLaw;
 
 impl Keep for AccountLaw {

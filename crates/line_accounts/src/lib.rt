@@ -1,4 +1,4 @@
-//! Accounts striped over lines: no money is lost, whatever the schedule.
+//! Accounts that are striped over several lines. No money is lost, whatever the schedule of the threads.
 #![tactic(auto)]
 
 mod answer;

@@ -1,4 +1,4 @@
-//! Settling: finishes all lines, and sums up their balances.
+//! Settling finishes all lines, and sums up their balances.
 ghost use Rattle.std.specs.Prelude.{◌≡◌, ◌+◌, ◌<◌, ◌≤◌, ℕ, All, List, length, map, slice_get, Some, IfOk, IfErr, IfSome, MatchBool, MatchOption};
 ghost use Rattle.qolb_model.specs.Finishing.{EachNode, IsLeast};
 ghost use Rattle.line_accounts.specs.Desks.{DeskOf, AreOver, IsDeskOver};
@@ -15,7 +15,8 @@ use std::alloc::Global;
 #[derive(Drop)]
 pub struct Unsettled<L: LineSync<AccountLaw>> {
     pub why: SettleError,
-    /// The lines and desks, as they were passed. `None` if memory was refused: then they are dropped.
+    /// The lines and desks, as the caller handed them in. It is `None` if memory was refused, and then they are
+    /// dropped.
     pub back: Option<(Vec<L>, Vec<Desk<L>>)>,
 }
 
@@ -33,7 +34,7 @@ fn is_there<L: LineSync<AccountLaw>>(desks: &[Desk<L>], i: usize, node: u64) -> 
     false
 }
 
-/// Returns the least node without a port of line `i`, or `None` if each node has one.
+/// Returns the smallest node without a port of line `i`, or `None` if each node has one.
 fn first_missing<L: LineSync<AccountLaw>>(line: &L, desks: &[Desk<L>], i: usize) -> Option<u64>
     requires { All (λ desk. i < length desk.ports) desks.now }
     ensures { MatchOption result (EachNode (L.config_of line.now).nodes
@@ -50,7 +51,8 @@ fn first_missing<L: LineSync<AccountLaw>>(line: &L, desks: &[Desk<L>], i: usize)
     None
 }
 
-/// Returns the least line with a node without a port, and the least such node; `None` if there is none.
+/// Returns the smallest line that has a node without a port, and the smallest such node, or `None` if there is no such
+/// line.
 fn find_missing<L: LineSync<AccountLaw>>(lines: &[L], desks: &[Desk<L>]) -> Option<(usize, u64)>
     requires { All (λ desk. length desk.ports ≡ length lines.now) desks.now }
     ensures { MatchOption result (AreAllThere L.view L.config_of lines.now desks.now) (λ found.
@@ -81,7 +83,7 @@ where
     Some(ports)
 }
 
-/// Finishes all lines, the last first. Returns `None` if memory was refused.
+/// Finishes all lines, the last line first. Returns `None` if memory was refused.
 fn finish_all<L: LineSync<AccountLaw> + Drop>(
     alloc: Global,
     lines: Vec<L>,
@@ -108,8 +110,8 @@ where
     Some(total)
 }
 
-/// Finishes all lines with the desks over them, and returns the sum of all balances. Before any line is finished, looks for a node without
-/// a port on all lines.
+/// Finishes all lines together with the desks over them, and returns the sum of all balances. Before it finishes any
+/// line, it looks for a node without a port on all lines.
 pub fn settle<L: LineSync<AccountLaw> + Drop>(
     alloc: Global,
     lines: Vec<L>,

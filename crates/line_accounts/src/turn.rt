@@ -90,7 +90,8 @@ pub fn pay_in<L: LineSync<AccountLaw>>(
     Reply::Done
 }
 
-/// Pays the amount out of lane `k` in one turn. Adds it to `paid_out`. Polls at most `patience` times for that turn.
+/// Pays the amount out of lane `k` in one turn, and adds it to `paid_out`. Polls at most `patience` times for that
+/// turn.
 pub fn pay_out<L: LineSync<AccountLaw>>(
     line: &L,
     port: &mut L::Port,

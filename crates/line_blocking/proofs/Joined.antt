@@ -1,4 +1,4 @@
--- Threads that were joined: what each promised of its place.
+-- The threads that were joined, and what each of them promised about its place.
 use Rattle.std.proofs.Common.{◌≡◌, ℕ, ◌<◌, length, sym, subst, arith}
 use Rattle.std.specs.Prelude.{Vec}
 use Rattle.std.specs.Global.{Global}

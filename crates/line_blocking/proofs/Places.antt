@@ -1,4 +1,5 @@
--- A property of each element at its place: for the first element that is left, for the others, and for one more.
+-- A property of each element at its place: for the first element that is left, for the others, and for one element
+-- more.
 use Rattle.std.proofs.Common.{◌≡◌, ℕ, zero, suc, ◌+◌, List, [], ◌∷◌, ◌++◌, length, slice_index_or, subst, arith}
 use Rattle.line_blocking.specs.Places.{AllAt}
 

@@ -1,4 +1,4 @@
--- What holds once a wait for a line has ended. (Of this project.)
+-- What holds once a wait for a line has ended. The definitions are this project's own.
 use Rattle.std.specs.Prelude.{◌≡◌, ◌≢◌, ◌⊎◌, ℕ, ◌+◌, ◌<◌, List, length}
 use Rattle.qolb_model.specs.declared.write.Write.{Write}
 use Rattle.qolb_model.specs.declared.view.View.{View}
@@ -13,8 +13,9 @@ use Rattle.line_blocking.specs.declared.timed.TimedAcquire.TheVariants as timed_
 use Rattle.line_blocking.specs.declared.spin.Got.{Got}
 use Rattle.line_blocking.specs.declared.spin.Got.TheVariants.{Granted, Closed}
 
--- Bounded bypass of a whole wait: from the moment after the port had asked (`asked`, before its first poll) until it held the line,
--- fewer requests ended than the line has nodes. The record does not say that those were of different nodes.
+-- Bounded bypass of a whole wait. From the moment after the port had made its request (`asked`, before its first poll)
+-- until the port held the line, fewer requests ended than the line has nodes. The record does not say that these
+-- requests were of different nodes.
 pub record ComesSoon {Port : Type 0} (view : Port → View) (counters : Port → Counters) (old new : Port) : Type 0 where
   pub asked : Port
   pub unlooked : (counters asked).poll_count ≡ (counters old).poll_count
@@ -29,7 +30,7 @@ pub record EndsWait (allows : List ℕ → List ℕ → Type 0) (old new : View)
   pub granted : got ≡ Granted → IsGranted new turn
   pub told : got ≡ Closed → IsTold new
 
--- the port's request was granted, or told that the line is closed; or it is withdrawn, since the time was over
+-- the port's request was granted, or told that the line is closed; or it is withdrawn, because the wait timed out
 pub record EndsWaitTimed (allows : List ℕ → List ℕ → Type 0) (old new : View) (turn : Write) (got : TimedAcquire) : Type 0 where
   pub continues : Continues allows old new
   pub count : new.count ≡ old.count
@@ -45,7 +46,8 @@ pub record Acquires (allows : List ℕ → List ℕ → Type 0) (old new : View)
   pub granted : got ≡ Granted → IsGranted new turn
   pub told : got ≡ Closed → IsTold new
 
--- a late port: its request was made behind another and is withdrawn; or it made none, since its last request was not clear
+-- a late port: it made its request behind another one and withdrew it, or it made none because its last request was not
+-- clear
 abbrev pub IsLate : View → View → Type 0
 IsLate old new = (Asks old new × IsJoined new × IsWithdrawn new) ⊎ IsBusy old new
 

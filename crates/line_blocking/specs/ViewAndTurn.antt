@@ -1,4 +1,4 @@
--- Ports as the definitions see them.
+-- Ports, as the definitions of this crate see them.
 use Rattle.qolb_model.specs.declared.view.View.{View}
 use Rattle.qolb_model.specs.declared.write.Write.{Write}
 use Rattle.qolb_model.specs.Whole.{ViewAndTurn}

@@ -1,4 +1,4 @@
-//! Blocking calls for threads that share lines: waiting for a line, scoped threads, and ports that meet.
+//! Blocking calls for threads that share lines: a thread waits for a line, runs scoped threads, and lets ports meet.
 #![tactic(auto)]
 
 mod meetings;

@@ -1,4 +1,4 @@
-//! Ports that merge their views, for proofs.
+//! Ports merge their views, for proofs.
 ghost use Rattle.std.specs.Prelude.{◌≡◌, ◌<◌, length, map, All};
 ghost use Rattle.qolb_model.specs.Rounds.{MeetsEach, MeetsOthers};
 ghost use Rattle.line_blocking.specs.Meetings.{HaveMet};

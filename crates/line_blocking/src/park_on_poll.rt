@@ -11,8 +11,9 @@ use std::time::Duration;
 
 /// A line whose `poll` sleeps before it answers `Waiting`.
 ///
-/// All other calls are the inner line's. `poll` looks once. If the request waits, `poll` pauses 256 times and sleeps until the node may be
-/// at its turn; it does not look again. So code written over `LineSync` sleeps between two looks without knowing of it.
+/// All other calls are those of the inner line. `poll` looks once. If the request waits, `poll` pauses 256 times,
+/// sleeps until the node may be at its turn, and does not look again. Code that is written over `LineSync` therefore
+/// sleeps between two looks without knowing it.
 #[derive(Drop)]
 pub struct ParkOnPoll<'r, R, L> {
     rt: &'r R,
@@ -20,7 +21,7 @@ pub struct ParkOnPoll<'r, R, L> {
 }
 
 impl<'r, R, L> ParkOnPoll<'r, R, L> {
-    /// Wraps `line`, whose waiters then sleep by the handle `rt`.
+    /// Wraps `line`. Its waiters then sleep by the handle `rt`.
     pub fn new(rt: &'r R, line: L) -> ParkOnPoll<'r, R, L>
         ensures { result.line ≡ line }
     {

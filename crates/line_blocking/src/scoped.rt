@@ -1,4 +1,4 @@
-//! Scoped threads that share a value, each with an owned part.
+//! Scoped threads that share a value and own a part each.
 ghost use Rattle.std.specs.Prelude.{◌≡◌, ◌+◌, ◌^◌, ◌<◌, ◌≤◌, ℕ, IfSome, vec_len, vec_capacity};
 ghost use Rattle.std.specs.PromisedHandle.{KeepsEach};
 ghost use Rattle.std.specs.Thread.{IsSync, IsSend};
@@ -16,13 +16,13 @@ pub trait ScopedTask<R: Wait, S, P> {
     /// What the work of one thread returns.
     type Output;
 
-    /// `pre task shared place part`: the part fits the task, the shared value, and its place.
+    /// `pre task shared place part` says that the part fits the task, the shared value, and its place.
     ghost pre: { Self → S → ℕ → P → Type 0 };
 
-    /// `post task shared place output`: the work on the part at this place may return `output`.
+    /// `post task shared place output` says that the work on the part at this place may return `output`.
     ghost post: { Self → S → ℕ → Self.Output → Type 0 };
 
-    /// Does the work of one thread on `part`. Places are counted from 0, and there are fewer than 2^64.
+    /// Does the work of one thread on `part`. Places are counted from 0, and there are fewer than 2^64 of them.
     fn work(&self, rt: &R, shared: &S, place: usize, part: P) -> Self::Output
         requires pre { pre self.now shared.now place part }
         requires place { place + 1 < 2 ^ 64 }
@@ -53,7 +53,7 @@ impl<R: Wait, S, P, W: ScopedTask<R, S, P>> Promise<W::Output> for Done<R, S, P,
         W.post promise.work.value promise.shared.value promise.place back };
 }
 
-/// Joins each thread, and returns their outputs in order, in `room`. It allocates nothing.
+/// Joins each thread, and returns their outputs in order, in `room`. Allocates nothing.
 fn join_into<R: Threads, T: Drop, P: Promise<T>>(
     rt: &R,
     handles: Vec<PromisedHandle<T, P>>,
@@ -80,10 +80,12 @@ fn join_and_drop<R: Threads, T: Drop, P: Promise<T>>(rt: &R, handles: Vec<Promis
     }
 }
 
-/// Runs a thread for each part, joins them all, and returns their outputs. The outputs are in the order of the parts. Before the first
-/// thread starts, it allocates a list of handles and one of outputs. Blocks until all threads have ended.
+/// Runs a thread for each part, joins all threads, and returns their outputs in the order of the parts. Before the
+/// first thread starts, the call allocates a list of handles and a list of outputs. It blocks until all threads have
+/// ended.
 ///
-/// Returns `None` if memory or a thread was refused. Then all threads that were started have ended, and their outputs are dropped.
+/// Returns `None` if memory or a thread was refused. All threads that were started have then ended, and their outputs
+/// are dropped.
 pub fn run_scoped<R: Threads + Wait + Sync, S: Sync, P: Send + Drop, W: ScopedTask<R, S, P> + Sync>(
     rt: &R,
     alloc: Global,

@@ -1,4 +1,4 @@
-//! Waiting for a line until it is granted or closed, by polls with pauses.
+//! A thread waits for a line until it is granted or closed, by polls with pauses between them.
 ghost use Rattle.std.specs.Prelude.{◌≡◌, IsTrue};
 ghost use Rattle.qolb_model.specs.PortStates.{may_ask};
 ghost use Rattle.line_blocking.specs.Acquiring.{Acquires, ComesSoon, EndsWait};
@@ -12,18 +12,18 @@ use std::thread::yield_now;
 /// How many single pauses a waiter makes before it yields its processor or sleeps.
 pub(crate) const SPIN_LIMIT: u32 = 256;
 
-/// How many pauses a waiter makes between two polls: some 90 ns, as most processors pause.
+/// How many pauses a waiter makes between two polls. They take some 90 ns, on most processors.
 const PAUSES_A_POLL: u32 = 8;
 
-/// How many polls a waiter makes with pauses behind them, before it yields its processor or sleeps.
+/// How many polls, each with pauses behind it, a waiter makes before it yields its processor or sleeps.
 pub(crate) const SPIN_POLLS: u32 = SPIN_LIMIT / PAUSES_A_POLL;
 
-/// How a wait without a time limit ended.
+/// How a wait without a timeout ended.
 #[derive(Clone, Copy, Debug, PartialEq, Eq)]
 pub enum Got {
     /// The node holds the line.
     Granted,
-    /// The line is closed, and the node was told.
+    /// The line is closed, and the node was told so.
     Closed,
 }
 
@@ -38,7 +38,7 @@ impl Pauses {
         Pauses { polls: SPIN_POLLS }
     }
 
-    /// Pauses: `SPIN_POLLS` times by `pause_between_polls`, then by a yield to other threads.
+    /// Pauses by `pause_between_polls` the first `SPIN_POLLS` times, and afterwards by a yield to other threads.
     fn pause(&mut self) {
         if self.polls > 0 {
             self.polls -= 1;
@@ -57,21 +57,23 @@ impl<K: Keep, L: LineSync<K>> WaitStrategy<K, L> for Pauses {
 
 /// Makes a single pause of the processor.
 pub(crate) fn short_pause() {
-    // A fresh backoff pauses once; one that is kept pauses twice as long each time, which costs a third of the speed.
+    // A fresh backoff pauses once. A backoff that is kept pauses twice as long each time, which costs a third of the
+    // speed.
     Backoff::new().spin();
 }
 
-/// Makes the pauses between two polls. A poll right after the other takes the word's cache line from who is about to write it.
+/// Makes the pauses between two polls. A poll immediately after another would take the word's cache line from the
+/// thread that is about to write it.
 pub(crate) fn pause_between_polls() {
     for _ in 0..PAUSES_A_POLL {
         short_pause();
     }
 }
 
-/// Acquires the line: asks until the port is not busy, then polls until the request ends. Blocks: between two polls the caller pauses, and
-/// after 256 pauses yields its processor. Does not allocate.
+/// Acquires the line: requests it until the port is not busy, and then polls until the request ends. Blocks: the caller
+/// pauses between two polls, and after 256 pauses yields its processor. Does not allocate.
 ///
-/// Returns `Granted` if the port holds the line, `Closed` if the line is closed.
+/// Returns `Granted` if the port holds the line, and `Closed` if the line is closed.
 pub fn acquire<R: Wait, K: Keep, L: LineSync<K>>(rt: &R, line: &L, port: &mut L::Port) -> Got
     requires belongs { L.belongs line.now port.old }
     requires state { IsTrue (may_ask (L.view port.old).state) }
@@ -92,9 +94,10 @@ pub fn acquire<R: Wait, K: Keep, L: LineSync<K>>(rt: &R, line: &L, port: &mut L:
     unreachable!()
 }
 
-/// Polls until the request is granted or told. This is the wait of `acquire`, for a port that has asked already. Blocks; does not allocate.
+/// Polls until the request is granted or told that the line is closed. This is the wait of `acquire`, for a port that
+/// has already made its request. Blocks, and does not allocate.
 ///
-/// Returns `Granted` if the port holds the line, `Closed` if the line is closed.
+/// Returns `Granted` if the port holds the line, and `Closed` if the line is closed.
 pub fn wait<R: Wait, K: Keep, L: LineSync<K>>(rt: &R, line: &L, port: &mut L::Port) -> Got
     requires belongs { L.belongs line.now port.old }
     requires state { (L.view port.old).state ≡ PortState.Queued }

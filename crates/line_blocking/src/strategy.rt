@@ -1,4 +1,5 @@
-//! Waiting for a line without a time limit, once a request is queued: the polls, and what a waiter does between them.
+//! A thread waits for a line without a timeout, once its request is queued. A strategy decides what the waiter does
+//! between two polls.
 ghost use Rattle.std.specs.Prelude.{◌≡◌};
 ghost use Rattle.line_blocking.specs.Acquiring.{EndsWait};
 
@@ -8,15 +9,17 @@ use std::sync::Wait;
 
 /// What a waiter does between two polls.
 pub trait WaitStrategy<K: Keep, L: LineSync<K>> {
-    /// Waits after a `poll` that answered `Waiting`; `wait_by` calls it once after each. May return early, for no reason.
+    /// Waits after a `poll` that answered `Waiting`; `wait_by` calls it once after each such poll. The call may return
+    /// early, for no reason.
     fn on_waiting<R: Wait>(&mut self, rt: &R, line: &L, port: &L::Port)
         requires belongs { L.belongs line.now port.now }
         requires state { (L.view port.now).state ≡ PortState.Queued };
 }
 
-/// Polls until the request is granted or told. Between two polls it waits by `strategy`. Blocks; allocates no more than `strategy` does.
+/// Polls until the request is granted or told that the line is closed. Between two polls, `strategy` decides how it
+/// waits. Blocks, and allocates no more than `strategy` does.
 ///
-/// Returns `Granted` if the port holds the line, `Closed` if the line is closed.
+/// Returns `Granted` if the port holds the line, and `Closed` if the line is closed.
 pub fn wait_by<R: Wait, K: Keep, L: LineSync<K>, W: WaitStrategy<K, L>>(
     rt: &R,
     line: &L,

@@ -1,4 +1,4 @@
-//! Waiting for a line by waiters that sleep, with and without a time limit.
+//! Waiters that sleep until they have a line, with and without a timeout.
 ghost use Rattle.std.specs.Prelude.{◌≡◌, ◌⊎◌, ◌+◌, ◌≤◌, IsTrue, Option, min};
 ghost use Rattle.std.specs.Duration.{as_nanos};
 ghost use Rattle.std.specs.declared.time.Instant.{Instant};
@@ -22,14 +22,14 @@ const YIELDS: u32 = 32;
 /// The longest nap of a busy port, in microseconds. No release wakes a busy port.
 const NAP_MICROS: u64 = 200;
 
-/// How a wait with a time limit ended.
+/// How a wait with a timeout ended.
 #[derive(Clone, Copy, Debug, PartialEq, Eq)]
 pub enum TimedAcquire {
     /// The node holds the line.
     Granted,
-    /// The line is closed, and the node was told.
+    /// The line is closed, and the node was told so.
     Closed,
-    /// The time was over. The node holds nothing and does not wait.
+    /// The wait timed out. The node holds nothing and does not wait.
     TimedOut,
 }
 
@@ -48,8 +48,8 @@ impl Backoff {
         }
     }
 
-    /// Pauses: `SPIN_POLLS` times by `pause_between_polls`, then `YIELDS` times by a yield. Returns `false` without a pause after
-    /// these: it is time to sleep.
+    /// Pauses by `pause_between_polls` the first `SPIN_POLLS` times, and then by a yield for `YIELDS` times. After that
+    /// it returns `false` without a pause, because it is time to sleep.
     fn pause(&mut self) -> bool {
         if self.polls > 0 {
             self.polls -= 1;
@@ -87,7 +87,7 @@ fn nap_within(at_most: Duration) -> Duration
     }
 }
 
-/// Sleeps for a nap, at most as long as `at_most`.
+/// Sleeps for a nap, but no longer than `at_most`.
 fn sleep_briefly<R: Wait>(rt: &R, at_most: Duration) {
     AtomicU64::new(0).park_timeout(rt, 0, nap_within(at_most));
 }
@@ -95,7 +95,7 @@ fn sleep_briefly<R: Wait>(rt: &R, at_most: Duration) {
 /// A span of time that has begun.
 #[derive(Clone, Copy)]
 pub struct Deadline {
-    /// When the span began; `None` if the clock could not be read.
+    /// When the span began, or `None` if the clock could not be read.
     pub since: Option<Instant>,
     /// The length of the span.
     pub at_most: Duration,
@@ -120,8 +120,8 @@ impl Deadline {
         self.left_at(Instant::now(rt).ok())
     }
 
-    /// Returns what is left at the reading `now`, or `None` if the span is over. A span counts as over if `now` or its beginning could not
-    /// be read.
+    /// Returns what is left at the reading `now`, or `None` if the span is over. The span counts as over if `now` or
+    /// its beginning could not be read.
     fn left_at(&self, now: Option<Instant>) -> Option<Duration>
         ensures { IsLeft result (nanos_left self.now.since self.now.at_most now) }
     {
@@ -137,11 +137,11 @@ impl Deadline {
     }
 }
 
-/// Acquires the line, and sleeps if the wait is long. Polls 32 times with eight pauses behind each poll, 32 times with a yield, and once
-/// more; then sleeps until a release wakes the caller, and polls as often again. A busy port asks again, with naps between. Blocks; does
-/// not allocate.
+/// Acquires the line, and sleeps if the wait is long. The caller polls 32 times with eight pauses behind each poll, 32
+/// times with a yield, and once more. Then it sleeps until a release wakes it, and polls as often again. A busy port
+/// requests the line again, with naps between the requests. Blocks, and does not allocate.
 ///
-/// Returns `Granted` if the port holds the line, `Closed` if the line is closed.
+/// Returns `Granted` if the port holds the line, and `Closed` if the line is closed.
 pub fn acquire_parking<R: Wait, K: Keep, L: ParkingLine<K>>(
     rt: &R,
     line: &L,
@@ -170,13 +170,14 @@ pub fn acquire_parking<R: Wait, K: Keep, L: ParkingLine<K>>(
     unreachable!()
 }
 
-/// Acquires the line within `at_most`, and sleeps if the wait is long. When the time is over the request is withdrawn. A busy port asks
-/// again within the same time.
+/// Acquires the line within `at_most`, and sleeps if the wait is long. If the call times out, it withdraws the request.
+/// A busy port requests the line again within the same time.
 ///
-/// A queued port polls at least once, and gives up only after a poll. If it is at its turn when it gives up, it is granted the line. A
-/// clock that cannot be read counts as time that is over.
+/// A queued port polls at least once, and gives up only after a poll. If the port is at its turn when it gives up, it
+/// is granted the line. If the clock cannot be read, the time counts as over.
 ///
-/// Returns `Granted` if the port holds the line, `Closed` if the line is closed, `TimedOut` if the port holds nothing and does not wait.
+/// Returns `Granted` if the port holds the line, `Closed` if the line is closed, and `TimedOut` if the port holds
+/// nothing and does not wait.
 pub fn acquire_timeout<R: Wait + Clock, K: Keep, L: ParkingLine<K>>(
     rt: &R,
     line: &L,
@@ -212,10 +213,11 @@ pub fn acquire_timeout<R: Wait + Clock, K: Keep, L: ParkingLine<K>>(
     unreachable!()
 }
 
-/// Polls until the request ends or `span` is over, and sleeps as `acquire_parking` does. This is the wait of `acquire_timeout`, for a port
-/// that has asked already. Blocks; does not allocate.
+/// Polls until the request ends or `span` is over, and sleeps as `acquire_parking` does. This is the wait of
+/// `acquire_timeout`, for a port that has already made its request. Blocks, and does not allocate.
 ///
-/// Returns `Granted` if the port holds the line, `Closed` if the line is closed, `TimedOut` if the request was withdrawn.
+/// Returns `Granted` if the port holds the line, `Closed` if the line is closed, and `TimedOut` if the request was
+/// withdrawn.
 pub fn wait_timeout<R: Wait + Clock, K: Keep, L: ParkingLine<K>>(
     rt: &R,
     line: &L,
@@ -248,7 +250,8 @@ pub fn wait_timeout<R: Wait + Clock, K: Keep, L: ParkingLine<K>>(
     unreachable!()
 }
 
-/// Withdraws the request, unless the node is at its turn: then it is granted or told.
+/// Withdraws the request, unless the node is at its turn. In that case the node is granted the line, or told that it is
+/// closed.
 fn give_up<K: Keep, L: LineSync<K>>(line: &L, port: &mut L::Port) -> TimedAcquire
     requires belongs { L.belongs line.now port.old }
     requires state { (L.view port.old).state ≡ PortState.Queued }

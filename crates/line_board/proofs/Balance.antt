@@ -1,4 +1,4 @@
--- The puts are the takes and then the tasks that are left.
+-- The puts are the takes, followed by the tasks that are left.
 use Rattle.std.proofs.Common.{◌≡◌, ℕ, List, [], ◌∷◌, ◌++◌, zero, suc, replicate, refl, ap, sym, ◌∙◌, append-nil, append_assoc}
 use Rattle.line_lanes.specs.Line.{zeros}
 use Rattle.qolb_model.specs.declared.end.End.{End}
@@ -72,7 +72,7 @@ balances tasks bytes (Told ∷ ends) stand kept =
 pub zeros-stand : Stand zeros []
 zeros-stand = refl
 
--- an empty board stays a queue under turns that keep the law
+-- an empty board stays a queue under turns that keep the data invariant
 pub board_queues : (ends : List End) → AreAllowed Changes zeros ends → IsQueue zeros ends (bytes_after zeros ends)
 board_queues ends kept =
     let all = balances [] zeros ends zeros-stand kept in

@@ -1,4 +1,4 @@
--- If a step of a call gave nothing.
+-- The answer if a step of a call gave nothing.
 use Rattle.std.proofs.Common.{◌≡◌, ℕ, List, [], ◌∷◌, Option, Some, None, slice_get, refl, sym, ◌∙◌}
 use Rattle.std.specs.Prelude.{MatchOption, OnErr}
 use Rattle.std.specs.Result.{result_ok}

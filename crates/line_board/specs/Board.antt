@@ -1,4 +1,5 @@
--- The format of a board: a line of 64 bytes with at most `MAX_TASKS` tasks, oldest first. (Of this project.)
+-- The format of a board: a line of 64 bytes with at most `MAX_TASKS` tasks, the oldest first. The definitions are this
+-- project's own.
 use Rattle.std.specs.Prelude.{◌≡◌, ℕ, ◌+◌, ◌==◌, ◌&&◌, nat_le, Bool, if◌then◌else◌, List, take, drop, slice_index, slice_range, Option, Some, None}
 use Rattle.std.specs.List.{list_all}
 use Rattle.line_lanes.specs.Lane.{lanes_of}
@@ -11,11 +12,11 @@ are_zeros numbers = list_all (λ n. n == 0) numbers
 abbrev pub count_of : List ℕ → ℕ
 count_of bytes = slice_index bytes 0
 
--- there are at most `MAX_TASKS` tasks; bytes 1 to 7 are zero; and so is each lane behind the tasks
+-- there are at most `MAX_TASKS` tasks, bytes 1 to 7 are zero, and each lane behind the tasks is zero
 abbrev pub is_board : List ℕ → Bool
 is_board bytes = nat_le (count_of bytes) MAX_TASKS && (are_zeros (slice_range bytes 1 8) && are_zeros (drop (count_of bytes + 1) (lanes_of bytes)))
 
--- the tasks of a board: the lanes from lane 1 on, as many as byte 0 counts. Any other line has none
+-- the tasks of a board are the lanes from lane 1 on, as many as byte 0 counts; a line that is not a board has none
 abbrev pub tasks_of : List ℕ → Option (List ℕ)
 tasks_of bytes = if is_board bytes then Some (take (count_of bytes) (drop 1 (lanes_of bytes))) else None
 

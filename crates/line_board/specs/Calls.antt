@@ -1,5 +1,5 @@
--- The promise of each call of a board: one record a call, one field an answer. `old` and `new` are the port's view before and after.
--- (Of this project.)
+-- The promise of each call of a board: one record for each call, with one field for each answer. `old` and `new` are
+-- the port's view before and after the call. The definitions are this project's own.
 use Rattle.std.specs.Prelude.{◌≡◌, ◌≢◌, ℕ, ◌+◌, true, false, List, [], ◌∷◌, ◌++◌, length, replicate, slice_get, Some}
 use Rattle.line_lanes.specs.Mask.{changed_mask}
 use Rattle.qolb_model.specs.declared.write.Write.{Write}
@@ -24,9 +24,10 @@ use Rattle.line_board.specs.Board.{Stand}
 use Rattle.line_board.specs.Law.{Changes}
 use Rattle.line_board.specs.PutsAndTakes.{puts_of, takes_of}
 
--- The turn of the port's last request, which found `found` and left `left`. Its end is behind the ends before it; only ends of
--- withdrawn requests are behind it. The line was open; the turn closes it only as the last of a lease, and writes exactly the bytes
--- that it changed. Of all puts and takes that the port knows, `puts` and `takes` are those of this turn.
+-- The turn of the port's last request, which found `found` and left `left`. Its end comes after the ends that the port
+-- knew, and only ends of withdrawn requests come after it. The line was open. The turn closes the line only if it is
+-- the last of a lease, and writes exactly the bytes that it changed. Of all puts and takes that the port knows, `puts`
+-- and `takes` are those of this turn.
 pub record HadTurn (found left puts takes : List ℕ) (new : View) : Type 0 where
   pub before : List End
   pub write : Write
@@ -52,14 +53,14 @@ pub record HasTaken (task : ℕ) (new : View) : Type 0 where
   pub left : List ℕ
   pub turn : HadTurn (task ∷ left) left [] (task ∷ []) new
 
--- `count` tasks were there, and all bytes stay as they were
+-- `count` tasks were there, and all bytes are as they were
 pub record HasFound (count : ℕ) (new : View) : Type 0 where
   pub tasks : List ℕ
   pub counted : length tasks ≡ count
   pub turn : HadTurn tasks tasks [] [] new
   pub same : bytes_of new ≡ bytes_after new.config.opening.bytes turn.before
 
--- `put`: a task is appended if there is room
+-- what `put` promises: it appends a task if there is room
 pub record Puts (task : ℕ) (old new : View) (answer : Put) : Type 0 where
   pub continues : Continues Changes old new
   pub may_ask : may_ask new.state ≡ true
@@ -72,7 +73,7 @@ pub record Puts (task : ℕ) (old new : View) (answer : Put) : Type 0 where
   pub busy : answer ≡ put.Busy → IsBusy old new
   pub unserved : answer ≢ put.Stored → answer ≢ put.Full → IsUnserved old new
 
--- `take`: the first task is removed if there is one
+-- what `take` promises: it removes the first task if there is one
 pub record Takes (old new : View) (answer : Take) : Type 0 where
   pub continues : Continues Changes old new
   pub may_ask : may_ask new.state ≡ true

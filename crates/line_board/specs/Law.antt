@@ -1,9 +1,9 @@
--- The law of a board: the changes that a turn may make. (Of this project.)
+-- The data invariant of a board: the changes that a turn may make. The definitions are this project's own.
 use Rattle.std.specs.Prelude.{◌≡◌, ◌⊎◌, ℕ, List, [], ◌∷◌, ◌++◌, refl}
 use Rattle.std.proofs.Common.{inl}
 use Rattle.line_board.specs.Board.{Stand, IsBoard}
 
--- the tasks stay, one is appended, or the first is removed
+-- the tasks stay, one task is appended, or the first is removed
 abbrev pub IsStep : List ℕ → List ℕ → Type 0
 IsStep before after = (after ≡ before) ⊎ (((task : ℕ) × (after ≡ before ++ task ∷ [])) ⊎ ((task : ℕ) × (before ≡ task ∷ after)))
 

@@ -1,4 +1,4 @@
--- What holds of every board that was opened empty. (Of this project.)
+-- What holds of every board that was opened empty. The theorems are this project's own.
 use Rattle.std.specs.Prelude.{◌≡◌, ℕ, List}
 use Rattle.line_lanes.specs.Line.{zeros}
 use Rattle.qolb_model.specs.declared.config.LineConfig.{LineConfig}
@@ -10,7 +10,7 @@ use Rattle.line_board.specs.Board.{IsBoard}
 use Rattle.line_board.specs.Law.{Changes}
 use Rattle.line_board.specs.PutsAndTakes.{IsQueue}
 
--- A board is a queue, as far as a port knows: of its ends the puts are the takes and then the tasks of its bytes.
+-- A board is a queue, as far as a port knows: of its ends, the puts are the takes, followed by the tasks of its bytes.
 abbrev pub BoardIsQueue : Type 0
 BoardIsQueue = (v : View) → IsKept Changes v → v.config.opening.bytes ≡ zeros → IsQueue zeros v.ends (bytes_of v)
 

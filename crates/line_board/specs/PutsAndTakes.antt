@@ -1,4 +1,4 @@
--- The puts and takes of a board, by the ends of its line. (Of this project.)
+-- The puts and takes of a board, as the ends of its line record them. The definitions are this project's own.
 use Rattle.std.specs.Prelude.{◌≡◌, ℕ, ◌-◌, List, [], ◌∷◌, ◌++◌, length, take, drop}
 use Rattle.std.specs.Option.{unwrap_or}
 use Rattle.qolb_model.specs.declared.end.End.{End}
@@ -6,15 +6,15 @@ use Rattle.qolb_model.specs.declared.end.End.TheVariants.{Served, Gone, Told}
 use Rattle.qolb_model.specs.Ends.{written}
 use Rattle.line_board.specs.Board.{tasks_of, Stand}
 
--- what a turn put that found the first tasks and left the second: those behind as many as it found
+-- the tasks that a turn put, if it found the first tasks and left the second: those behind as many as it found
 abbrev pub put_between : List ℕ → List ℕ → List ℕ
 put_between found left = drop (length found) left
 
--- what it took: of the first as many as there are fewer
+-- the tasks that such a turn took: of the first tasks, as many as are missing from the second
 abbrev pub taken_between : List ℕ → List ℕ → List ℕ
 taken_between found left = take (length found - length left) found
 
--- the tasks of the line; none if it is no board
+-- the tasks of the line, or none if it is not a board
 abbrev pub standing : List ℕ → List ℕ
 standing bytes = unwrap_or (tasks_of bytes) []
 
@@ -32,7 +32,7 @@ takes_of bytes (Served write shut ∷ ends) = taken_between (standing bytes) (st
 takes_of bytes (Gone ∷ ends) = takes_of bytes ends
 takes_of bytes (Told ∷ ends) = takes_of bytes ends
 
--- the puts are the takes and then the tasks that are left: no task is lost, doubled or overtaken
+-- the puts are the takes, followed by the tasks that are left: no task is lost, duplicated or overtaken
 pub record IsQueue (opening : List ℕ) (ends : List End) (bytes : List ℕ) : Type 0 where
   pub tasks : List ℕ
   pub stand : Stand bytes tasks

@@ -1,17 +1,17 @@
-//! Answers of a board's calls.
+//! The answers of a board's calls.
 
 /// The answer of `put`.
 #[derive(Clone, Copy, Debug, PartialEq, Eq)]
 pub enum Put {
     /// The task was appended to the board.
     Stored,
-    /// Seven tasks were on the board, and stay.
+    /// Seven tasks were on the board, and they stay there.
     Full,
-    /// The line was not granted within `patience` polls. The request is withdrawn, and nothing was put.
+    /// The line was not granted within `patience` polls. The request is withdrawn, and no task was put.
     Late,
     /// The line is closed.
     Closed,
-    /// The node's last request is not clear yet, so the port did not ask.
+    /// The node's last request is not clear yet, so the port made none.
     Busy,
 }
 
@@ -22,10 +22,10 @@ pub enum Take {
     Task(u64),
     /// No task was on the board.
     Empty,
-    /// The line was not granted within `patience` polls. The request is withdrawn, and nothing was taken.
+    /// The line was not granted within `patience` polls. The request is withdrawn, and no task was taken.
     Late,
     /// The line is closed.
     Closed,
-    /// The node's last request is not clear yet, so the port did not ask.
+    /// The node's last request is not clear yet, so the port made none.
     Busy,
 }

@@ -1,4 +1,4 @@
-//! Boards as the bytes of a line.
+//! Boards, as the bytes of a line.
 ghost use Rattle.std.specs.Prelude.{◌≡◌, ◌<◌, ℕ, List, length, MatchOption};
 ghost use Rattle.std.specs.List.{All};
 ghost use Rattle.line_board.specs.Board.{are_zeros, tasks_of, Stand};
@@ -9,10 +9,10 @@ use line_lanes::{Line64, lane, with_lane};
 /// The largest number of tasks on a board.
 pub const MAX_TASKS: usize = 7;
 
-/// The tasks of a board, oldest first.
+/// The tasks of a board, the oldest first.
 pub type Tasks = ArrayVec<u64, MAX_TASKS>;
 
-/// Returns the tasks of the line, or `None` if the line is no board.
+/// Returns the tasks of the line, or `None` if the line is not a board.
 pub fn decode(line: &Line64) -> Option<Tasks>
     ensures { MatchOption result (tasks_of line.now.bytes ≡ None) (λ tasks.
         Stand line.now.bytes tasks.items) }
@@ -39,7 +39,7 @@ pub fn encode(tasks: &Tasks) -> Line64
     ensures only { (line : List ℕ) → length line ≡ 64 → All (λ byte. byte < 256) line
         → Stand line tasks.now.items → line ≡ result.bytes }
 {
-    // A count below 256 in lane 0 is byte 0, with zeros in bytes 1 to 7.
+    // A count below 256 in lane 0 is byte 0, followed by zeros in bytes 1 to 7.
     let mut line = with_lane(&Line64::zero(), 0, tasks.len() as u64);
     for (k, task) in tasks.iter().enumerate() {
         line = with_lane(&line, k + 1, *task);

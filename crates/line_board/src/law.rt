@@ -1,7 +1,7 @@
-//! The law of a board.
+//! The data invariant of a board.
 use qolb_model::Keep;
 
-/// The law of a board: a turn keeps the tasks, appends one, or removes the first.
+/// The data invariant of a board: a turn keeps the tasks, appends one task, or removes the first.
 pub struct BoardLaw;
 
 impl Keep for BoardLaw {

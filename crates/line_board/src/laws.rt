@@ -1,7 +1,8 @@
-//! Laws of boards. Each is the contract of a function that does nothing.
+//! Theorems about boards. Each theorem is the contract of a function that does nothing.
 ghost use Rattle.line_board.specs.Laws.{BoardIsQueue, FinishedBoardIsQueue};
 
-/// States that a board that was opened empty is a queue: no task is lost, doubled or overtaken, as far as a port knows.
+/// States that a board that was opened empty is a queue: no task is lost, duplicated or overtaken, as far as a port
+/// knows.
 pub fn board_is_queue()
     ensures { BoardIsQueue }
 {}

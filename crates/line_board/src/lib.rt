@@ -1,5 +1,5 @@
-//! A task board: a queue of at most seven tasks in the 64 bytes of a line. A put and a take are one turn each; no task is lost, doubled or
-//! overtaken.
+//! A task board: a queue of at most seven tasks in the 64 bytes of a line. A put and a take are one turn of the line
+//! each. No task is lost, duplicated or overtaken.
 #![tactic(auto)]
 
 mod answer;

@@ -1,4 +1,4 @@
-//! Putting a task on a board.
+//! A worker puts a task on a board.
 ghost use Rattle.std.specs.Prelude.{◌≡◌, ◌≤◌, ◌+◌, ◌++◌, ◌∷◌, [], ℕ, List, length, true, false, IsTrue, MatchOption};
 ghost use Rattle.qolb_model.specs.PortStates.{may_ask};
 ghost use Rattle.qolb_model.specs.Counting.{IsWithinCalls};
@@ -17,8 +17,8 @@ use qolb_model::{Acquired, LineSync, acquire_bounded};
 
 /// Appends the task to the board in one turn. Does not allocate.
 ///
-/// Asks for the line once, polls at most `patience` times while the request waits, and then withdraws it. Takes the word steps of its
-/// polls and of at most three calls more.
+/// The call requests the line once, polls at most `patience` times while the request waits, and then withdraws it. It
+/// takes the atomic steps of its polls and of at most three more calls.
 pub fn put<L: LineSync<BoardLaw>>(line: &L, port: &mut L::Port, task: u64, patience: u64) -> Put
     requires belongs { L.belongs line.now port.old }
     requires state { IsTrue (may_ask (L.view port.old).state) }

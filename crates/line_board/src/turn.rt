@@ -1,4 +1,4 @@
-//! The turn of a port that holds a board: the port changes the board or leaves it, and releases the line.
+//! The turn of a port that holds a board. The port changes the board or leaves it as it is, and releases the line.
 ghost use Rattle.std.specs.Prelude.{◌≡◌, ℕ, List, length, false, IsTrue};
 ghost use Rattle.qolb_model.specs.PortStates.{may_ask};
 ghost use Rattle.qolb_model.specs.Kept.{MayRelease};
@@ -32,7 +32,7 @@ pub(crate) fn replace<L: LineSync<BoardLaw>>(line: &L, port: &mut L::Port, new: 
         → Stand new.bytes left → HadTurn found left (put_between found left)
         (taken_between found left) (L.view port.new) }
 {
-    // The end of a turn keeps its mask: if that has only the bytes that differ, it says what this turn changed.
+    // The end of a turn keeps its mask. If the mask has only the bytes that differ, it says what this turn changed.
     let mask = changed(L::bytes(port), &new);
     L::write(port, mask, &new);
     release(line, port);
@@ -55,7 +55,7 @@ pub(crate) fn keep<L: LineSync<BoardLaw>>(line: &L, port: &mut L::Port)
     release(line, port);
 }
 
-/// Ends the turn and leaves the line open: no call of a board shuts it, but the last turn of a lease closes it.
+/// Ends the turn and leaves the line open. No call of a board shuts the line, but the last turn of a lease closes it.
 fn release<L: LineSync<BoardLaw>>(line: &L, port: &mut L::Port)
     requires belongs { L.belongs line.now port.old }
     requires state { (L.view port.old).state ≡ PortState.Holding }

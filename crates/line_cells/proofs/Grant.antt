@@ -1,5 +1,5 @@
--- A release grants the next cell: the request at its turn has ended. If the next one is not withdrawn the line is at home, else the node
--- still has it, and passes that request.
+-- A release grants the next cell, which ends the request at its turn. If the next request is not withdrawn, the line is
+-- at home. Otherwise the node still has the line, and passes that request.
 use Rattle.std.proofs.Common.{◌≡◌, ◌≢◌, ◌⊎◌, ℕ, ◌+◌, ◌<◌, ◌≤◌, List, [], ◌∷◌, ◌++◌, length, set, slice_index, Bool, true, false, Option, None, Some, ◌||◌, sym, refl, ap, ◌∙◌, subst, inl, inr, ⊎_elim, arith, length-append, mod-lt}
 use mathlib.Core.Logic.{dite}
 use mathlib.Core.List.{IsPrefix}
@@ -50,8 +50,9 @@ some_list : (l : List ℕ) (q : ℕ) → l ++ q ∷ [] ≢ []
 some_list [] q e = cc
 some_list (p ∷ ps) q e = cc
 
--- The cells of a lock with `ended` ended requests, of which the next is changed so, to grant it. If no node withdrew there, its old word is
--- read as 0, and the line goes home; else it names the node that withdrew, and the releasing node still has the line.
+-- The cells of a lock with `ended` ended requests, of which the next is changed so, to grant it. If no node withdrew
+-- there, its old word is read as 0, and the line goes home; otherwise it names the node that withdrew, and the
+-- releasing node still has the line.
 abbrev pub GrantsNext : ℕ → Cells → (ℕ → ℕ → ℕ) → (ℕ → ℕ → ℕ) → ℕ → Bool → (ℕ → ℕ) → Type 0
 GrantsNext count cells seen withdrawn_by ended cleared change = (holder : ℕ) (marks says : ℕ → ℕ) → marks (ended + count) ≡ 0 → cells ended holder cleared marks says
     → (marks (ended + 1) ≡ 0 → (seen (ended + 1) (says (cell_of count (ended + 1))) ≡ 0) × cells (ended + 1) 0 false marks (put says (cell_of count (ended + 1)) (change (says (cell_of count (ended + 1))))))
@@ -67,7 +68,7 @@ or_before : (a b : Bool) → (a || b) ≡ false → a ≡ false
 or_before false b is = refl
 or_before true b is = is
 
--- so a slot that was behind the line is behind it once more
+-- therefore a slot that was behind the line is behind it once more
 behind_goes : (lease : Option ℕ) (ends : List End) (e : End) (z : Payload) → IsBehind (turns_left lease ends) (is_closed ends) z → IsBehind (turns_left lease (ends ++ e ∷ [])) (is_closed (ends ++ e ∷ [])) z
 behind_goes lease ends e z b = record {
   turns = λ is. b.turns (none_before lease ends (ends ++ e ∷ []) is);

@@ -1,4 +1,4 @@
--- A waiting node loads its cell: its request is at its turn, or it waits on.
+-- A waiting node loads its cell, and finds its request at its turn or still waiting.
 use Rattle.std.proofs.Common.{◌≡◌, ◌≢◌, ℕ, ◌%◌, ◌^◌, Bool, true, false, Option, List, [], ◌∷◌, length, set, slice_index, sym, refl, ap, ◌∙◌, subst, arith}
 use mathlib.Core.Logic.{dite}
 use mathlib.Core.Option.{none, some}

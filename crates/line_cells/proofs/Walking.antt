@@ -1,4 +1,4 @@
--- A walk over withdrawn requests, and the freeing of their nodes.
+-- A release walks over withdrawn requests, and frees their nodes.
 use Rattle.std.proofs.Common.{◌≡◌, ◌≢◌, ℕ, zero, suc, ◌+◌, ◌-◌, ◌≤◌, ◌<◌, ◌⊎◌, inl, inr, Bool, false, ◌||◌, length, drop, List, [], ◌∷◌, ◌++◌, sym, refl, ap, ◌∙◌, subst, Some, None, get_or, slice_get, arith, replicate, append-nil, append_assoc, length-append}
 use Rattle.std.proofs.Math.Bool.{or-false}
 use Rattle.qolb_model.specs.Kept.{AreAllowed}
@@ -190,7 +190,7 @@ pub record IsHome (nodes : List ℕ) (w : ArrayGhost) : Type 0 where
   pub known : length w.view.ends ≤ length w.view.order
   pub unmarked : (r : Request) → turn_of w.view.order w.view.ends ≡ Some r → Lacks w.view.marked r
 
--- so it begins
+-- therefore it begins
 pub walk_begins : (v : ArrayGhost) → v.own.passed ≡ length v.view.ends ∷ [] → AreOfOthers v.view.node v.view.order v.own.passed → 2 ≤ v.view.config.nodes → Walked v [] v
 walk_begins v passed others two = record {
   config = refl;
@@ -365,8 +365,8 @@ walk_over v w x nodes k h f =
 abbrev pub Carried : SlotLayout → ArraySeat → ArraySeat → Type 0
 Carried slot_layout s t = (y : Payload) → slot_layout.slots_at_grant (length (ghost_of s).view.ends) y s.me.1 → slot_layout.slots_at_grant (length (ghost_of t).view.ends) y t.me.1
 
--- What a walk that began at the seat s has done so far, in `steps` word steps. Its last grant found a word that is 0 if the line went home,
--- and else says that this node withdrew.
+-- What a walk that began at the seat s has done so far, in `steps` atomic steps. Its last grant found a word that is 0
+-- if the line went home, and otherwise says that this node withdrew.
 pub record IsWalking (slot_layout : SlotLayout) (allows : List ℕ → List ℕ → Type 0) (s : ArraySeat) (nodes : List ℕ) (steps found node : ℕ) (t : ArraySeat) : Type 0 where
   pub seat : IsSameSeat s t
   pub advances : Advances allows s.me t.me steps

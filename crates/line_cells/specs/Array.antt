@@ -1,4 +1,4 @@
--- The invariant of a table whose nodes take tickets and wait on cells of an array.
+-- The invariant of a table whose nodes draw tickets and wait on the cells of an array.
 use Rattle.std.specs.Prelude.{◌≡◌, ◌≢◌, ◌⊎◌, ℕ, ◌+◌, ◌<◌, ◌≤◌, List, [], length, slice_index, slice_get, Bool, true, false, if◌then◌else◌, Some}
 use mathlib.Core.List.{IsPrefix}
 use mathlib.Core.Option.{some}
@@ -32,7 +32,7 @@ use Rattle.line_cells.specs.Layout.{word_count, ticket_at, node_at, cells_in, ti
 abbrev pub At : {A : Type 0} → List A → ℕ → A → Type 0
 At xs p x = slice_get xs p ≡ Some x
 
--- the invariant's knowledge of a node
+-- what the invariant knows of a node
 abbrev pub ArrayGhost : Type 0
 ArrayGhost = NodeGhost Local
 
@@ -80,8 +80,9 @@ is_cleared Cleared = true
 is_cleared Freeing = false
 is_cleared Rolled = false
 
--- The line's history: its lists; the node that has the line (0: none); whether the cell at its turn is cleared; the node that
--- withdrew the request at a place, or 0; the node whose release passed the request at a place; the word of each node.
+-- The history of the line. It has the line's lists; the node that has the line, or 0; whether the cell at its turn is
+-- cleared; for each place, the node that withdrew the request there, or 0, and the node whose release passed it; and
+-- the word of each node.
 pub record History : Type 0 where
   pub order : List Request
   pub ends : List End
@@ -92,7 +93,8 @@ pub record History : Type 0 where
   pub releaser_of : ℕ → ℕ
   pub flags : ℕ → ℕ
 
--- What holds of the node n, with the ghost state e, in parts, each over what it reads of the history.
+-- What holds of the node n with the ghost state e. It has several parts, each about what that part reads of the
+-- history.
 
 -- The node has passed the request at the place p and has not freed its node. (Each request is passed by one release, so the lists
 -- of different releases share no place.)
@@ -105,8 +107,8 @@ pub record HasPassed (ended : ℕ) (clear : List Request) (marks releaser_of : �
   pub at : At e.view.order p request
   pub unclear : Lacks clear request
 
--- a node in a release has the line: the request at its turn is its own and none was passed, or that request is withdrawn and
--- passed
+-- a node in a release has the line: either the request at its turn is its own and it has passed none, or that request
+-- is withdrawn and passed
 abbrev pub Walks : ℕ → (ℕ → ℕ) → ArrayGhost → Type 0
 Walks ended marks e = ((e.own.place ≡ ended) × (e.own.passed ≡ [])) ⊎ ((e.own.place < ended) × (0 < marks ended) × (e.own.passed ≢ []))
 
@@ -126,7 +128,7 @@ pub record ViewInv (order : List Request) (ends : List End) (clear : List Reques
   pub own_ends : (p : ℕ) (r : Request) (end : End) → At order p r → r.node ≡ n → At ends p end → is_gone end ≡ false → p < length v.ends
   pub freed_clear : (r : Request) → Has v.freed r → Has v.clear r
 
--- the place of the node's last request: no other one of it is open
+-- the place of the node's last request; no other request of the node is open
 pub record LastRequestInv (order : List Request) (ended n : ℕ) (e : ArrayGhost) : Type 0 where
   pub asked : e.own.point ≢ Idle → 0 < e.view.count
   pub placed : 0 < e.view.count → At e.view.order e.own.place (own e.view)
@@ -150,7 +152,7 @@ pub record WalkInv (ended : ℕ) (clear : List Request) (marks releaser_of : ℕ
   pub passed : (i p : ℕ) → At e.own.passed i p → HasPassed ended clear marks releaser_of n e p
   pub once : (i j p : ℕ) → At e.own.passed i p → At e.own.passed j p → i ≡ j
 
--- the node's withdrawn requests: one that is not clear is its last
+-- the withdrawn requests of the node: only its last one can be not clear
 pub record WithdrawnInv (order clear : List Request) (marks : ℕ → ℕ) (n : ℕ) (e : ArrayGhost) : Type 0 where
   pub unmarked : is_unfinished e.own.point ≡ true → marks e.own.place ≡ 0
   pub unclear : is_unfinished e.own.point ≡ true → Lacks clear (own e.view)
@@ -180,8 +182,8 @@ pub record NodeInv (key : TableKey) (x : History) (n : ℕ) (e : ArrayGhost) : T
   pub flag : FlagInv x.clear x.flags n e
   pub joins : JoinedInv x.order n e.view.joined
 
--- A lock's invariant of its cells: by the number of ended requests, the node that has the line (0: none), whether the cell at its
--- turn is cleared, the mark of each place, and the word of each cell.
+-- The invariant that a kind of line has of its cells. Its arguments are the number of ended requests, the node that has
+-- the line (or 0), whether the cell at its turn is cleared, the mark of each place, and the word of each cell.
 abbrev pub Cells : Type 1
 Cells = ℕ → ℕ → Bool → (ℕ → ℕ) → (ℕ → ℕ) → Type 0
 
@@ -194,15 +196,15 @@ module _ (good : List ℕ → Type 0) (allows : List ℕ → List ℕ → Type 0
     pub sound : good (bytes_after key.config.opening.bytes x.ends)
     pub within : x.holder ≤ key.config.nodes
     pub cleared : Clears x.order (length x.ends) [] x.clear
-    -- if no node has the line, the cell at its turn is not cleared, the request there is not withdrawn, and the one before is
-    -- settled
+    -- if no node has the line, the cell at its turn is not cleared, the request there is not withdrawn, and the request
+    -- before it is settled
     pub nobody : x.holder ≡ 0 → (x.cleared ≡ false) × (x.marks (length x.ends) ≡ 0)
     pub settled : x.holder ≡ 0 → (p : ℕ) (r : Request) (end : End) → p + 1 ≡ length x.ends → At x.order p r → At x.ends p end → is_gone end ≡ false → Has x.clear r
     pub marked : (p : ℕ) → 0 < x.marks p → (r : Request) × At x.order p r × (r.node ≡ x.marks p)
     pub gone : (p : ℕ) (end : End) → At x.ends p end → (is_gone end ≡ true → 0 < x.marks p) × (0 < x.marks p → is_gone end ≡ true)
 
 module _ (cells : Cells) (slot_layout : SlotLayout) (good : List ℕ → Type 0) (allows : List ℕ → List ℕ → Type 0) (key : TableKey) where
-  -- the words and slots represent the history (representation relation)
+  -- the words and the slots represent the history (a representation relation)
   pub record Represents (x : History) (words : List ℕ) (homes : Homes) : Type 0 where
     pub more : key.config.nodes < slot_layout.cells
     pub wide : length words ≡ word_count slot_layout.cells

@@ -1,4 +1,4 @@
--- The phase of a node between its calls, by its port's state, and the number of word steps of a call.
+-- The phase of a node between its calls, by its port's state, and the number of atomic steps of each call.
 use Rattle.std.specs.Prelude.{◌≡◌, ◌≢◌, ℕ, ◌+◌, ◌*◌, [], length, Option}
 use Rattle.qolb_model.specs.declared.answer.PortState.{PortState}
 use Rattle.qolb_model.specs.declared.answer.PortState.TheVariants as port_state
@@ -12,7 +12,7 @@ use Rattle.line_cells.specs.Layout.{cell_at, cell_of}
 use Rattle.line_cells.specs.declared.local.Point.TheVariants.{Idle, Queued, Holding, Rolled}
 use Rattle.line_cells.specs.declared.local.Local.{Local}
 
--- the word on which a node waits: the cell of its token, of as many as a line of n nodes has
+-- the word on which a node waits: the cell of its token, among the cells that a line of n nodes has
 abbrev pub wait_word : (ℕ → ℕ) → ℕ → ℕ → ℕ → ℕ
 wait_word cells nodes node token = cell_at (cell_of (cells nodes) token)
 
@@ -20,9 +20,10 @@ wait_word cells nodes node token = cell_at (cell_of (cells nodes) token)
 abbrev pub initial : Local
 initial = record { point = Idle; place = 0; passed = [] }
 
--- A port stores a token of its last request, by that request's place in the order: its cell, for example, or its ticket.
+-- A port stores a token of its last request. The token depends on that request's place in the order: it is the
+-- request's cell, for example, or its ticket.
 module _ (token_of : ℕ → ℕ) where
-  -- the phase of a node that does not hold, by its port's state and token; no port is ever Left or Linking
+  -- the phase of a node that does not hold the line, by its port's state and token; no port is ever Left or Linking
   abbrev pub in_state : ℕ → PortState → ℕ → Local → Type 0
   in_state nodes port_state.Idle token own = own.point ≡ Idle
   in_state nodes port_state.Linking token own = ⊥
@@ -32,7 +33,7 @@ module _ (token_of : ℕ → ℕ) where
   in_state nodes port_state.Rolled token own = own.point ≡ Rolled
   in_state nodes port_state.Shut token own = own.point ≡ Idle
 
-  -- the node has the line and has passed no request; its token is that of the place at its turn
+  -- the node has the line and has passed no request; its token belongs to the place at its turn
   abbrev pub holds_open : ℕ → ℕ → Local → Type 0
   holds_open token ended own = (own.point ≡ Holding) × (own.passed ≡ []) × (token ≡ token_of ended)
 
@@ -44,7 +45,7 @@ module _ (token_of : ℕ → ℕ) where
   abbrev pub phases : (ℕ → ℕ → Payload → Slots → Type 0) → (ℕ → ℕ → Option ℕ → Slots → Type 0) → (ℕ → ℕ → Payload → Slots → Type 0) → PortPhases Local
   phases slots_at_grant slots_in_turn slots_at_release = record { initial = initial; in_state = in_state; holds_open = holds_open; holds_closed = holds_closed; slots_at_grant = slots_at_grant; slots_in_turn = slots_in_turn; slots_at_release = slots_at_release }
 
-  -- the word of the turn is the cell of the token of the place at its turn
+  -- the word of the turn is the cell of the token that belongs to the place at its turn
   abbrev pub wake_word : (ℕ → ℕ) → View → ℕ
   wake_word cells view = wait_word cells view.config.nodes view.node (token_of (length view.ends))
 
@@ -52,23 +53,24 @@ module _ (token_of : ℕ → ℕ) where
 abbrev pub allowed_states : PortState → Type 0
 allowed_states state = (state ≢ port_state.Left) × (state ≢ port_state.Linking)
 
--- a request takes a ticket and loads its cell; after a withdrawal, two steps before reset the node's word
+-- a request takes a ticket and loads its cell; after a withdrawal, two earlier steps reset the node's word
 abbrev pub requests_in : PortState → ℕ → Type 0
 requests_in state steps = (state ≢ port_state.Rolled → steps ≡ 2) × (state ≡ port_state.Rolled → steps ≡ 4)
 
--- a node that may not ask finds so in one step; a request that forwards a closed line may take any number
+-- a node that may not make a request learns so in one step; a request that forwards a closed line may take any number
+-- of steps
 abbrev pub enqueue_steps : PortState → Enq → ℕ → Type 0
 enqueue_steps state enq.Granted steps = requests_in state steps
 enqueue_steps state enq.Queued steps = requests_in state steps
 enqueue_steps state enq.Closed steps = Unit {0}
 enqueue_steps state enq.Busy steps = steps ≡ 1
 
--- a release takes `each` word steps for each end that it makes
+-- a release takes `each` atomic steps for each end that it makes
 module _ (each : ℕ) where
-  -- but one fewer
+  -- the steps of a release: `each` for each end, less one
   abbrev pub release_steps : ℕ → ℕ → ℕ → Type 0
   release_steps before after steps = steps + 1 + each * before ≡ each * after
 
-  -- a poll, and a release
+  -- the most steps of a poll, and of a release
   abbrev pub max_steps : ℕ → ℕ
   max_steps nodes = each * nodes

@@ -1,17 +1,17 @@
--- The number of cells of a line that has no more of them than its nodes need.
+-- The number of cells of a line that has only as many cells as its nodes need.
 use Rattle.std.specs.Prelude.{ℕ, zero, suc, ◌+◌, ◌-◌, ◌^◌, if◌then◌else◌}
 use lib.Dec.{ltb}
 
--- `least more bits nodes`: the least number of bits, from `bits` to `bits + more`, that can count the nodes
+-- `least more bits nodes` is the least number of bits, from `bits` to `bits + more`, that can count the nodes
 abbrev pub least : ℕ → ℕ → ℕ → ℕ
 least zero bits nodes = bits
 least (suc more) bits nodes = if ltb nodes (2 ^ bits) then bits else least more (bits + 1) nodes
 
--- the least power of two above the number of nodes: 2 to 256, as there are no more than 200
+-- the least power of two above the number of nodes, which is 2 to 256 because there are at most 200 nodes
 abbrev pub least_power : ℕ → ℕ
 least_power nodes = 2 ^ least 7 1 nodes
 
--- the number of cells, which is that power. (What follows uses only what the lemmas say of it.)
+-- the number of cells, which is that power (later proofs use only what the lemmas say of it)
 unfoldable pub cells_for : ℕ → ℕ
 cells_for nodes = least_power nodes
 

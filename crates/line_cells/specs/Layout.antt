@@ -1,5 +1,5 @@
--- The places of a table's words: the ticket counter, a word for each node, and the cells between those, each apart from the
--- others. The places do not depend on the number of nodes.
+-- The places of a table's words: the ticket counter, a word for each node, and the cells between those, each on a cache
+-- line of its own. The places do not depend on the number of nodes.
 use Rattle.std.specs.Prelude.{◌≡◌, ◌≢◌, ℕ, ◌+◌, ◌*◌, ◌%◌, ◌^◌, ◌<◌, ◌≤◌, List, slice_index}
 use Rattle.qolb_model.specs.declared.config.TheConstants.{MAX_NODES}
 use Rattle.line_cells.specs.declared.layout.TheConstants.{STRIDE, BEHIND}
@@ -13,7 +13,7 @@ node_at n = STRIDE * n
 abbrev pub cell_at : ℕ → ℕ
 cell_at c = BEHIND + STRIDE * c
 
--- the number of words for n cells, which are more than the nodes
+-- the number of words for n cells; there are more cells than nodes
 abbrev pub word_count : ℕ → ℕ
 word_count cells = STRIDE * cells
 
@@ -33,6 +33,6 @@ ticket_of place = place % 2 ^ 64
 abbrev pub cell_of : ℕ → ℕ → ℕ
 cell_of cells ticket = ticket % cells
 
--- the words of a new line: the first cell is granted, and all else is blank
+-- the words of a new line: the first cell is granted, and all other words are blank
 abbrev pub AreFirst : ℕ → ℕ → List ℕ → Type 0
 AreFirst cells granted words = (slice_index words (cell_at 0) ≡ granted) × ((i : ℕ) → i < word_count cells → i ≢ cell_at 0 → slice_index words i ≡ 0)

@@ -1,4 +1,4 @@
--- What a release as a whole tells a port.
+-- What a whole release tells a port.
 use Rattle.std.specs.Prelude.{◌≡◌, ◌≢◌, ◌<◌, ◌≤◌, ℕ, suc, List, ◌++◌, length, replicate, Option, Some, None}
 use Rattle.qolb_model.specs.declared.answer.PortState.{PortState}
 use Rattle.qolb_model.specs.declared.answer.PortState.TheVariants as port_state
@@ -17,12 +17,13 @@ use Rattle.line_generic.specs.declared.table.Payload.{Payload}
 use Rattle.line_cells.specs.Layout.{IsWithin}
 use Rattle.line_cells.specs.Array.{ArrayGhost, At}
 
--- the number of word steps by which a node finds out whether it may ask, and resets its word
+-- the number of atomic steps by which a node learns whether it may make a request, and resets its word
 abbrev pub steps_to_reset : Option ℕ → ℕ
 steps_to_reset (Some steps) = steps
 steps_to_reset None = 1
 
--- the node may ask, after that many word steps; or its last request was withdrawn and is not clear, so it may not
+-- the node may make a request, after that many atomic steps; or its last request was withdrawn and is not clear, so it
+-- may not
 abbrev pub TriesReset : PortState → ArrayGhost → ArrayGhost → Option ℕ → Type 0
 TriesReset state v w (Some steps) = (w.own.point ≡ Idle) × (w.view.count ≡ v.view.count) × (steps ≤ 2) × (state ≢ port_state.Rolled → steps ≡ 0) × (state ≡ port_state.Rolled → steps ≡ 2)
 TriesReset state v w None = (state ≡ port_state.Rolled) × (w.own.point ≡ Rolled) × (w.view.state ≡ v.view.state) × (w.view.count ≡ v.view.count) × Lacks w.view.clear (own w.view)
@@ -39,8 +40,8 @@ pub record ReleasesLine (v : ArrayGhost) (y : Payload) (w : ArrayGhost) : Type 0
   pub state : w.view.state ≡ state_after y.closed
   pub ends_turn : EndsTurn v.view (own_end (is_closed v.view.ends) y) (state_after y.closed) w.view
 
--- a release is over that had passed the request at its turn and none before; it passed requests of different nodes, none of them
--- its own
+-- A release is over. It had passed the request at its turn and none before. It passed requests of different nodes, none
+-- of them its own.
 pub record FinishesWalk (v w : ArrayGhost) : Type 0 where
   pub point : w.own.point ≡ Idle
   pub state : w.view.state ≡ v.view.state

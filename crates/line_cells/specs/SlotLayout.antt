@@ -1,4 +1,4 @@
--- The slots of a lock: one for all turns, for example, or one for each cell.
+-- The slots of a lock: for example, one slot for all turns, or one slot for each cell.
 use Rattle.std.specs.Prelude.{◌≡◌, ◌<◌, ℕ, List, [], ◌∷◌, Bool, false, Option, None}
 use mathlib.Core.Option.{some}
 use mathlib.Core.Option as maybe
@@ -12,8 +12,8 @@ use Rattle.std.proofs.Common.{lit<}
 abbrev pub Homes : Type 0
 Homes = List (maybe.Option Payload)
 
--- A slot that the line was in before, or never: it says nothing of turns if the line has no lease, and is open while the line is. By the
--- turns left and the closed mark of the line.
+-- A slot that the line was in before, or never. It says nothing of turns if the line has no lease, and it is open while
+-- the line is. The arguments are the turns left and the closed mark of the line.
 pub record IsBehind (left : Option ℕ) (closed : Bool) (z : Payload) : Type 0 where
   pub turns : left ≡ None → z.turns_left ≡ None
   pub is_open : closed ≡ false → z.closed ≡ false
@@ -22,9 +22,9 @@ pub record IsBehind (left : Option ℕ) (closed : Bool) (z : Payload) : Type 0 w
 abbrev pub IsSpare : Option ℕ → Bool → Homes → ℕ → Type 0
 IsSpare left closed homes k = (y : Payload) × (get_elem? homes k ≡ some (some y)) × IsBehind left closed y
 
--- The numbers of cells and slots of a lock. By the number of ended requests: the slot of the line if no node has it, and the
--- slots that are out if some node does. And the slots of a node to which this payload was granted, and of one that has stored it
--- for its successor.
+-- The slots of a kind of line: the numbers of its cells and slots; for each number of ended requests, the slot of the
+-- line while no node has it, and the slots that are out while some node does; and the slots of a node to which this
+-- payload was granted, and of a node that has stored it for its successor.
 pub record SlotLayout : Type 1 where
   pub cells : ℕ
   pub some_cells : 0 < cells

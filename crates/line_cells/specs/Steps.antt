@@ -1,4 +1,4 @@
--- What each word step of a port tells it.
+-- What each atomic step tells the port that takes it.
 use Rattle.std.specs.Prelude.{◌≡◌, ◌≢◌, ℕ, ◌+◌, ◌≤◌, List, [], ◌∷◌, ◌++◌, length, Bool, Some}
 use Rattle.atomic_table.specs.Table.{Step}
 use Rattle.atomic_table.specs.Seated.{TableId}
@@ -49,15 +49,16 @@ ghost_of seat = line.ghost_of initial seat
 abbrev pub IsAt : Point → ArraySeat → Type 0
 IsAt point seat = IsOfOneNode seat.me × ((ghost_of seat).own.point ≡ point)
 
--- the seat is of the table of a line of n nodes, with the cells that these need, and has this node's ghost state
+-- the seat belongs to the table of a line of n nodes, with the cells that these nodes need, and has this node's ghost
+-- state
 abbrev pub IsSeatOfNode : (ℕ → ℕ) → ℕ → TableId → ℕ → ArraySeat → Type 0
 IsSeatOfNode cells nodes table_id node seat = answers.IsSeatOfNode (λ n. word_count (cells n)) nodes table_id initial node seat
 
--- after n word steps of its node the seat still has one node, whose view is extended
+-- after n atomic steps of its node the seat still has one node, whose view is extended
 abbrev pub Advances : (List ℕ → List ℕ → Type 0) → SeatContents → SeatContents → ℕ → Type 0
 Advances allows old new steps = line.Advances allows initial old new steps
 
--- both are the same seat, n word steps later
+-- both are the same seat, n atomic steps later
 abbrev pub SeatAdvances : (List ℕ → List ℕ → Type 0) → ArraySeat → ArraySeat → ℕ → Type 0
 SeatAdvances allows old new steps = line.SeatAdvances allows initial old new steps
 
@@ -69,7 +70,7 @@ pub record TakesTicket (v w : ArrayGhost) : Type 0 where
   pub joined : Has w.view.joined (own w.view)
 
 module _ (token_of : ℕ → ℕ) where
-  -- the request is not at its turn, and not withdrawn; it is at its turn; it is not at its turn, and withdrawn
+  -- the request is not at its turn and not withdrawn; or it is at its turn; or it is not at its turn and withdrawn
   abbrev pub IsStillQueued : ℕ → ArrayGhost → Type 0
   IsStillQueued token w = line.IsStillQueued (in_state token_of) token w
 
@@ -87,7 +88,8 @@ pub record TellsIfClear (v : ArrayGhost) (found : ℕ) (w : ArrayGhost) : Type 0
   pub unclear : found ≡ 0 → Lacks w.view.clear (own w.view)
   pub clear : found ≢ 0 → Has w.view.clear (own w.view)
 
--- the end that the next grant makes: of the node's own request if it has passed none, else of a withdrawn one
+-- the end that the next grant makes: that of the node's own request if it has passed none, and otherwise that of a
+-- withdrawn request
 abbrev pub end_of : List ℕ → Bool → Payload → End
 end_of [] closed y = own_end closed y
 end_of (p ∷ ps) closed y = Gone
@@ -95,12 +97,13 @@ end_of (p ∷ ps) closed y = Gone
 abbrev pub next_end : ArrayGhost → Payload → End
 next_end v y = end_of v.own.passed (is_closed v.view.ends) y
 
--- a release ends here if no passed node is to be freed
+-- a release ends here if it has no passed node to free
 abbrev pub after_walk : List ℕ → Point
 after_walk [] = Idle
 after_walk (p ∷ ps) = Freeing
 
--- `y` is the payload after the end that the release makes next: that end is legal, and the change obeys the line's law
+-- `y` is the payload after the end that the release makes next: that end is legal, and the change obeys the line's data
+-- invariant
 pub record IsNextPayload (allows : List ℕ → List ℕ → Type 0) (v : ArrayGhost) (y : Payload) : Type 0 where
   pub bytes : bytes_after v.view.config.opening.bytes (v.view.ends ++ next_end v y ∷ []) ≡ y.bytes.bytes
   pub closed : is_closed (v.view.ends ++ next_end v y ∷ []) ≡ y.closed
@@ -135,7 +138,7 @@ pub record Passes (v : ArrayGhost) (node : ℕ) (w : ArrayGhost) : Type 0 where
   pub few : length w.own.passed + 1 ≤ w.view.config.nodes
   pub nodes : w.view.config.nodes ≤ MAX_NODES
 
--- the node of the first passed request is freed, and that request is clear; ps are the passed ones that are left
+-- the node of the first passed request is freed, and that request is clear; ps are the passed requests that are left
 pub record Frees (v : ArrayGhost) (ps : List ℕ) (r : Request) (w : ArrayGhost) : Type 0 where
   pub point : w.own.point ≡ after_walk ps
   pub passed : w.own.passed ≡ ps
@@ -166,8 +169,8 @@ module _ (allows : List ℕ → List ℕ → Type 0) where
   abbrev pub loaded_node : Step Payload → SeatContents → ℕ → SeatContents → Type 0
   loaded_node st m n m' = (m'.1 ≡ m.1) × Advances allows m m' 1 × TellsIfClear (single m.0) n (single m'.0)
 
-  -- The node's own cell is loaded, or written. By the place of its request, the old word says that the node waits on, or that the
-  -- line is granted.
+  -- The node loads its own cell, or writes it. By the place of the node's request, the old word says that the node
+  -- still waits, or that the line is granted to it.
   module _ (token_of : ℕ → ℕ) (slot_layout : SlotLayout) (waits shows_turn : ℕ → ℕ → Type 0) where
     abbrev pub loaded : Step Payload → SeatContents → ℕ → SeatContents → Type 0
     loaded st m n m' = Advances allows m m' 1 × ((single m'.0).view.count ≡ (single m.0).view.count)
@@ -179,7 +182,8 @@ module _ (allows : List ℕ → List ℕ → Type 0) where
         × (waits (single m.0).own.place n → (m'.1 ≡ m.1) × IsRolled token_of (token_of (single m.0).own.place) (single m'.0))
         × (shows_turn (single m.0).own.place n → (y : Payload) × slot_layout.slots_at_grant (single m.0).own.place y m'.1 × IsAtTurn token_of (token_of (single m.0).own.place) (single m'.0) y)
 
-  -- The next cell is granted. By its place, the old word is read as 0 if no node withdrew there, and else names that node.
+  -- The next cell is granted. By the place of that cell, the old word is read as 0 if no node withdrew there, and
+  -- otherwise names the node that did.
   module _ (slot_layout : SlotLayout) (seen withdrawn_by : ℕ → ℕ → ℕ) where
     abbrev pub granted : Step Payload → SeatContents → ℕ → SeatContents → Type 0
     granted st m n m' = Advances allows m m' 1

@@ -1,4 +1,4 @@
-//! The words of a table: the ticket counter, a word for each node, and the cells. Any two are at
+//! The words of an array lock's table: the ticket counter, a word for each node, and the cells. Any two words are at
 //! least 64 bytes apart, so no two share a cache line of 64 bytes.
 ghost use Rattle.std.specs.Prelude.{◌≡◌, ◌≢◌, ℕ, ◌+◌, ◌<◌, ◌≤◌, MatchBool};
 ghost use Rattle.qolb_model.specs.declared.config.TheConstants.{MAX_NODES};
@@ -7,21 +7,21 @@ ghost use Rattle.line_generic.specs.declared.elsewhere.TheConstants.{NO_WORD};
 ghost use Rattle.line_cells.specs.Counting as counting;
 ghost use Rattle.line_cells.specs.Layout as layout;
 
-/// The maximum number of cells. It is more than `MAX_NODES`, so no two open requests have one cell;
-/// and it divides 2^64, so that tickets may wrap.
+/// The maximum number of cells. It is more than `MAX_NODES`, so no two open requests share a cell. It divides 2^64, so
+/// tickets may wrap around.
 pub const CELLS: u64 = 256;
 
 /// The distance in words between two nodes' words, and between two cells.
 pub const STRIDE: usize = 16;
 
-/// The distance in words from the ticket counter to the first cell. So the cells are between the
-/// words of the nodes, which are seldom used.
+/// The distance in words from the ticket counter to the first cell. The cells lie between the words of the nodes, which
+/// are seldom used.
 pub(crate) const BEHIND: usize = 8;
 
 /// The word of the ticket counter.
 pub const TICKET_WORD: usize = 0;
 
-/// The number of all words, with the maximum of cells.
+/// The number of all words of a table with the maximum number of cells.
 pub const WORDS: usize = STRIDE * CELLS as usize;
 
 /// Returns the number of words for `cells` cells, which are more than the nodes.
@@ -32,8 +32,8 @@ pub fn word_count(cells: u64) -> usize
     STRIDE * cells as usize
 }
 
-/// Returns the number of cells of a line of `nodes` nodes: the least power of two above it, so that
-/// a mask finds a ticket's cell.
+/// Returns the number of cells of a line of `nodes` nodes, which is the least power of two above that number, so that a
+/// mask finds a ticket's cell.
 pub fn cell_count(nodes: u64) -> u64
     ensures cells { result ≡ counting.cells_for nodes }
     ensures within { (2 ≤ result) × (result ≤ CELLS) }
@@ -41,7 +41,7 @@ pub fn cell_count(nodes: u64) -> u64
     least_power(nodes)
 }
 
-/// Returns the least power of two above `nodes`, 2 to 256.
+/// Returns the least power of two above `nodes`, which is 2 to 256.
 fn least_power(nodes: u64) -> u64
     ensures power { result ≡ counting.least_power nodes }
     ensures within { (2 ≤ result) × (result ≤ CELLS) }
@@ -91,8 +91,8 @@ pub fn is_freed(word: u64) -> bool
     word != 0
 }
 
-/// Any two words of a table are at least 8 words apart; the ticket counter is where a node 0 would
-/// have its word. A law: the contract of a function that does nothing.
+/// Any two words of a table are at least 8 words apart, where the ticket counter counts as the word of a node 0. This
+/// theorem is the contract of a function that does nothing.
 pub fn words_are_apart()
     ensures ticket { layout.ticket_at ≡ layout.node_at 0 }
     ensures nodes { (m n : ℕ) → m < n → n ≤ MAX_NODES
@@ -103,7 +103,7 @@ pub fn words_are_apart()
         → layout.cell_at c + 8 ≤ layout.node_at n }
 {}
 
-/// `NO_WORD` is none of the words of a table. A law.
+/// `NO_WORD` is not a word of any table. This, too, is a theorem.
 pub fn no_word_is_none()
     ensures { WORDS ≤ NO_WORD }
 {}

@@ -1,4 +1,4 @@
-//! What the locks share whose nodes take tickets, and wait on the cells of an array.
+//! What the two array locks share: their nodes draw tickets, and wait on the cells of an array.
 #![tactic(auto)]
 
 mod layout;

@@ -1,4 +1,4 @@
-//! The ghost state of a node of a table of tickets.
+//! The ghost state of a node of an array lock.
 use std::collections::LinkedList;
 
 /// The progress of a node in its calls.
@@ -11,15 +11,17 @@ pub enum Point {
     Holding,
     /// The node is in a release, and the request at its turn is withdrawn.
     Passing,
-    /// The node is in a release, and the cell at its turn is cleared. Only a lock that clears its cells uses this.
+    /// The node is in a release, and the cell at its turn is cleared. Only a kind of line that clears its cells uses
+    /// this point.
     Cleared,
-    /// The node has released the line, and has still to free nodes that it passed.
+    /// The node has released the line, and still has to free nodes that it passed.
     Freeing,
     /// The node's request is withdrawn.
     Rolled,
 }
 
-/// The invariant's knowledge of a node beside its port's view. Ghost state, of which no value is made.
+/// What the invariant knows of a node besides its port's view. It is ghost state, and the program makes no value of
+/// this type.
 pub struct Local {
     /// The node's progress in its calls.
     pub point: Point,

@@ -1,4 +1,4 @@
-//! The ghost updates of the word steps that are on no cell.
+//! The ghost updates of the atomic steps on words other than cells.
 ghost use Rattle.line_cells.specs.Steps.{drawn, freed, loaded_node, reset};
 
 use crate::local::Local;

@@ -1,4 +1,5 @@
--- What the calls of a discipline require and ensure of a node, by the number of nodes of the line and the token of the node's port.
+-- What the calls of a discipline require and ensure of a node, in terms of the number of nodes of the line and the
+-- token of the node's port.
 use Rattle.std.specs.Prelude.{◌≡◌, ◌≢◌, ◌⊎◌, ◌≤◌, ℕ, List, [], ◌∷◌, Bool, true, false}
 use Rattle.atomic_table.specs.Seated.{TableId}
 use Rattle.qolb_model.specs.declared.answer.PortState.{PortState}
@@ -24,7 +25,7 @@ use Rattle.line_generic.specs.PortPhases.{PortPhases}
 use Rattle.line_generic.specs.Ports.{IsStored}
 use Rattle.line_generic.specs.Steps.{ghost_of, IsSameSeat, IsSeatOf, IsOwnNode, HasNoSlot, HoldsPayload, IsStillQueued, IsUnlinked, IsRolledBack, IsAtTurn, IsInState, IsNextPayload, own_end, merged_ghost}
 
--- the seat is of the table of a line of n nodes, and has this node's ghost state
+-- the seat belongs to the table of a line of n nodes, and has this node's ghost state
 abbrev pub IsSeatOfNode : {O : Type 0} → (ℕ → ℕ) → ℕ → TableId → O → ℕ → LineSeat O → Type 0
 IsSeatOfNode word_count nodes table_id initial node s = IsSeatOf (word_count nodes) table_id s × IsOwnNode initial nodes node s
 
@@ -32,15 +33,15 @@ IsSeatOfNode word_count nodes table_id initial node s = IsSeatOf (word_count nod
 abbrev pub HasNodes : View → Type 0
 HasNodes v = (1 ≤ v.config.nodes) × (v.config.nodes ≤ MAX_NODES)
 
--- a request takes `steps` word steps, as its lock says by state and answer, and four at most
+-- a request takes as many atomic steps as its kind of line says for the state and the answer, and four at most
 pub record CountsRequest (enqueue_steps : PortState → Enq → ℕ → Type 0) (state : PortState) (answer : Enqueued) (steps : ℕ) : Type 0 where
   pub busy : answer ≡ enqueued.Busy → enqueue_steps state enq.Busy steps
   pub queued : answer ≡ enqueued.Queued → enqueue_steps state enq.Queued steps
   pub at_turn : answer ≡ enqueued.AtTurn → enqueue_steps state enq.Granted steps
   pub bound : steps ≤ 4
 
--- `look_at_rest`: the last request is clear, or it is not and the node is busy. The state that is left, of the node's old token, is the old
--- one or idle.
+-- What `look_at_rest` shows: the last request is clear, or it is not clear and the node is busy. The state in which the
+-- port is left, with the node's old token, is the old state or idle.
 pub record LooksAtRest {O : Type 0} (q : PortPhases O) (state : PortState) (old new : LineSeat O) (left : PortState) (clear : Bool) : Type 0 where
   pub stays : (m : ℕ) → IsInState q state m old → IsInState q left m new
   pub leaves : (left ≡ state) ⊎ (left ≡ port_state.Idle)
@@ -73,19 +74,21 @@ module _ {O : Type 0} (q : PortPhases O) (nodes token : ℕ) where
   abbrev pub HasRolledBack : LineSeat O → Type 0
   HasRolledBack s = HasNoSlot s × IsRolledBack q.in_state token (ghost_of q.initial s)
 
-  -- `take`: the port has a copy of the granted line, without a write; a closed line is stored for the successor
+  -- what `take` shows: the port has a copy of the granted line and has written nothing; a closed line is stored for the
+  -- successor
   pub record Takes (old new : LineSeat O) (copy : LocalCopy) : Type 0 where
     pub seat : IsSameSeat old new × (new.me.0 ≡ old.me.0)
     pub copied : (y : Payload) → q.slots_at_grant nodes token y old.me.1 → IsCopy copy y
     pub kept : (y : Payload) → q.slots_at_grant nodes token y old.me.1 → y.closed ≡ false → q.slots_in_turn nodes token y.turns_left new.me.1
     pub stored : (y : Payload) → q.slots_at_grant nodes token y old.me.1 → y.closed ≡ true → q.slots_at_release nodes token y new.me.1
 
-  -- `put`: the line of this turn is stored for the successor, closed or not
+  -- what `put` shows: the line of this turn is stored for the successor, closed or not
   pub record Puts (old new : LineSeat O) (turn : LocalCopy) (closed : Bool) : Type 0 where
     pub seat : IsSameSeat old new × (new.me.0 ≡ old.me.0)
     pub stored : (y : Payload) × q.slots_at_release nodes token y new.me.1 × IsStored turn closed y
 
-  -- `ask`: no request is made, as the last one is not clear; or one is made, and is behind another, or at its turn with the line
+  -- what `ask` shows: the node made no request, because its last one is not clear; or it made one, which is behind
+  -- another request, or at its turn with the line
   pub record MakesRequest (state : PortState) (old new : LineSeat O) (answer : Enqueued) : Type 0 where
     pub stays : answer ≡ enqueued.Busy → (m : ℕ) → IsInState q state m old → IsInState q state m new
     pub busy : answer ≡ enqueued.Busy → IsBusy (ghost_of q.initial old).view (ghost_of q.initial new).view
@@ -94,7 +97,7 @@ module _ {O : Type 0} (q : PortPhases O) (nodes token : ℕ) where
     pub queued : answer ≡ enqueued.Queued → WaitsOn new
     pub at_turn : answer ≡ enqueued.AtTurn → HasGrant new
 
-  -- `prepend`: as `ask`, but a request behind another is not linked yet
+  -- what `prepend` shows: the same as `ask`, but a request behind another one is not linked yet
   pub record PutsRequest (state : PortState) (old new : LineSeat O) (answer : Enqueued) : Type 0 where
     pub stays : answer ≡ enqueued.Busy → (m : ℕ) → IsInState q state m old → IsInState q state m new
     pub busy : answer ≡ enqueued.Busy → IsBusy (ghost_of q.initial old).view (ghost_of q.initial new).view
@@ -103,33 +106,35 @@ module _ {O : Type 0} (q : PortPhases O) (nodes token : ℕ) where
     pub queued : answer ≡ enqueued.Queued → IsToLink new
     pub at_turn : answer ≡ enqueued.AtTurn → HasGrant new
 
-  -- `look`: the request is at its turn with the line, or the node still waits
+  -- what `look` shows: the request is at its turn with the line, or the node still waits
   pub record PollsWord (old new : LineSeat O) (is_at_turn : Bool) : Type 0 where
     pub count : (ghost_of q.initial new).view.count ≡ (ghost_of q.initial old).view.count
     pub queued : is_at_turn ≡ false → WaitsOn new
     pub at_turn : is_at_turn ≡ true → HasGrant new
 
-  -- `roll`: the request is at its turn with the line, or is withdrawn
+  -- what `roll` shows: the request is at its turn with the line, or is withdrawn
   pub record Rolls (old new : LineSeat O) (is_at_turn : Bool) : Type 0 where
     pub count : (ghost_of q.initial new).view.count ≡ (ghost_of q.initial old).view.count
     pub withdrawn : is_at_turn ≡ false → HasRolledBack new
     pub at_turn : is_at_turn ≡ true → HasGrant new
 
-  -- `link`: the request is linked to its predecessor's; the predecessor left the line for it, so it is at its turn, or the node waits
+  -- what `link` shows: the request is linked to its predecessor's; if the predecessor left the line for it, it is at
+  -- its turn, and otherwise the node waits
   pub record LinksOn (old new : LineSeat O) (is_at_turn : Bool) : Type 0 where
     pub links : Links (ghost_of q.initial old).view (ghost_of q.initial new).view
     pub queued : is_at_turn ≡ false → WaitsOn new
     pub at_turn : is_at_turn ≡ true → HasGrant new
 
-  -- the line has been granted to the node closed, and is stored for the successor
+  -- the line was granted to the node closed, and is stored for the successor
   abbrev pub HasStoredClosed : LineSeat O → Type 0
   HasStoredClosed s = (y : Payload) × q.slots_at_release nodes token y s.me.1 × IsAtTurn q.holds_open q.holds_closed token (ghost_of q.initial s) y × (y.closed ≡ true)
 
-  -- `release` requires the line stored for the successor, closed or not: the payload after the end of the node's own request
+  -- what `release` requires: the line is stored for the successor, closed or not, as the payload after the end of the
+  -- node's own request
   abbrev pub HasStored : (List ℕ → List ℕ → Type 0) → Bool → LineSeat O → Type 0
   HasStored allows closed s = (y : Payload) × q.slots_at_release nodes token y s.me.1 × HoldsPayload q.holds_open q.holds_closed token (ghost_of q.initial s) y × IsNextPayload allows (ghost_of q.initial s).view y × (y.closed ≡ closed)
 
-  -- after `release` the node does not hold, and its request has ended
+  -- what `release` shows: the node does not hold the line, and its request has ended
   pub record HandsOver (old new : LineSeat O) (state : PortState) : Type 0 where
     pub in_state : (m : ℕ) → IsInState q state m new
     pub not_held : state ≢ port_state.Holding

@@ -1,5 +1,5 @@
--- What each call of a discipline requires and ensures of its node's seat: one record for each, by the phases `q` of its nodes, or all its ghost
--- state `d`, and the table `t`.
+-- What each call of a discipline requires and ensures of its node's seat. There is one record for each call, over the
+-- phases `q` of the discipline's nodes, or all its ghost state `d`, and over the table `t`.
 use Rattle.std.specs.Prelude.{◌≡◌, ◌≢◌, ℕ, ◌+◌, ◌<◌, ◌≤◌, List, length, Bool, Some, IsTrue}
 use Rattle.atomic_table.specs.declared.shared.Shared.{Shared}
 use Rattle.qolb_model.specs.declared.answer.PortState.{PortState}
@@ -25,13 +25,13 @@ abbrev pub LineTable : Type 0 → Type 0 → Type 0
 LineTable O P = Shared Payload (List (NodeGhost O)) TableKey P
 
 module _ {O P : Type 0} (q : PortPhases O) (cell_mask_for : ℕ → ℕ) (t : LineTable O P) where
-  -- `take`: the line is granted to the node, in the slots of its seat
+  -- what `take` requires: the line is granted to the node, in the slots of its seat
   pub record MayTake (cell_mask token : ℕ) (s : LineSeat O) : Type 0 where
     pub table : s.table_id ≡ t.table_id
     pub mask_fits : cell_mask ≡ cell_mask_for t.key.config.nodes
     pub at_turn : (y : Payload) × q.slots_at_grant t.key.config.nodes token y s.me.1
 
-  -- `put`: the holder has the slots of its turn, and at least one turn left
+  -- what `put` requires: the holder has the slots of its turn, and at least one turn left
   pub record MayPut (cell_mask token : ℕ) (s : LineSeat O) (turn : LocalCopy) : Type 0 where
     pub table : s.table_id ≡ t.table_id
     pub mask_fits : cell_mask ≡ cell_mask_for t.key.config.nodes
@@ -39,32 +39,32 @@ module _ {O P : Type 0} (q : PortPhases O) (cell_mask_for : ℕ → ℕ) (t : Li
     pub left : turn.turns_left ≢ Some 0
 
 module _ {O P : Type 0} (q : PortPhases O) (word_count : ℕ → ℕ) (t : LineTable O P) where
-  -- `look_at_rest`, `prepend`: the node may ask
+  -- what `look_at_rest` and `prepend` require: the node may make a request
   pub record IsNodeAtRest (node : ℕ) (state : PortState) (s : LineSeat O) : Type 0 where
     pub seat : IsSeatOfNode word_count t.key.config.nodes t.table_id q.initial node s
     pub in_state : (token : ℕ) × IsInState q state token s
     pub may_ask : IsTrue (states.may_ask state)
 
-  -- `link`: the node's request is still to be linked to its predecessor's
+  -- what `link` requires: the node still has to link its request to its predecessor's
   pub record IsSuccessor (node token : ℕ) (s : LineSeat O) : Type 0 where
     pub seat : IsSeatOfNode word_count t.key.config.nodes t.table_id q.initial node s
     pub in_state : IsInState q port_state.Linking token s
 
 module _ {O P : Type 0} (q : PortPhases O) (word_count cell_mask_for : ℕ → ℕ) (t : LineTable O P) where
-  -- `ask`: the node may ask, and the mask is the line's
+  -- what `ask` requires: the node may make a request, and the mask is the line's
   pub record IsRequester (cell_mask node : ℕ) (state : PortState) (s : LineSeat O) : Type 0 where
     pub seat : IsSeatOfNode word_count t.key.config.nodes t.table_id q.initial node s
     pub mask_fits : cell_mask ≡ cell_mask_for t.key.config.nodes
     pub in_state : (token : ℕ) × IsInState q state token s
     pub may_ask : IsTrue (states.may_ask state)
 
-  -- `look`, `roll`: the node waits with this token
+  -- what `look` and `roll` require: the node waits with this token
   pub record IsWaiter (cell_mask node token : ℕ) (s : LineSeat O) : Type 0 where
     pub seat : IsSeatOfNode word_count t.key.config.nodes t.table_id q.initial node s
     pub mask_fits : cell_mask ≡ cell_mask_for t.key.config.nodes
     pub in_state : IsInState q port_state.Queued token s
 
-  -- `release`: the node has stored the line for its successor, closed or not
+  -- what `release` requires: the node has stored the line for its successor, closed or not
   pub record IsReleaser (allows : List ℕ → List ℕ → Type 0) (cell_mask node token : ℕ) (closed : Bool) (s : LineSeat O) : Type 0 where
     pub seat : IsSeatOfNode word_count t.key.config.nodes t.table_id q.initial node s
     pub mask_fits : cell_mask ≡ cell_mask_for t.key.config.nodes
@@ -81,7 +81,7 @@ module _ {O P : Type 0} (q : PortPhases O) (word_count cell_mask_for : ℕ → �
     pub at_turn : HasStoredClosed q t.key.config.nodes token s
 
 module _ {D O P : Type 0} (d : spec.Ghosts D O) (word_count : ℕ → ℕ) (t : LineTable O P) where
-  -- after `release`: the node's turn is over, and the next holder is to be unparked
+  -- what `release` ensures: the node's turn is over, and its caller must unpark the next holder
   pub record HasReleased (allows : List ℕ → List ℕ → Type 0) (token : ℕ) (old new : LineSeat O) (released : Released) : Type 0 where
     pub advances : SeatAdvances allows d.phases.initial old new released.steps
     pub hands_over : HandsOver d.phases t.key.config.nodes token old new released.state
@@ -90,7 +90,8 @@ module _ {D O P : Type 0} (d : spec.Ghosts D O) (word_count : ℕ → ℕ) (t : 
     pub names_wake_word : released.unpark.word ≡ d.wake_word (ghost_of d.phases.initial new).view
     pub bound : released.steps + 1 ≤ d.max_steps (ghost_of d.phases.initial old).view.config.nodes
 
-  -- after a closed line was forwarded: the node was told, and the next holder is to be unparked
+  -- what forwarding a closed line ensures: the node was told that the line is closed, and its caller must unpark the
+  -- next holder
   pub record HasForwarded (allows : List ℕ → List ℕ → Type 0) (old new : LineSeat O) (released : Released) : Type 0 where
     pub advances : SeatAdvances allows d.phases.initial old new released.steps
     pub count : (ghost_of d.phases.initial new).view.count ≡ (ghost_of d.phases.initial old).view.count
@@ -101,24 +102,24 @@ module _ {D O P : Type 0} (d : spec.Ghosts D O) (word_count : ℕ → ℕ) (t : 
     pub bound : released.steps + 1 ≤ d.max_steps (ghost_of d.phases.initial old).view.config.nodes
 
 module _ {D O P : Type 0} (d : spec.Ghosts D O) (t : LineTable O P) (allows : List ℕ → List ℕ → Type 0) where
-  -- after `ask`: a request is made, unless the node is busy
+  -- what `ask` ensures: the node made a request, unless it is busy
   pub record HasRequested (state : PortState) (old new : LineSeat O) (made : EnqueueResult) : Type 0 where
     pub advances : SeatAdvances allows d.phases.initial old new made.steps
     pub request : MakesRequest d.phases t.key.config.nodes made.token state old new made.answer
     pub steps : CountsRequest d.enqueue_steps state made.answer made.steps
 
 module _ {O P : Type 0} (q : PortPhases O) (t : LineTable O P) (allows : List ℕ → List ℕ → Type 0) where
-  -- after `look`: the request is at its turn, or the node waits
+  -- what `look` ensures: the request is at its turn, or the node waits
   pub record HasLooked (token : ℕ) (old new : LineSeat O) (is_at_turn : Bool) : Type 0 where
     pub advances : SeatAdvances allows q.initial old new 1
     pub polls : PollsWord q t.key.config.nodes token old new is_at_turn
 
-  -- after `roll`: the request is at its turn, or withdrawn
+  -- what `roll` ensures: the request is at its turn, or withdrawn
   pub record HasRolled (token : ℕ) (old new : LineSeat O) (is_at_turn : Bool) : Type 0 where
     pub advances : SeatAdvances allows q.initial old new 1
     pub rolls : Rolls q t.key.config.nodes token old new is_at_turn
 
-  -- after `prepend`: a request is made, unless the node is busy
+  -- what `prepend` ensures: the node made a request, unless it is busy
   pub record HasPrepended (prepend_steps : PortState → ℕ) (state : PortState) (old new : LineSeat O) (made : EnqueueResult) : Type 0 where
     pub advances : SeatAdvances allows q.initial old new made.steps
     pub request : PutsRequest q t.key.config.nodes made.token state old new made.answer
@@ -126,12 +127,12 @@ module _ {O P : Type 0} (q : PortPhases O) (t : LineTable O P) (allows : List �
     pub steps : made.answer ≢ enqueued.Busy → made.steps ≡ prepend_steps state
     pub bound : made.steps ≤ 3
 
-  -- after `link`: the request is linked to its predecessor's
+  -- what `link` ensures: the request is linked to its predecessor's
   pub record HasLinked (token : ℕ) (old new : LineSeat O) (is_at_turn : Bool) : Type 0 where
     pub advances : SeatAdvances allows q.initial old new 1
     pub links : LinksOn q t.key.config.nodes token old new is_at_turn
 
--- after `look_at_rest`: the last request is clear, or the node is busy
+-- what `look_at_rest` ensures: the last request is clear, or the node is busy
 pub record HasLookedAtRest {O : Type 0} (q : PortPhases O) (allows : List ℕ → List ℕ → Type 0) (state : PortState) (old new : LineSeat O) (looked : Rested) : Type 0 where
   pub advances : SeatAdvances allows q.initial old new looked.steps
   pub polls : LooksAtRest q state old new looked.state looked.clear

@@ -14,7 +14,7 @@ pub record IsGathered {O : Type 0} (in_state : ℕ → PortState → ℕ → O �
   pub views : views_of whole.me.0 ≡ map (λ (p : PortModel). p.view) ports
   pub at_rest : (i : ℕ) (e : NodeGhost O) → slice_get whole.me.0 i ≡ Some e → AtRest in_state e
 
--- the seat has the ghost states of some of the ports' nodes, and the others are still to be joined
+-- the seat has the ghost states of some of the ports' nodes, and the other seats must still be joined
 pub record HasJoinedSome {O : Type 0} (in_state : ℕ → PortState → ℕ → O → Type 0) (table_id : TableId) (ports rest : List PortModel) (whole : LineSeat O) : Type 0 where
   pub table : whole.table_id ≡ table_id
   pub views : views_of whole.me.0 ++ map (λ (p : PortModel). p.view) rest ≡ map (λ (p : PortModel). p.view) ports

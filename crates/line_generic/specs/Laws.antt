@@ -1,4 +1,4 @@
--- The laws of a discipline: what its words, its invariant and its slots give, each by one name.
+-- The theorems that a discipline must prove of its words, its invariant and its slots. Each has one name here.
 use Rattle.std.specs.Prelude.{◌≡◌, ℕ, List, [], ◌∷◌, ◌++◌, replicate, length, Bool, false, Option}
 use mathlib.Core.Option.{some, none}
 use lib.ListN.{get_elem?}
@@ -26,7 +26,7 @@ HasAllowedStates {O} q allowed_states = (nodes : ℕ) (state : PortState) (token
 abbrev pub HasHolderWord : {O : Type 0} → PortPhases O → (ℕ → ℕ → ℕ → ℕ) → (View → ℕ) → Type 0
 HasHolderWord {O} q wait_word wake_word = (token : ℕ) (u v : View) (local : O) → q.holds_open token (length v.ends) local → SeesTurn u v → wait_word v.config.nodes v.node token ≡ wake_word u
 
--- a node that got the line closed waited at the word of its turn, too
+-- a node to which a closed line was granted also waited at the word of its turn
 abbrev pub HasClosedWord : {O : Type 0} → PortPhases O → (ℕ → ℕ → ℕ → ℕ) → (View → ℕ) → Type 0
 HasClosedWord {O} q wait_word wake_word = (token : ℕ) (u v : View) (local : O) (y : Payload) → q.holds_closed token v local y → SeesTurn u v → wait_word v.config.nodes v.node token ≡ wake_word u
 
@@ -68,7 +68,7 @@ HasSlotReturn {O} holds q =
     (key : TableKey) (id slots i : ℕ) (m : SeatContents O) (v : NodeGhost O) (token : ℕ) (left : Option ℕ) → m.0 ≡ v ∷ [] → v.view.state ≡ port_state.Holding → left ≡ turns_left v.view.config.lease v.view.ends → q.slots_in_turn v.view.config.nodes token left m.1
     → Allows (holds key) slots id m i (λ n. n) (slots_returned (step slots i 0 0 none) m)
 
--- with all nodes in one seat, each at rest, slot `last` has the final line
+-- if all nodes are in one seat, each at rest, the slot `last` has the final line
 abbrev pub HasFinalLine : {O : Type 0} → (TableKey → State Payload (List (NodeGhost O)) → Type 0) → (List ℕ → Type 0) → (List ℕ → List ℕ → Type 0) → PortPhases O → (ℕ → List ℕ → ℕ) → Type 0
 HasFinalLine {O} holds good allows q last =
     (key : TableKey) (es : List (NodeGhost O)) (id : ℕ) (words : List ℕ) (xs : List Payload) → AllInState q.in_state key.config.nodes es → Final (λ s. holds key s × (get_elem? s.views id ≡ some es)) words xs

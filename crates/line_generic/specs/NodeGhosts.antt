@@ -1,4 +1,4 @@
--- The contents of a line's seats: ghost states of nodes, and slots.
+-- The contents of a line's seats: the ghost states of nodes, and slots.
 use Rattle.std.specs.Prelude.{◌≡◌, map, ℕ, true, List, [], None}
 use Rattle.atomic_table.specs.Table.{Me}
 use Rattle.atomic_table.specs.declared.shared.Seat.{Seat}
@@ -15,7 +15,7 @@ use Rattle.line_generic.specs.declared.table.Payload.{Payload}
 abbrev pub initial_node : {O : Type 0} → O → TableKey → ℕ → NodeGhost O
 initial_node initial key n = record { view = new_view key.label key.config n; own = initial; steps = 0 }
 
--- the ghost states of the nodes n+1 .. n+k as a line is opened
+-- the ghost states of the nodes n+1 .. n+k when a line is opened
 abbrev pub initial_nodes_from : {O : Type 0} → O → TableKey → ℕ → ℕ → List (NodeGhost O)
 initial_nodes_from initial key n k = each_from (initial_node initial key) n k
 
@@ -40,7 +40,7 @@ LineSeat O = Seat Payload (List (NodeGhost O))
 abbrev pub AtRest : {O : Type 0} → (ℕ → PortState → ℕ → O → Type 0) → NodeGhost O → Type 0
 AtRest in_state e = (state : PortState) × (token : ℕ) × (may_ask state ≡ true) × in_state e.view.config.nodes state token e.own
 
--- these are the ghost states of all nodes, each at rest
+-- these ghost states are those of all nodes, each at rest
 abbrev pub AllInState : {O : Type 0} → (ℕ → PortState → ℕ → O → Type 0) → ℕ → List (NodeGhost O) → Type 0
 AllInState in_state nodes ghosts = AllAtRest node_of (AtRest in_state) nodes ghosts
 

@@ -1,4 +1,5 @@
--- What each call of a port requires and ensures: one record for each, by the line's law `k`, the ghost state `d` of its discipline and its table `t`.
+-- What each call of a port requires and ensures. There is one record for each call, over the line's data invariant `k`,
+-- the ghost state `d` of its discipline and its table `t`.
 use Rattle.std.specs.Prelude.{◌≡◌, ◌≢◌, ◌⊎◌, ℕ, ◌+◌, ◌≤◌, List, map, Bool, Option, IsTrue}
 use Rattle.std.specs.List.{All}
 use Rattle.qolb_model.specs.declared.keep.Keep as keep
@@ -26,7 +27,7 @@ use Rattle.line_generic.specs.AtTurn.{Names}
 use Rattle.line_generic.specs.Calls.{LineTable}
 use Rattle.line_generic.specs.Ports.{PortModel, BelongsTo, CountsCall, IsOpened, AreUnused}
 
--- the config with this lease, if any
+-- the configuration with this lease, if any
 abbrev pub config_with : ℕ → Line64 → Option ℕ → LineConfig
 config_with nodes opening lease = record { nodes = nodes; opening = opening; lease = lease }
 
@@ -35,19 +36,19 @@ module _ {X O P : Type 0} (k : keep.Ghosts X) (t : LineTable O P) where
   abbrev pub IsPortOf : PortModel → Type 0
   IsPortOf p = BelongsTo k.good k.allows t.key t.table_id p
 
-  -- after `meet`: the port is one of the line still, with its turn, its counters and its note
+  -- after `meet`, the port still belongs to the line, with its turn, its counters and its note
   pub record HasMet (old new : PortModel) : Type 0 where
     pub belongs : IsPortOf new
     pub turn : new.turn ≡ old.turn
     pub counters : new.counters ≡ old.counters
     pub keeps_note : new.went_to ≡ old.went_to
 
-  -- a port of the line that may ask
+  -- a port of the line that may make a request
   pub record IsRestingPort (p : PortModel) : Type 0 where
     pub belongs : IsPortOf p
     pub state : IsTrue (states.may_ask p.view.state)
 
-  -- a port of the line whose request is still to be linked
+  -- a port of the line whose request must still be linked
   pub record IsLinkingPort (p : PortModel) : Type 0 where
     pub belongs : IsPortOf p
     pub state : p.view.state ≡ port_state.Linking
@@ -57,17 +58,17 @@ module _ {X O P : Type 0} (k : keep.Ghosts X) (t : LineTable O P) where
     pub belongs : IsPortOf p
     pub state : p.view.state ≡ port_state.Queued
 
-  -- a port that holds the line, and may release it as written
+  -- a port that holds the line, and may release it with what it has written
   pub record IsHoldingPort (p : PortModel) : Type 0 where
     pub belongs : IsPortOf p
     pub state : p.view.state ≡ port_state.Holding
     pub allowed : MayRelease k.allows p.view p.turn
 
-  -- those of these ports that have the line's label are its own
+  -- those of these ports that have the line's label belong to the line
   abbrev pub AreOwnPorts : List PortModel → Type 0
   AreOwnPorts ports = All (λ p. p.view.label ≡ t.key.label → IsPortOf p) ports
 
-  -- the line is finished with these bytes, by the ports of all nodes
+  -- the line is finished with these bytes, by means of the ports of all nodes
   abbrev pub HasFinished : List PortModel → List ℕ → Type 0
   HasFinished ports bytes = IsFinished k.good k.allows t.key.label t.key.config (map (λ (p : PortModel). p.view) ports) bytes
 
@@ -77,12 +78,12 @@ module _ {X O P : Type 0} (k : keep.Ghosts X) (t : LineTable O P) where
     pub unused : AreUnused ports
     pub may_open : MayOpen config
 
--- finishing with these ports may be refused for this cause
+-- this cause may prevent finishing with these ports
 abbrev pub MayNotFinish : {O P : Type 0} → LineTable O P → List PortModel → FinishError → Type 0
 MayNotFinish t ports why = MayRefuse t.key.label t.key.config.nodes (map (λ (p : PortModel). p.view) ports) why
 
 module _ {X D O P : Type 0} (k : keep.Ghosts X) (d : spec.Ghosts D O) (t : LineTable O P) where
-  -- after `enqolb`: the port has its answer, and the steps are counted
+  -- what `enqolb` ensures: the port has its answer, and the steps are counted
   pub record HasEnqueued (old new : PortModel) (answer : Enq) : Type 0 where
     pub belongs : IsPortOf k t new
     pub enqueues : Enqueues k.allows old.view new.view new.turn answer
@@ -90,7 +91,7 @@ module _ {X D O P : Type 0} (k : keep.Ghosts X) (d : spec.Ghosts D O) (t : LineT
     pub went_to : answer ≡ enq.Closed → Names (d.wake_word new.view) new.went_to
     pub keeps_note : answer ≢ enq.Closed → new.went_to ≡ old.went_to
 
-  -- after `poll`: the port has its answer, with the token of its request
+  -- what `poll` ensures: the port has its answer, with the token of its request
   pub record HasPolled (old new : PortModel) (answer : Poll) : Type 0 where
     pub belongs : IsPortOf k t new
     pub polls : Polls k.allows old.view new.view new.turn answer
@@ -99,7 +100,7 @@ module _ {X D O P : Type 0} (k : keep.Ghosts X) (d : spec.Ghosts D O) (t : LineT
     pub went_to : answer ≡ poll.Closed → Names (d.wake_word new.view) new.went_to
     pub keeps_note : answer ≢ poll.Closed → new.went_to ≡ old.went_to
 
-  -- after `withdraw`: the port has its answer, with the token of its request
+  -- what `withdraw` ensures: the port has its answer, with the token of its request
   pub record HasWithdrawn (old new : PortModel) (answer : Out) : Type 0 where
     pub belongs : IsPortOf k t new
     pub withdraws : Withdraws k.allows old.view new.view new.turn answer
@@ -108,21 +109,21 @@ module _ {X D O P : Type 0} (k : keep.Ghosts X) (d : spec.Ghosts D O) (t : LineT
     pub went_to : answer ≡ out.Closed → Names (d.wake_word new.view) new.went_to
     pub keeps_note : answer ≢ out.Closed → new.went_to ≡ old.went_to
 
-  -- after `is_clear`: the port knows what it found, and keeps its note
+  -- what `is_clear` ensures: the port knows what it found, and keeps its note
   pub record HasLookedIfClear (old new : PortModel) (clear : Bool) : Type 0 where
     pub belongs : IsPortOf k t new
     pub found : LooksIfClear k.allows old.view new.view clear
     pub counts : CountsCall d.enqueue_steps d.release_steps (d.max_steps t.key.config.nodes) (call.looks_if_clear clear) old new
     pub keeps_note : new.went_to ≡ old.went_to
 
-  -- after `deqolb` or `shut`: the turn is over, and the next holder noted
+  -- what `deqolb` and `shut` ensure: the turn is over, and the next holder is noted
   pub record HasEndedTurn (shut : Bool) (old new : PortModel) : Type 0 where
     pub belongs : IsPortOf k t new
     pub releases : Releases k.allows shut old.view new.view old.turn
     pub counts : CountsCall d.enqueue_steps d.release_steps (d.max_steps t.key.config.nodes) call.releases old new
     pub went_to : Names (d.wake_word new.view) new.went_to
 
-  -- after `prepend`: the port has its answer, and the steps are counted
+  -- what `prepend` ensures: the port has its answer, and the steps are counted
   pub record HasPutRequest (prepend_steps : PortState → ℕ) (old new : PortModel) (answer : Prep) : Type 0 where
     pub belongs : IsPortOf k t new
     pub prepends : Prepends k.allows old.view new.view new.turn answer
@@ -134,7 +135,7 @@ module _ {X D O P : Type 0} (k : keep.Ghosts X) (d : spec.Ghosts D O) (t : LineT
     pub went_to : answer ≡ prep.Closed → Names (d.wake_word new.view) new.went_to
     pub keeps_note : answer ≢ prep.Closed → new.went_to ≡ old.went_to
 
-  -- after `link`: the port has its answer, and the steps are counted
+  -- what `link` ensures: the port has its answer, and the steps are counted
   pub record HasLinkedRequest (old new : PortModel) (answer : Enq) : Type 0 where
     pub belongs : IsPortOf k t new
     pub links_up : LinksUp k.allows old.view new.view new.turn answer

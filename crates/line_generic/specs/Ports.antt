@@ -29,8 +29,8 @@ use Rattle.line_generic.specs.NodeGhosts.{LineSeat, initial_nodes_from}
 use Rattle.line_generic.specs.PortPhases.{PortPhases}
 use Rattle.line_generic.specs.Steps.{IsOfOneNode, ghost_of, nodes_of, HasNoSlot, IsInState}
 
--- the model of a port: its table, its view, the holder's turn (bytes and mask), its counters, its token, and the noted word of the next
--- holder, if its line notes any
+-- The model of a port: its table, its view, the holder's turn (bytes and mask), its counters, its token, and the word
+-- of the next holder that it noted, if its line notes any.
 pub record PortModel : Type 0 where
   pub table : TableId
   pub view : View
@@ -53,11 +53,12 @@ port_model initial s y steps count token went_to = record {
   went_to = went_to;
 }
 
--- a poll of a node at rest takes one step if its last request may be busy, else none
+-- a poll of a node at rest takes one step if its last request may be busy, and otherwise none
 abbrev pub looks_at_rest_in : PortState → ℕ → Type 0
 looks_at_rest_in state n = ((state ≡ port_state.Left) ⊎ (state ≡ port_state.Rolled) → n ≡ 1) × (state ≢ port_state.Left → state ≢ port_state.Rolled → n ≡ 0)
 
--- the number of word steps of a call, by its lock's counts of requests and releases, and the maximum
+-- the number of atomic steps of a call, by the counts that its kind of line gives for requests and releases, and the
+-- maximum
 abbrev pub call_steps : (PortState → Enq → ℕ → Type 0) → (ℕ → ℕ → ℕ → Type 0) → ℕ → Call → View → View → ℕ → Type 0
 call_steps enqueue_steps release_steps max_steps (asks answer) old new n = (answer ≢ enq.Closed → enqueue_steps old.state answer n) × (n ≤ max_steps + 3)
 call_steps enqueue_steps release_steps max_steps (polls answer) old new n = (answer ≢ poll.Closed → n ≡ 1) × (n ≤ max_steps)
@@ -73,7 +74,7 @@ CountsCall enqueue_steps release_steps max_steps call old new = Counts (call_ste
 abbrev pub IsMerged : View → LocalCopy → Type 0
 IsMerged v y = written (bytes_of v) (write_in y) ≡ y.bytes.bytes
 
--- the port has its own copy of the open line, perhaps written, and the slots of its turn
+-- the port has its own copy of the open line, which it may have changed, and the slots of its turn
 pub record Holds {O : Type 0} (q : PortPhases O) (s : LineSeat O) (y : LocalCopy) (token : ℕ) : Type 0 where
   pub at : q.holds_open token (length (ghost_of q.initial s).view.ends) (ghost_of q.initial s).own
   pub kept : q.slots_in_turn (nodes_of q.initial s) token y.turns_left s.me.1
@@ -90,11 +91,11 @@ pub record IsPort {O : Type 0} (q : PortPhases O) (label node : ℕ) (s : LineSe
   pub label_is : (ghost_of q.initial s).view.label ≡ label
   pub node_is : (ghost_of q.initial s).view.node ≡ node
 
--- the line was accepted: the port holds it, open and without a write, at no further word step
+-- the port accepted the line: it holds the open line, has written nothing, and took no further atomic step
 abbrev pub IsHeld : {O : Type 0} → PortPhases O → LineSeat O → LocalCopy → ℕ → Type 0
 IsHeld q s y token = Holds q s y token × ((ghost_of q.initial s).view.state ≡ port_state.Holding) × IsGranted (ghost_of q.initial s).view (write_in y)
 
--- the line was accepted closed and forwarded, and has left the port in this state
+-- the port accepted the closed line and forwarded it, and is left in this state
 abbrev pub IsForwarded : {O : Type 0} → PortPhases O → LineSeat O → PortState → Type 0
 IsForwarded q s state = ((token : ℕ) → IsInState q state token s) × IsTold (ghost_of q.initial s).view
 
@@ -110,7 +111,7 @@ pub record BelongsTo (good : List ℕ → Type 0) (allows : List ℕ → List �
   pub table_is : p.table ≡ table_id
   pub sound : IsSound good allows key.label key.config p.view
 
--- the seat has this node's ghost state alone, and is of the table of this line
+-- the seat has this node's ghost state alone, and belongs to the table of this line
 pub record IsSeated {O : Type 0} (good : List ℕ → Type 0) (allows : List ℕ → List ℕ → Type 0) (key : TableKey) (table_id : TableId) (initial : O) (node : ℕ) (s : LineSeat O) : Type 0 where
   pub of_one_node : IsOfOneNode initial s.me
   pub node_is : (ghost_of initial s).view.node ≡ node
@@ -122,12 +123,12 @@ pub record IsUnused (p : PortModel) : Type 0 where
   pub counters : p.counters ≡ record { steps = 0; total_steps = 0; poll_count = 0 }
   pub note : Names NO_WORD p.went_to
 
--- these are the ports of the first n nodes, none of which has made a request
+-- these are the ports of the first n nodes, and none of them has made a request
 pub record AreSplit (table_id : TableId) (key : TableKey) (n : ℕ) (ports : List PortModel) : Type 0 where
   pub many : length ports ≡ n
   pub each : (k : ℕ) (p : PortModel) → slice_get ports k ≡ Some p → (p.table ≡ table_id) × (p.view ≡ new_view key.label key.config (k + 1)) × IsUnused p
 
--- the ports of the first n nodes are made, and the seat `rest` has the ghost states of the others
+-- the ports of the first n nodes are made, and the seat `rest` has the ghost states of the other nodes
 pub record HasSplit {O : Type 0} (initial : O) (table_id : TableId) (key : TableKey) (n : ℕ) (rest : LineSeat O) (ports : List PortModel) : Type 0 where
   pub table : rest.table_id ≡ table_id
   pub me : rest.me ≡ (initial_nodes_from initial key n (key.config.nodes - n), [])

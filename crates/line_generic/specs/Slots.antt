@@ -1,4 +1,4 @@
--- The slots of a seat, and a line in them.
+-- The slots of a seat, and when a line is in them.
 use Rattle.std.specs.Prelude.{◌≡◌, ℕ, List, [], ◌∷◌, Option, false}
 use Rattle.line_generic.specs.declared.table.LocalCopy.{LocalCopy}
 use Rattle.line_generic.specs.declared.table.Payload.{Payload}
@@ -7,7 +7,7 @@ use Rattle.line_generic.specs.declared.table.Payload.{Payload}
 abbrev pub Slots : Type 0
 Slots = List (ℕ × Payload)
 
--- all turns use one slot, and the line is in it
+-- all turns use one slot, which has the line
 abbrev pub in_single_slot : ℕ → Payload → Slots → Type 0
 in_single_slot token y slots = slots ≡ (0, y) ∷ []
 
@@ -15,7 +15,7 @@ in_single_slot token y slots = slots ≡ (0, y) ∷ []
 abbrev pub open_in_single_slot : ℕ → Option ℕ → Slots → Type 0
 open_in_single_slot token left slots = (y : Payload) × (slots ≡ (0, y) ∷ []) × (y.closed ≡ false) × (y.turns_left ≡ left)
 
--- a copy of the granted line, without a write
+-- a copy of the granted line, in which nothing is written yet
 pub record IsCopy (z : LocalCopy) (y : Payload) : Type 0 where
   pub bytes : z.bytes ≡ y.bytes
   pub turns : z.turns_left ≡ y.turns_left

@@ -1,4 +1,4 @@
--- What each word step of a port tells it.
+-- What each atomic step tells the port that takes it.
 use Rattle.std.specs.Prelude.{◌%◌, ◌^◌, ◌≡◌, ◌≢◌, ℕ, ◌+◌, ◌<◌, ◌≤◌, List, [], ◌∷◌, ◌++◌, length, slice_get, Bool, true, false, Some}
 use Rattle.atomic_table.specs.Table.{Step}
 use Rattle.atomic_table.specs.Seated.{TableId}
@@ -45,11 +45,11 @@ nodes_of initial s = (ghost_of initial s).view.config.nodes
 abbrev pub IsSameSeat : {O : Type 0} → LineSeat O → LineSeat O → Type 0
 IsSameSeat old new = (new.table_id ≡ old.table_id) × (new.id ≡ old.id)
 
--- the seat is of the table of a line
+-- the seat belongs to the table of a line
 abbrev pub IsSeatOf : {O : Type 0} → ℕ → TableId → LineSeat O → Type 0
 IsSeatOf words table_id seat = (seat.table_id ≡ table_id) × (table_id.words ≡ words) × (0 < words)
 
--- the seat has the single slot, with this line; the seat has no slot
+-- the seat has the single slot, with this line; or the seat has no slot
 abbrev pub HasSlot : {O : Type 0} → LineSeat O → Payload → Type 0
 HasSlot seat y = seat.me.1 ≡ (0, y) ∷ []
 
@@ -60,21 +60,23 @@ HasNoSlot seat = seat.me.1 ≡ []
 abbrev pub IsOwnNode : {O : Type 0} → O → ℕ → ℕ → LineSeat O → Type 0
 IsOwnNode initial nodes node seat = (node ≡ (ghost_of initial seat).view.node) × (node ≤ MAX_NODES) × (node ≤ nodes) × (nodes_of initial seat ≡ nodes)
 
--- The seat has the ghost state of one node, which does not hold. Its port shows this state and has this token.
+-- The seat has the ghost state of one node, which does not hold the line. The node's port is in this state and has this
+-- token.
 pub record IsInState {O : Type 0} (q : PortPhases O) (state : PortState) (token : ℕ) (s : LineSeat O) : Type 0 where
   pub of_one_node : IsOfOneNode q.initial s.me
   pub stands : q.in_state (nodes_of q.initial s) state token (ghost_of q.initial s).own
   pub shows_state : (ghost_of q.initial s).view.state ≡ state
   pub slot : HasNoSlot s
 
--- After n word steps of its node the seat still has one node: its view is extended, stays true of the history, and the steps are counted.
+-- After n atomic steps of its node, the seat still has one node. The node's view is extended and still true of the
+-- history, and the steps are counted.
 pub record Advances {O : Type 0} (allows : List ℕ → List ℕ → Type 0) (initial : O) (old new : SeatContents O) (n : ℕ) : Type 0 where
   pub of_one_node : IsOfOneNode initial new
   pub extends : Extends (single initial old.0).view (single initial new.0).view
   pub continues : (v : View) → Continues allows v (single initial old.0).view → Continues allows v (single initial new.0).view
   pub steps : (single initial new.0).steps ≡ (single initial old.0).steps + n
 
--- both are the same seat, n word steps later
+-- both are the same seat, n atomic steps later
 pub record SeatAdvances {O : Type 0} (allows : List ℕ → List ℕ → Type 0) (initial : O) (s t : LineSeat O) (n : ℕ) : Type 0 where
   pub seat : IsSameSeat s t
   pub advances : Advances allows initial s.me t.me n
@@ -116,13 +118,13 @@ pub record IsAtTurn {O : Type 0} (holds_open : ℕ → ℕ → O → Type 0) (ho
 abbrev pub write_of : Payload → Write
 write_of y = record { mask = record { 0 = y.mask.bits }; bytes = y.bytes }
 
--- the end of a holder's own request: told, if the line is closed, else served with the turn's write
+-- the end of a holder's own request: told if the line is closed, and otherwise served with the turn's write
 abbrev pub own_end : Bool → Payload → End
 own_end true y = Told
 own_end false y = Served (write_of y) y.closed
 
--- `y` is what a release must publish: the payload after the node's own end. That end is legal after the known ones, and the change obeys
--- the line's law.
+-- `y` is what a release must publish: the payload after the node's own end. That end is legal after the known ones, and
+-- the change obeys the line's data invariant.
 pub record IsNextPayload (allows : List ℕ → List ℕ → Type 0) (v : View) (y : Payload) : Type 0 where
   pub bytes : bytes_after v.config.opening.bytes (v.ends ++ own_end (is_closed v.ends) y ∷ []) ≡ y.bytes.bytes
   pub closed : is_closed (v.ends ++ own_end (is_closed v.ends) y ∷ []) ≡ y.closed
@@ -133,7 +135,7 @@ pub record IsNextPayload (allows : List ℕ → List ℕ → Type 0) (v : View) 
 abbrev pub merged_ghost : {O : Type 0} → NodeGhost O → NodeGhost O → NodeGhost O
 merged_ghost v u = record v { view = merged_view v.view u.view }
 
--- two ports of one line have merged their views; a holder learns no end
+-- two ports of one line have merged their views, but a holder learns of no end
 abbrev pub after_meet : {O : Type 0} → (List ℕ → List ℕ → Type 0) → O → Step Payload → SeatContents O → ℕ → SeatContents O → Type 0
 after_meet allows initial st m n m' = let v = single initial m.0 in let u = single initial (behind m.0) in
     (m' ≡ (merged_ghost v u ∷ merged_ghost u v ∷ [], m.1)) × MergesViews allows v.view u.view (merged_view v.view u.view) (merged_view u.view v.view)
@@ -143,8 +145,9 @@ after_meet allows initial st m n m' = let v = single initial m.0 in let u = sing
 abbrev pub slots_returned : {O : Type 0} → Step Payload → SeatContents O → ℕ → SeatContents O → Type 0
 slots_returned st m n m' = (m'.0 ≡ m.0) × (m'.1 ≡ [])
 
--- The outcome of a poll by a waiting node with this token: if the lower half of the word found says so (`signals_turn`), the request is at
--- its turn with the line; else the node still waits. The half is all that the kernel compares before it parks a thread.
+-- The outcome of a poll by a waiting node with this token. If the lower half of the word that the node found says so
+-- (`signals_turn`), the request is at its turn with the line. Otherwise the node still waits. This half is all that the
+-- kernel compares before it parks a thread.
 pub record PollOutcome {O : Type 0} (q : PortPhases O) (signals_turn : ℕ → ℕ → Bool) (token found : ℕ) (new : SeatContents O) : Type 0 where
   pub queued : signals_turn token (found % 2 ^ 32) ≡ false → (new.1 ≡ []) × IsStillQueued q.in_state token (single q.initial new.0)
   pub at_turn : signals_turn token (found % 2 ^ 32) ≡ true → (y : Payload) × q.slots_at_grant (single q.initial new.0).view.config.nodes token y new.1 × IsAtTurn q.holds_open q.holds_closed token (single q.initial new.0) y

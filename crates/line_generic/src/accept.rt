@@ -1,4 +1,4 @@
-//! Accepts a line that has reached its turn.
+//! A node accepts a line at its request's turn, or finds that the line is closed and forwards it.
 ghost use Rattle.std.specs.Prelude.{◌≡◌, ◌≢◌, ℕ, ◌+◌, ◌-◌, ◌≤◌};
 ghost use Rattle.qolb_model.specs.Calls.{IsGrantedOrTold};
 ghost use Rattle.line_generic.specs.Steps.{ghost_of, SeatAdvances};
@@ -17,7 +17,7 @@ use qolb_model::{Keep, PortState};
 pub(crate) struct Arrival {
     pub(crate) node: u64,
     pub(crate) token: u64,
-    /// The number of word steps that the call has taken.
+    /// The number of atomic steps that the call has taken.
     pub(crate) steps: u64,
 }
 
@@ -26,15 +26,15 @@ pub(crate) struct Arrival {
 pub(crate) struct Accepted<A> {
     pub(crate) answer: A,
     pub(crate) state: PortState,
-    /// The number of word steps of the whole call.
+    /// The number of atomic steps of the whole call.
     pub(crate) steps: u64,
 }
 
 impl<K: Keep, Q: Discipline<K>, W: WakePolicy> Line<K, Q, W> {
     /// Accepts the line at the request's turn: copies it to `payload`, or forwards it if it is closed.
     ///
-    /// An open line leaves the port `Holding`, costs no word step and answers `granted`. A closed line is forwarded at once, its steps are
-    /// counted, and the answer is `closed`.
+    /// Accepting an open line leaves the port `Holding`, takes no atomic step, and answers `granted`. A closed line is
+    /// forwarded at once: the forwarding steps are counted, and the answer is `closed`.
     #[inline(always)]
     pub(crate) fn accept<A: Copy>(
         &self,
@@ -93,7 +93,8 @@ impl<K: Keep, Q: Discipline<K>, W: WakePolicy> Line<K, Q, W> {
     }
 }
 
-/// Forwards a closed line to the successor. Cold and not inlined, as most turns are of an open line.
+/// Forwards a closed line to the successor. The function is cold and not inlined, because most turns are of an open
+/// line.
 #[cold]
 #[inline(never)]
 fn forward_closed<K: Keep, Q: Discipline<K>>(

@@ -1,4 +1,4 @@
-//! The calls of `LineSync`, which all locks share.
+//! The calls of `LineSync`, written once for all kinds of lines.
 ghost use Rattle.std.specs.Prelude.{◌≡◌, ◌+◌, IfOk, IfErr, true, false};
 ghost use Rattle.qolb_model.specs.Calls.{MergesViews};
 ghost use Rattle.qolb_model.specs.OneOwner.{turn_after};
@@ -231,8 +231,9 @@ impl<K: Keep, Q: Discipline<K>, W: WakePolicy> LineSync<K> for Line<K, Q, W> {
         } else if !a.holds() {
             meet_seats(table, &mut b.seat, &mut a.seat);
         } else {
-            // Unreachable: two ports of one line never both hold. The proof sees this only from their ghost states in one seat, and a seat that
-            // holds slots cannot be joined to another. So this branch returns the slots first.
+            // This branch is unreachable, because two ports of one line never both hold. The proof sees this only from
+            // their ghost states in one seat, and a seat that holds slots cannot be joined to another. Therefore this
+            // branch returns the slots first.
             return_slots(table, &mut b.seat);
             meet_seats(table, &mut a.seat, &mut b.seat);
             unreachable!()
@@ -258,10 +259,11 @@ impl<K: Keep, Q: Discipline<K>, W: WakePolicy> LineSync<K> for Line<K, Q, W> {
 }
 
 impl<K: Keep, Q: Discipline<K>, W: WakePolicy> Line<K, Q, W> {
-    /// Releases the line, and closes it if `shut`: `shut` and `deqolb` in one call.
+    /// Releases the line, and closes it if `shut` is set: this is `shut` and `deqolb` in one call.
     ///
-    /// Stores the holder's payload for the successor, as closed if `shut` is set or the lease ends with this turn, hands the line over and unparks
-    /// the next holder. At least one word step, at most `max_steps - 1`. Does not block.
+    /// The call stores the holder's payload for the successor, as closed if `shut` is set or if the lease ends with
+    /// this turn. Then it hands the line over and unparks the next holder. It takes at least one atomic step, at most
+    /// `max_steps - 1`, and does not block.
     #[inline(always)]
     pub fn release_with(&self, port: &mut Port<Q, W>, shut: bool)
         requires { IsHoldingPort K.Keep self.now.table.shared port.old }

@@ -1,4 +1,5 @@
-//! Queue discipline: what a lock adds to the body that all locks share.
+//! The traits of a queue discipline: what one kind of line, with its queue algorithm, adds to the body that all kinds
+//! share.
 ghost use Rattle.std.specs.Prelude.{◌≡◌, ℕ, List, ◌<◌, ◌≤◌, ◌^◌, length, Bool, IfOk};
 ghost use Rattle.line_generic.specs.Laws.{HasAllowedStates, HasHolderWord, HasClosedWord, HasPollOutcome, HasFirstSplit, HasEmptySplit, HasJoin, HasSlots, HasOpening, HasMeeting, HasSlotReturn, HasFinalLine};
 ghost use mathlib.Core.Option.{some};
@@ -26,15 +27,15 @@ use std::alloc::{AllocError, Global};
 /// The immediate answer to a request.
 #[derive(Clone, Copy, Debug, PartialEq, Eq)]
 pub enum Enqueued {
-    /// The request is behind another.
+    /// The request is behind another request.
     Queued,
     /// The request is at its turn, and the line is in its slot.
     AtTurn,
-    /// No request was made: the node's last one is not clear.
+    /// The node made no request, because its last one is not clear.
     Busy,
 }
 
-/// A request that was made: the answer, the port's new token, and the word steps taken.
+/// The outcome of making a request: the answer, the port's new token, and the atomic steps taken.
 #[derive(Clone, Copy)]
 pub struct EnqueueResult {
     pub answer: Enqueued,
@@ -44,7 +45,8 @@ pub struct EnqueueResult {
 
 /// The result of a poll of a node at rest.
 ///
-/// `clear`: the last request is clear. `state`: the state in which the port is left. `steps`: the word steps taken.
+/// `clear` says whether the last request is clear, `state` is the state in which the port is left, and `steps` is the
+/// number of atomic steps taken.
 #[derive(Clone, Copy)]
 pub struct Rested {
     pub clear: bool,
@@ -52,43 +54,47 @@ pub struct Rested {
     pub steps: u64,
 }
 
-/// A release that is over: the port's new state, the word steps taken, and the duty to unpark.
+/// The outcome of a release: the port's new state, the atomic steps taken, and the duty to unpark.
 pub struct Released {
     pub state: PortState,
     pub steps: u64,
     pub unpark: UnparkHandle,
 }
 
-/// The ghost state of a queue's nodes, independent of the line's law.
+/// The ghost state of a queue's nodes, independent of the line's data invariant.
 ///
-/// A port stores one number for its discipline, its *token*: the cell of its request, for example, or the predecessor's node.
+/// A port stores one number for its discipline, its *token*: the cell of its request, for example, or the predecessor's
+/// node.
 pub trait DisciplineSpec {
-    /// What the invariant knows of a node beside its port's view.
+    /// What the invariant knows of a node besides its port's view.
     type Local;
 
     /// The phases of a node, and the slots that the node has in each.
     ghost phases: { PortPhases Self.Local };
 
-    /// `wait_word nodes node token`: the word on which `node` waits, on a line of `nodes` nodes.
+    /// `wait_word nodes node token` is the word on which `node` waits, on a line of `nodes` nodes.
     ghost wait_word: { ℕ → ℕ → ℕ → ℕ };
 
-    /// The word on which the node at its turn waits, by a port's view. Any word if no node waits for the turn.
+    /// The word on which the node at its turn waits, according to a port's view. It is any word if no node waits for
+    /// the turn.
     ghost wake_word: { View → ℕ };
 
-    /// `signals_turn token low`: a node with this token finds its turn if its word has the lower half `low`.
+    /// `signals_turn token low` says that a node with this token finds its turn if its word has the lower half `low`.
     ghost signals_turn: { ℕ → ℕ → Bool };
 
     /// The states that a port can show.
     ghost allowed_states: { PortState → Type 0 };
 
-    /// `enqueue_steps state answer steps`: a request by a port in `state`, answered by `answer`, takes `steps` word steps. Leaves `Closed`
-    /// open, which includes a release.
+    /// `enqueue_steps state answer steps` says that a request by a port in `state`, answered by `answer`, takes `steps`
+    /// atomic steps. It says nothing about the answer `Closed`, which includes a release.
     ghost enqueue_steps: { PortState → Enq → ℕ → Type 0 };
 
-    /// `release_steps before after steps`: a release with `before` ends before it and `after` ends after it takes `steps` word steps.
+    /// `release_steps before after steps` says that a release with `before` ends before it and `after` ends after it
+    /// takes `steps` atomic steps.
     ghost release_steps: { ℕ → ℕ → ℕ → Type 0 };
 
-    /// `max_steps nodes`: the maximum of word steps of a poll, with the release of a closed line. A release alone takes at least one fewer.
+    /// `max_steps nodes` is the maximum number of atomic steps of a poll, including the release of a closed line. A
+    /// release alone takes at least one fewer.
     ghost max_steps: { ℕ → ℕ };
 
     /// A new node is idle.
@@ -99,11 +105,11 @@ pub trait DisciplineSpec {
 
     ghost holding_allowed: { allowed_states port_state.Holding };
 
-    /// A holder of the open line waited on the word of its turn. Any port that sees the turn knows so: a predecessor names the word on
-    /// which the holder waited.
+    /// A holder of the open line waited on the word of its turn. Any port that sees the turn knows this, so a
+    /// predecessor can name the word on which the holder waited.
     ghost holder_waits_there: { HasHolderWord phases wait_word wake_word };
 
-    /// A node that got the line closed waited at the word of its turn, too.
+    /// A node to which a closed line was granted also waited on the word of its turn.
     ghost closed_waits_there: { HasClosedWord phases wait_word wake_word };
 
     /// A poll takes at least one step.
@@ -113,25 +119,26 @@ pub trait DisciplineSpec {
     ghost max_steps_fits: { (nodes : ℕ) → nodes ≤ MAX_NODES → max_steps nodes < 2 ^ 32 };
 }
 
-/// The invariant of a queue's table under the law `K`. A trait apart from `Discipline`, whose calls step by this invariant.
+/// The invariant of a queue's table under the data invariant `K`. This trait is apart from `Discipline`, because the
+/// calls of a discipline step by this invariant.
 pub trait DisciplineInvariant<K: Keep>: DisciplineSpec {
-    /// The invariant between any two word steps, of all interleavings.
+    /// The invariant that holds between any two atomic steps, in every interleaving.
     ghost holds: { TableKey → State Payload (List (NodeGhost Self.Local)) → Type 0 };
 }
 
 /// A queue discipline: how requests are ordered, and how a release hands over the line.
 ///
-/// A lock is its discipline and the body that all locks share, and nothing else.
+/// A kind of line is only its discipline and the body that all kinds share.
 pub trait Discipline<K: Keep>: DisciplineInvariant<K> {
     ghost use Rattle.line_generic.specs.Calls.{MayTake, MayPut, IsRequester, IsNodeAtRest, IsWaiter, IsReleaser, HasRequested, HasLookedAtRest, HasLooked, HasRolled, HasReleased};
 
     /// The number of words of a line of `nodes` nodes.
     ghost word_count: { ℕ → ℕ };
 
-    /// The words of a new line.
+    /// The words that a new line may have.
     ghost are_first: { ℕ → List ℕ → Type 0 };
 
-    /// Allocates the words of a new line of `nodes` nodes. Fails only if memory is short.
+    /// Allocates the words of a new line of `nodes` nodes. The call fails only if memory is short.
     fn first_words(alloc: Global, nodes: u64) -> Result<Vec<u64>, AllocError>
         requires { AreNodes nodes }
         ensures first { IfOk result (λ words. are_first nodes words.items) }
@@ -141,7 +148,7 @@ pub trait Discipline<K: Keep>: DisciplineInvariant<K> {
     /// The number of slots of a line of this number of nodes.
     ghost slot_count: { ℕ → ℕ };
 
-    /// `last nodes words`: the slot of the line once all requests have ended.
+    /// `last nodes words` is the slot that has the line once all requests have ended.
     ghost last: { ℕ → List ℕ → ℕ };
 
     /// Returns the number of slots of a line of `nodes` nodes.
@@ -149,17 +156,18 @@ pub trait Discipline<K: Keep>: DisciplineInvariant<K> {
         requires { AreNodes nodes }
         ensures { result ≡ slot_count nodes };
 
-    /// The mask by which the calls find a token's word and slot, so that they need not divide; 0 if they use none.
+    /// The mask by which the calls find a token's word and slot, so that they need not divide. It is 0 if they use
+    /// none.
     ghost cell_mask_for: { ℕ → ℕ };
 
-    /// Returns the mask by which the calls find a token's word and slot; 0 if they use none.
+    /// Returns the mask by which the calls find a token's word and slot, or 0 if they use none.
     fn cell_mask_for(nodes: u64) -> u64
         requires { AreNodes nodes }
         ensures { result ≡ cell_mask_for nodes };
 
-    /// Copies the granted line from its slot to `payload`, for a turn without a write yet.
+    /// Copies the granted line from its slot to `payload`, for a turn that has written nothing yet.
     ///
-    /// No word step. A closed line is stored for the successor at once.
+    /// The call takes no atomic step. It stores a closed line for the successor at once.
     fn take(
         table: &SharedTable<K, Self>,
         seat: &mut LineSeat<Self::Local>,
@@ -171,7 +179,8 @@ pub trait Discipline<K: Keep>: DisciplineInvariant<K> {
         ensures { Takes Self.phases table.now.key.config.nodes token seat.old seat.new
             payload.new };
 
-    /// Stores `payload` in the successor's slot when a turn is over, as closed if `closed` is set. No word step.
+    /// Stores `payload` in the successor's slot when a turn is over, as closed if `closed` is set. Takes no atomic
+    /// step.
     fn put(
         table: &SharedTable<K, Self>,
         seat: &mut LineSeat<Self::Local>,
@@ -205,7 +214,7 @@ pub trait Discipline<K: Keep>: DisciplineInvariant<K> {
         ensures { HasRequested Self.DisciplineSpec table.now K.allows state seat.old
             seat.new result };
 
-    /// Polls whether the last request of a node that may ask is clear; makes no request.
+    /// Polls whether the last request of a node that may make another one is clear. Makes no request.
     fn look_at_rest(
         table: &SharedTable<K, Self>,
         seat: &mut LineSeat<Self::Local>,
@@ -227,7 +236,8 @@ pub trait Discipline<K: Keep>: DisciplineInvariant<K> {
             seat.old }
         ensures { HasLooked Self.phases table.now K.allows token seat.old seat.new result };
 
-    /// Withdraws the request in one word step. Returns `true` if the request was at its turn, and is then not withdrawn.
+    /// Withdraws the request in one atomic step. Returns `true` if the request was at its turn, and is then not
+    /// withdrawn.
     fn roll(
         table: &SharedTable<K, Self>,
         seat: &mut LineSeat<Self::Local>,
@@ -260,16 +270,17 @@ pub trait Discipline<K: Keep>: DisciplineInvariant<K> {
         ensures bound { result < word_count table.now.key.config.nodes }
         ensures wait_word { result ≡ Self.wait_word table.now.key.config.nodes node token };
 
-    /// Returns `true` if the lower half of the node's word says that the turn has been reached.
+    /// Returns `true` if the lower half of the node's word says that the node's turn has come.
     ///
-    /// A poll that finds this value finds the turn, and a poll that finds `false` does not. So a grant changes this half, and a node may
-    /// park while the half is unchanged.
+    /// A poll that finds such a value finds the turn, and a poll that finds another value does not. A grant therefore
+    /// changes this half, and a node may park while the half is unchanged.
     fn signals_turn(token: u64, low: u32) -> bool
         ensures result { result ≡ Self.signals_turn token low }
         ensures polls { HasPollOutcome Self.holds Self.phases Self.wait_word
             Self.signals_turn token };
 
-    /// Seats are split and joined: behind the first node, into a seat and an empty one, and into one with the nodes of both.
+    /// Seats can be split behind the first node, or into a seat and an empty one, and two seats can be joined into one
+    /// with the nodes of both.
     ghost cuts: { HasFirstSplit Self.holds };
 
     ghost blanks: { HasEmptySplit Self.holds };
@@ -289,18 +300,18 @@ pub trait Discipline<K: Keep>: DisciplineInvariant<K> {
     /// A holder can return its slots to the table.
     ghost return_slots_law: { HasSlotReturn Self.holds Self.phases };
 
-    /// If one seat has all nodes, each at rest, slot `last` has the line after all ends.
+    /// If one seat has all nodes, each at rest, the slot `last` has the line after all ends.
     ghost finishes: { HasFinalLine Self.holds K.good K.allows Self.phases Self.last };
 }
 
-/// A queue that makes a request by one call and links it by a second.
+/// A queue that makes a request by one call and links it by a second call.
 pub trait SplitEnqueue<K: Keep>: Discipline<K> {
     ghost use Rattle.line_generic.specs.Calls.{IsNodeAtRest, IsSuccessor, HasPrepended, HasLinked};
 
-    /// The number of word steps by which a port in this state prepends its request.
+    /// The number of atomic steps by which a port in this state prepends its request.
     ghost prepend_steps: { PortState → ℕ };
 
-    /// Makes a request, unless the node's last one is not clear. Behind a predecessor the request is still to be linked.
+    /// Makes a request, unless the node's last one is not clear. A request behind a predecessor must then be linked.
     fn prepend(
         table: &SharedTable<K, Self>,
         seat: &mut LineSeat<Self::Local>,
@@ -311,7 +322,7 @@ pub trait SplitEnqueue<K: Keep>: Discipline<K> {
         ensures { HasPrepended Self.phases table.now K.allows prepend_steps state seat.old
             seat.new result };
 
-    /// Links the request to its predecessor's in one word step.
+    /// Links the request to its predecessor's in one atomic step.
     ///
     /// Returns `true` if the predecessor had released and left the line for this request, which is then at its turn.
     fn link(

@@ -1,4 +1,5 @@
-//! Waiters that park outside the library: the line names the words on which they wait, and its caller unparks them.
+//! Waiters that park outside the library. The line names the words on which they wait, and the line's caller unparks
+//! them.
 ghost use Rattle.std.specs.Prelude.{◌≡◌, Some};
 ghost use Rattle.qolb_model.specs.declared.answer.PortState.TheVariants as port_state;
 ghost use Rattle.qolb_model.specs.declared.view.View.{View};
@@ -13,7 +14,7 @@ use crate::table::LineTable;
 use crate::wake::WakePolicy;
 use qolb_model::Keep;
 
-/// A number that is no word of any line: no node waits there.
+/// A number that is not a word of any line, so no node waits there.
 pub const NO_WORD: usize = usize::MAX;
 
 /// The words of the next holder and of the waiter behind it, as a release noted them.
@@ -25,10 +26,10 @@ pub struct WentTo {
     ahead: usize,
 }
 
-/// A wake policy for waiters that the caller parks and unparks: a release notes their words in its port.
+/// A wake policy for waiters that the caller parks and unparks. A release notes their words in its port.
 ///
-/// For a lock that may not call the system. After each call that released the line, the caller asks for `went_to` and `went_ahead` and
-/// unparks the waiters of these words.
+/// A program uses it if the lock may not call the system. After each call that released the line, the caller asks for
+/// `went_to` and `went_ahead`, and unparks the waiters of these words.
 #[derive(Drop)]
 pub struct SleepersElsewhere;
 
@@ -62,9 +63,9 @@ impl WakePolicy for SleepersElsewhere {
 }
 
 impl<K: Keep, Q: Discipline<K>, W: WakePolicy> Line<K, Q, W> {
-    /// Returns the word on which the port's node waits. No word step.
+    /// Returns the word on which the port's node waits. Takes no atomic step.
     ///
-    /// If the port holds, this is the word on which it was granted.
+    /// If the port holds the line, this is the word on which it was granted.
     pub fn wait_word(&self, port: &Port<Q, W>) -> usize
         requires { IsPortOf K.Keep self.now.table.shared port.now }
         ensures word { result ≡ Q.wait_word port.now.view.config.nodes port.now.view.node
@@ -82,15 +83,15 @@ impl<K: Keep, Q: Discipline<K>, W: WakePolicy> Line<K, Q, W> {
 }
 
 impl<K: Keep, Q: Discipline<K>> Line<K, Q, SleepersElsewhere> {
-    /// Returns the word of the next holder after the port's last release; `NO_WORD` before the first.
+    /// Returns the word of the next holder after the port's last release, or `NO_WORD` before the first release.
     pub fn went_to(&self, port: &Port<Q, SleepersElsewhere>) -> usize
         ensures { port.now.went_to ≡ Some result }
     {
         port.note.word
     }
 
-    /// Returns the word of the waiter behind the next holder, to be unparked one turn ahead. If there is none, returns a number on which no
-    /// node waits.
+    /// Returns the word of the waiter behind the next holder, which should be unparked one turn early. If there is no
+    /// such waiter, returns a number on which no node waits.
     pub fn went_ahead(&self, port: &Port<Q, SleepersElsewhere>) -> usize {
         port.note.ahead
     }

@@ -1,4 +1,5 @@
-//! A queue lock over atomic words, generic over its queue discipline: what all locks share.
+//! A queue lock over atomic words, generic over its queue algorithm (`Discipline`): the body that all kinds of lines
+//! share.
 #![tactic(auto)]
 
 mod accept;

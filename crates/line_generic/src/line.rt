@@ -1,4 +1,4 @@
-//! A line over a table of atomic words.
+//! The type of a line over a table of atomic words.
 ghost use Rattle.std.specs.Prelude.{◌≡◌, ◌*◌, ◌<◌, ◌≤◌};
 ghost use Rattle.line_lanes.specs.Lane.{with_lane_of};
 ghost use Rattle.line_lanes.specs.Mask.{placed_mask};
@@ -14,7 +14,7 @@ use line_lanes::set_lane;
 use qolb_model::{Keep, PortState};
 use std::marker::PhantomData;
 
-/// The numbers of words and nodes of a line's table, and its discipline's mask.
+/// The numbers of words and nodes of a line's table, and the mask of its discipline.
 #[derive(Drop)]
 pub struct TableWidth<K: Keep, Q: Discipline<K>> {
     pub(crate) words: usize,
@@ -29,9 +29,9 @@ pub struct TableWidth<K: Keep, Q: Discipline<K>> {
 
 /// A queue lock that hands 64 bytes from holder to holder, by the discipline `Q`.
 ///
-/// Between any two word steps there is one history of the line: an order of requests, and the ends of a prefix of them. If no node holds
-/// the line, its slot has the bytes after those ends. Each port's view is a prefix of this history, and each node has at most one open
-/// request.
+/// Between any two atomic steps the line has one history: an order of requests, and the ends of a prefix of them. While
+/// no node holds the line, its slot has the bytes after those ends. Each port's view is a prefix of this history, and
+/// each node has at most one open request.
 #[derive(Drop)]
 pub struct Line<K: Keep, Q: Discipline<K>, W: WakePolicy = Parking> {
     pub(crate) table: LineTable<K, Q>,
@@ -48,9 +48,9 @@ pub struct Line<K: Keep, Q: Discipline<K>, W: WakePolicy = Parking> {
 }
 
 impl<K: Keep, Q: Discipline<K>, W: WakePolicy> Line<K, Q, W> {
-    /// Returns the number of word steps of the port's last call; 0 before the first.
+    /// Returns the number of atomic steps of the port's last call, or 0 before the first call.
     ///
-    /// Counted are requests, polls, withdrawals and releases.
+    /// Requests, polls, withdrawals and releases count.
     pub fn steps(&self, port: &Port<Q, W>) -> u64
         ensures { result ≡ port.now.counters.steps }
     {

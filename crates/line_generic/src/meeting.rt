@@ -1,4 +1,4 @@
-//! Seats that are split and joined.
+//! Ports meet: their seats are joined for one step, which shows what both know, and split again.
 ghost use Rattle.line_generic.specs.Answers.{HaveMet};
 ghost use Rattle.line_generic.specs.Steps.{IsSeatOf, HasNoSlot, IsOfOneNode};
 
@@ -8,10 +8,10 @@ use crate::table::{LineSeat, SharedTable};
 use qolb_model::Keep;
 use std::mem;
 
-/// Merges the views of two seats with one node each; only `a` may have slots.
+/// Merges the views of two seats with one node each. Only `a` may have slots.
 ///
-/// A step compares nodes of one seat only, so seat `b` is joined into `a` and split off again. Meanwhile an empty seat is in its place,
-/// since a `&mut` can't be empty.
+/// A step compares only nodes of one seat, so seat `b` is joined into `a` and split off again. An empty seat takes its
+/// place meanwhile, because a `&mut` cannot be empty.
 pub(crate) fn meet_seats<K: Keep, Q: Discipline<K>>(
     table: &SharedTable<K, Q>,
     a: &mut LineSeat<Q::Local>,

@@ -1,4 +1,4 @@
-//! Opens a line.
+//! A program opens a line, and gets a port for each node.
 ghost use Rattle.std.specs.Prelude.{◌≡◌, ◌<◌, ◌≤◌, [], length, vec_capacity, Some, None, IfOk, IfErr};
 ghost use Rattle.qolb_model.specs.declared.config.TheConstants.{MAX_NODES};
 ghost use Rattle.qolb_model.specs.Opening.{MayOpen, MayNotOpen};
@@ -23,7 +23,8 @@ use std::mem;
 impl<K: Keep, Q: Discipline<K>, W: WakePolicy> Line<K, Q, W> {
     /// Opens a line, and returns it with the ports of nodes 1 to `nodes`, in order.
     ///
-    /// The first holder finds the bytes `opening`. Allocates the table and the ports. Fails if `nodes` is out of range or memory is short.
+    /// The first holder finds the bytes `opening`. The call allocates the table and the ports. It fails if `nodes` is
+    /// out of range or memory is short.
     pub fn open(
         alloc: Global,
         label: u64,
@@ -43,7 +44,7 @@ impl<K: Keep, Q: Discipline<K>, W: WakePolicy> Line<K, Q, W> {
         Line::<K, Q, W>::with_config(alloc, label, config)
     }
 
-    /// Opens a line as `open` does, for `lease` served turns: the last of them closes the line.
+    /// Opens a line as `open` does, for `lease` served turns. The last of them closes the line.
     pub fn open_leased(
         alloc: Global,
         label: u64,
@@ -65,7 +66,7 @@ impl<K: Keep, Q: Discipline<K>, W: WakePolicy> Line<K, Q, W> {
         Line::<K, Q, W>::with_config(alloc, label, config)
     }
 
-    /// Opens a line by `config`: its nodes, opening bytes and lease.
+    /// Opens a line with the nodes, the opening bytes and the lease of `config`.
     pub fn with_config(
         alloc: Global,
         label: u64,

@@ -1,4 +1,4 @@
-//! Ghost moves of seats: split, join, merge views, return slots.
+//! Ghost moves of seats: seats are split and joined, views are merged, and slots are returned.
 ghost use Rattle.std.specs.Prelude.{[], ◌++◌};
 ghost use Rattle.qolb_model.specs.Entries.{front, behind};
 ghost use Rattle.line_generic.specs.Steps.{after_meet, slots_returned};

@@ -1,4 +1,4 @@
-//! The port of a node.
+//! The port of a node: the value by which its owner calls the line.
 ghost use Rattle.std.specs.Prelude.{◌≡◌, ◌↔◌, IsTrue};
 
 use crate::discipline::DisciplineSpec;
@@ -8,24 +8,24 @@ use crate::wake::WakePolicy;
 use qolb_model::{LinePort, PollCount, PortState};
 use std::marker::Model;
 
-/// A node's handle of the line: its calls go through this port.
+/// A node's port: the value by which the node's owner calls the line.
 ///
-/// `payload` is the line if the port holds it, else its last copy. It is the first field, so that its bytes are copied from an aligned
-/// place; `state` is the last.
+/// `payload` is the line if the port holds it, and otherwise the port's last copy. It is the first field, so that its
+/// bytes are copied from an aligned place; `state` is the last field.
 #[derive(Drop)]
 pub struct Port<Q: DisciplineSpec, W: WakePolicy = Parking> {
     pub(crate) payload: LocalCopy,
     pub(crate) seat: LineSeat<Q::Local>,
-    /// The discipline's number of the last request.
+    /// The number that the discipline has stored for the last request.
     pub(crate) token: u64,
     pub(crate) label: u64,
     pub(crate) node: u64,
-    /// The number of word steps of the last call.
+    /// The number of atomic steps of the last call.
     pub(crate) steps: u64,
     /// The words of the next holder, if the line's wake policy notes them.
     pub(crate) note: W::Note,
     pub(crate) state: PortState,
-    /// The number of polls: ghost state only.
+    /// The number of polls, which is ghost state.
     pub(crate) poll_count: PollCount,
 }
 

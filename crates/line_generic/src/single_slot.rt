@@ -17,9 +17,9 @@ use atomic_table::Closed;
 use qolb_model::{Keep, PortState};
 use std::alloc::Global;
 
-/// Copies the line from the single slot to `payload`, for a turn without a write yet.
+/// Copies the line from the single slot to `payload`, for a turn that has written nothing yet.
 ///
-/// No word step. A closed line is left there for the successor.
+/// The call takes no atomic step. It leaves a closed line in the slot for the successor.
 #[inline]
 pub fn load_from_slot<K: Keep, Q: DisciplineInvariant<K>>(
     table: &SharedTable<K, Q>,
@@ -44,7 +44,8 @@ pub fn load_from_slot<K: Keep, Q: DisciplineInvariant<K>>(
 
 /// Copies a holder's payload back to the single slot.
 ///
-/// Writes the turns left and the flag only if they change: without a lease the turn's bytes and mask are all that is written.
+/// The call writes the turns left and the flag only if they change. Without a lease it therefore writes only the turn's
+/// bytes and mask.
 #[inline]
 pub fn store_to_slot<K: Keep, Q: DisciplineInvariant<K>>(
     table: &SharedTable<K, Q>,
@@ -83,8 +84,8 @@ pub fn take_from_closed(closed: Closed<Payload, Global>) -> Payload
 
 /// Returns the holder's slots to the table, because a seat that has slots cannot be joined to another.
 ///
-/// The table takes slots back only as part of a word step; this one loads word 0 and ignores the value. Reached only in a branch that the
-/// proof shows dead.
+/// The table takes slots back only as part of an atomic step. This step loads word 0 and ignores the value. The call is
+/// reached only in a branch that the proof shows to be dead.
 pub(crate) fn return_slots<K: Keep, Q: Discipline<K>>(
     table: &SharedTable<K, Q>,
     seat: &mut LineSeat<Q::Local>,

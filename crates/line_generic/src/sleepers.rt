@@ -1,4 +1,5 @@
-//! The counts of a line's waiters that are parked or about to be; what a waiter does before it parks, and a release before it returns.
+//! The counts of a line's sleepers, which are the waiters that are parked or about to park. This file has what a waiter
+//! does before it parks, and what a release does before it returns.
 ghost use Rattle.std.specs.Prelude.{◌≡◌, ℕ, ◌<◌, ◌/◌, ◌%◌, ◌^◌};
 
 use crate::discipline::Discipline;
@@ -8,11 +9,11 @@ use qolb_model::Keep;
 use std::array::from_fn;
 use std::sync::atomic::{AtomicU64, Ordering};
 
-/// The duty to unpark the next holder, and one turn ahead the waiter behind it.
+/// The duty to unpark the next holder, and the waiter behind it one turn early.
 ///
-/// `word` is the word on which the node that was granted the line may be parked, and `ahead` that of the waiter behind it; any number if
-/// there is no such node. A linear token: the type is not `Drop` and one field is private to this file, so a lock can only return it, and a
-/// call can only pass it to the `WakePolicy`.
+/// `word` is the word on which the node that was granted the line may be parked, and `ahead` is the word of the waiter
+/// behind it. They are any number if there is no such node. This is a linear token: the type is not `Drop` and one
+/// field is private to this file, so a discipline can only return it, and a call can only pass it to the `WakePolicy`.
 pub struct UnparkHandle {
     pub(crate) word: usize,
     pub(crate) ahead: usize,
@@ -20,7 +21,7 @@ pub struct UnparkHandle {
 }
 
 impl UnparkHandle {
-    /// The duty to unpark the waiters on `word`, and one turn ahead those on `ahead`.
+    /// Returns the duty to unpark the waiters on `word`, and the waiters on `ahead` one turn early.
     #[inline(always)]
     pub fn at(word: usize, ahead: usize) -> UnparkHandle
         ensures { result ≡ record { word = word; ahead = ahead; to_look = tt } }
@@ -46,7 +47,8 @@ impl UnparkHandle {
     }
 }
 
-/// The duty of a release that has found some waiter counted after its grant. A linear token, which only `wake_both` ends.
+/// The duty of a release that found some waiter counted after its grant. This is a linear token, which only `wake_both`
+/// ends.
 pub(crate) struct Found {
     word: usize,
     ahead: usize,
@@ -55,25 +57,28 @@ pub(crate) struct Found {
 
 /// A waiter that is counted on `word`, where a release finds it, and has not looked since.
 ///
-/// A linear token: the type is not `Drop`, and one field is private to this file. Only `Parking::enter` makes one, and only `see` takes it.
+/// This is a linear token: the type is not `Drop`, and one field is private to this file. Only `Parking::enter` makes
+/// one, and only `see` takes it.
 pub(crate) struct Counted {
     pub(crate) word: usize,
     to_look: (),
 }
 
-/// A waiter that is counted on `word` and has looked at it since: `low` is the word's lower half, as it was then.
+/// A waiter that is counted on `word` and has looked at it since. `low` is the lower half of the word, as the waiter
+/// found it.
 ///
-/// A linear token, as `Counted` is. Only `Counted::see` makes one, and only `Parking::leave` takes it. A thread parks by it.
+/// This is a linear token, as `Counted` is. Only `Counted::see` makes one, and only `Parking::leave` takes it. A thread
+/// that has one may park.
 pub(crate) struct Seen {
     pub(crate) word: usize,
     pub(crate) low: u32,
     to_leave: (),
 }
 
-/// The number of groups of parked waiters, counted by their word.
+/// The number of groups of parked waiters. A waiter belongs to the group of its word.
 const GROUPS: usize = 16;
 
-/// The distance between two words on which nodes wait, in each lock.
+/// The distance between two words on which nodes wait, in each kind of line.
 const STRIDE: usize = 16;
 
 /// Returns the group of the waiters on `word`.
@@ -107,10 +112,11 @@ impl Counted {
     }
 }
 
-/// Counters of the waiters of a line that are parked or about to be: of all, and of each group.
+/// Counters of the waiters of a line that are parked or about to park: one for all waiters, and one for each group.
 ///
-/// They are no words of the table, so no invariant mentions them. Each release loads `all`, so that counter has a cache line of its own. A
-/// release loads a group's counter only if some waiter is parked, and calls the system only if that group has any.
+/// They are not words of the table, so no invariant mentions them. Each release loads `all`, so that counter has a
+/// cache line of its own. A release loads a group's counter only if some waiter is parked, and calls the system only if
+/// that group has a waiter.
 #[derive(Drop)]
 pub struct Parking {
     all: CachePadded<AtomicU64>,
@@ -118,7 +124,7 @@ pub struct Parking {
 }
 
 impl Parking {
-    /// The counts of a new line, without waiters.
+    /// Returns the counts of a new line, which has no waiters.
     pub(crate) fn new() -> Parking {
         Parking {
             all: CachePadded::new(AtomicU64::new(0)),
@@ -135,7 +141,7 @@ impl Parking {
         Counted { word, to_look: () }
     }
 
-    /// Takes a waiter from the counts again.
+    /// Takes a waiter out of the counts.
     pub(crate) fn leave(&self, seen: Seen) {
         let Seen {
             word,
@@ -158,7 +164,8 @@ impl Parking {
         self.groups[group_of(word)].load(Ordering::SeqCst)
     }
 
-    /// Looks for waiters after the grant of `unpark`. Returns `None` if none is counted: then the duty is done.
+    /// Looks for waiters after the grant of `unpark`. Returns `None` if no waiter is counted, and then the duty is
+    /// done.
     #[inline(always)]
     pub(crate) fn look(&self, unpark: UnparkHandle) -> Option<Found> {
         let (word, ahead) = unpark.words();
@@ -172,7 +179,8 @@ impl Parking {
         })
     }
 
-    /// Unparks the waiters on the two words of `found`. Cold and not inlined, so that a release without parked waiters stays short.
+    /// Unparks the waiters on the two words of `found`. The function is cold and not inlined, so that a release without
+    /// parked waiters stays short.
     #[cold]
     #[inline(never)]
     pub(crate) fn wake_both<K: Keep, Q: Discipline<K>>(

@@ -11,7 +11,7 @@ use qolb_model::{Enq, Keep, LineSync, PortState, Prep};
 impl<K: Keep, Q: SplitEnqueue<K>, W: WakePolicy> Line<K, Q, W> {
     /// Makes a request, as the first half of `enqolb`.
     ///
-    /// Behind a predecessor it is `Linking`, still to be linked.
+    /// A request behind a predecessor is `Linking`, and must then be linked.
     pub fn prepend(&self, port: &mut Port<Q, W>) -> Prep
         requires { IsRestingPort K.Keep self.now.table.shared port.old }
         ensures { HasPutRequest K.Keep Q.DisciplineSpec self.now.table.shared Q.prepend_steps

@@ -1,4 +1,4 @@
-//! The table of a line: its words and slots. If no node holds the line, its bytes are in a slot.
+//! The table of a line: its words and its slots. While no node holds the line, its bytes are in a slot.
 ghost use Rattle.std.specs.Prelude.{◌≡◌, ⊤};
 
 use crate::discipline::{DisciplineInvariant, DisciplineSpec};
@@ -10,7 +10,7 @@ use std::alloc::{AllocError, Global};
 use std::collections::LinkedList;
 use std::marker::PhantomData;
 
-/// The key of a line's table: its label and config.
+/// The key of a line's table: its label and its configuration.
 #[derive(Drop)]
 pub struct TableKey {
     pub label: u64,
@@ -19,8 +19,8 @@ pub struct TableKey {
 
 /// The contents of a slot: the line's bytes, the last holder's mask, the turns left and the closed flag.
 ///
-/// `bytes` is the first field, so that they are copied from an aligned place. `padding` fills a slot to 128 bytes; only `again` copies
-/// it.
+/// `bytes` is the first field, so that the bytes are copied from an aligned place. `padding` fills a slot to 128 bytes,
+/// and only `again` copies it.
 #[derive(Drop)]
 pub struct Payload {
     pub bytes: Line64,
@@ -65,17 +65,17 @@ pub struct LocalCopy {
     pub closed: bool,
 }
 
-/// What the table's invariant knows of a node: ghost state, of which no value is made.
+/// What the table's invariant knows of a node. It is ghost state, and the program makes no value of this type.
 pub struct NodeGhost<O> {
     /// The view of the node's port.
     pub view: View,
     /// The discipline's own ghost state of the node.
     pub own: O,
-    /// The number of word steps that the node took in its calls of all kinds.
+    /// The number of atomic steps that the node took in its calls of all kinds.
     pub steps: u64,
 }
 
-/// The table rule of a line under the law `K`: its invariant is the discipline's.
+/// The table rule of a line under the data invariant `K`, which is the invariant of the discipline.
 pub struct Rule<K, Q> {
     law: PhantomData<(K, Q)>,
 }
@@ -109,5 +109,5 @@ pub type LineTable<K, Q> = Table<
     Global,
 >;
 
-/// A seat of the table; each port has one.
+/// A seat of the table. Each port has one.
 pub type LineSeat<O> = Seat<Payload, LinkedList<NodeGhost<O>>>;

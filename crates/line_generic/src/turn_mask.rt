@@ -1,11 +1,11 @@
-//! The mask of a turn: ghost state, which only proofs read.
+//! The mask of a turn: the bytes that the turn has written. It is ghost state, which only proofs read.
 ghost use Rattle.std.specs.Prelude.{◌≡◌, ℕ, bit_or};
 ghost use Rattle.std.specs.Borrow.{ftrue};
 
 use line_lanes::Mask;
 use std::marker::Model;
 
-/// The mask of what a turn has written. It has no bytes, and its methods do nothing at run time.
+/// The mask of the bytes that a turn has written. It has no bytes, and its methods do nothing at run time.
 #[derive(Drop)]
 pub struct TurnMask {
     /// The places written, as the bits of a `Mask`.
@@ -16,11 +16,11 @@ impl Model for TurnMask {
     ghost also_owns = { λ _. ftrue };
 }
 
-// It owns nothing, so it can be sent.
+// The mask owns nothing, so it can be sent to another thread.
 unsafe impl Send for TurnMask {}
 
 impl TurnMask {
-    /// Returns the mask of a turn without a write.
+    /// Returns the mask of a turn that has written nothing.
     #[inline(always)]
     pub fn none() -> TurnMask
         ensures { result.bits ≡ 0 }

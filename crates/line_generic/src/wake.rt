@@ -1,4 +1,4 @@
-//! Parked waiters, and the releases that unpark them. No call of this file changes the table.
+//! Waiters park, and releases unpark them. No call of this file changes the table.
 ghost use Rattle.std.specs.Prelude.{◌≡◌, ℕ, ◌<◌, false, Option, None};
 ghost use Rattle.line_generic.specs.Answers.{IsSeatOfNode};
 ghost use Rattle.line_generic.specs.Steps.{IsInState};
@@ -16,20 +16,21 @@ use std::time::Duration;
 
 /// How a line's releases unpark its waiters, if at all.
 pub trait WakePolicy: Drop {
-    /// What a release notes in its port of the next holder.
+    /// What a release notes in its port about the next holder.
     type Note: Copy + Drop;
 
     /// The word of the next holder, if the note has it.
     ghost went_to: { Self.Note → Option ℕ };
 
-    /// The policy's state of a new line, without waiters.
+    /// Returns the policy's state for a new line, which has no waiters.
     fn none() -> Self;
 
-    /// The note of a new port, without a release so far: no word.
+    /// Returns the note of a new port, which has not released yet and names no word.
     fn blank() -> Self::Note
         ensures { Names NO_WORD (went_to result) };
 
-    /// Unparks the waiters on the granted word and on the word ahead, or notes both. What is no word of the table is ignored.
+    /// Unparks the waiters on the granted word and on the word ahead, or notes both words. A number that is not a word
+    /// of the table is ignored.
     fn wake<K: Keep, Q: Discipline<K>>(
         &self,
         table: &LineTable<K, Q>,
@@ -39,7 +40,8 @@ pub trait WakePolicy: Drop {
         ensures { Names unpark.word (went_to note.new) };
 }
 
-/// A wake policy without parking: waiters spin, and a release calls nothing. For a lock that may not call the system.
+/// A wake policy without parking: waiters spin, and a release wakes nobody. A program uses it if the lock may not call
+/// the system.
 #[derive(Drop)]
 pub struct SpinOnly;
 
@@ -92,7 +94,7 @@ impl WakePolicy for Parking {
 }
 
 impl<K: Keep, Q: Discipline<K>> Line<K, Q> {
-    /// Returns the number of waiters that are parked or about to be.
+    /// Returns the number of waiters that are parked or about to park.
     pub fn sleepers(&self) -> u64 {
         self.sleepers.all()
     }
@@ -102,9 +104,9 @@ impl<K: Keep, Q: Discipline<K>> Line<K, Q> {
         self.sleepers.near(word)
     }
 
-    /// Parks the node on its word while the word is still what the node has seen. Blocks for at most `at_most`.
+    /// Parks the node on its word, while the word is still what the node has seen. Blocks for at most `at_most`.
     ///
-    /// By what it has seen its turn is not reached.
+    /// What the node has seen says that its turn has not come.
     fn park<R: Wait>(
         &self,
         rt: &R,
@@ -129,11 +131,11 @@ impl<K: Keep, Q: Discipline<K>> Line<K, Q> {
 }
 
 impl<K: Keep, Q: Discipline<K>> ParkingLine<K> for Line<K, Q> {
-    /// Parks the port's node until its turn may be reached or `at_most` is over; may return early.
+    /// Parks the port's node until its turn may have come or `at_most` is over. The call may return early.
     ///
-    /// A Dekker handshake: the waiter counts itself and then peeks at its word; a release grants and then loads the counter. So either the
-    /// waiter finds the grant, or the release finds the waiter. A thread is only put to sleep if the word is still what was seen, so no unpark
-    /// between peek and park is lost.
+    /// This is a Dekker handshake. The waiter counts itself and then peeks at its word; a release grants and then loads
+    /// the counter. So either the waiter finds the grant, or the release finds the waiter. The kernel puts a thread to
+    /// sleep only if the word is still what the thread saw, so no unpark between peek and park is lost.
     fn sleep<R: Wait>(&self, rt: &R, port: &Port<Q>, at_most: Duration) {
         let table = &self.table.shared;
         let word = Q::wait_word(table, self.width.cell_mask, port.node, port.token);

@@ -1,4 +1,5 @@
--- The locks: their names on command lines, and the memory of a line's table. (Of this project.)
+-- The kinds of lines: their names on command lines, and the memory of a line's table. The definitions are this
+-- project's own.
 use Rattle.std.specs.Prelude.{if◌then◌else◌, List, [], ◌∷◌, Option, Some, None, codes, ℕ, ◌+◌, ◌*◌}
 use Rattle.std.specs.Str.{bytes_eq}
 use Rattle.line_cells.specs.Counting.{cells_for}
@@ -13,12 +14,12 @@ use Rattle.line_kinds.specs.declared.Lock.TheVariants as lock
 abbrev pub lock_names : List (List ℕ)
 lock_names = codes "ring" ∷ codes "link" ∷ codes "ticket" ∷ []
 
--- the lock of this name, if there is one
+-- the kind of this name, if there is one
 abbrev pub lock_named : List ℕ → Option Lock
 lock_named name =
     if bytes_eq name (codes "ring") then Some lock.Ring else if bytes_eq name (codes "link") then Some lock.Link else if bytes_eq name (codes "ticket") then Some lock.Ticket else None
 
--- the numbers of words and slots of the table of a line of n nodes, as its lock says
+-- the numbers of words and slots of the table of a line of n nodes, as its kind says
 abbrev pub words_of : Lock → ℕ → ℕ
 words_of lock.Ring nodes = ring.word_count
 words_of lock.Link nodes = link.word_count nodes
@@ -29,8 +30,8 @@ slots_of lock.Ring nodes = 1
 slots_of lock.Link nodes = 1
 slots_of lock.Ticket nodes = slots.slot_count nodes
 
--- the number of bytes of these together: for 2 nodes 32,896 in a ring, 512 in a link line, 1,024 in a ticket line; for 200 nodes as many in a
--- ring, 25,856 in a link line, 65,536 in a ticket line
+-- The number of bytes of these together. For 2 nodes it is 32,896 in a ring, 512 in a link line, and 1,024 in a ticket
+-- line. For 200 nodes it is the same in a ring, 25,856 in a link line, and 65,536 in a ticket line.
 abbrev pub bytes_of : Lock → ℕ → ℕ
 bytes_of lock.Ring nodes = 32896
 bytes_of lock.Link nodes = 128 * (nodes + 2)

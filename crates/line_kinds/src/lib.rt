@@ -1,6 +1,6 @@
-//! The locks by name: code over any line learns from here which locks there are.
+//! The kinds of lines by name. Code that works on any line learns from this crate which kinds there are.
 //!
-//! What else names each lock is listed in docs/CHANGING.md, "Another lock".
+//! The section "Another lock" of docs/CHANGING.md lists the other files that name each kind.
 #![tactic(auto)]
 
 ghost use Rattle.std.specs.Prelude.{◌≡◌, ◌+◌, ◌*◌};
@@ -13,7 +13,7 @@ pub use link_line::{LinkLine, LinkQueue};
 pub use ring_line::{RingLine, RingQueue};
 pub use ticket_line::{TicketLine, TicketQueue};
 
-/// A lock by which nodes share a line.
+/// A kind of line, which is the lock by which nodes share a line.
 #[derive(Clone, Copy, Debug, PartialEq, Eq)]
 pub enum Lock {
     /// Rings: an array queue of tickets and cells.
@@ -36,8 +36,9 @@ pub const LOCKS: usize = 3;
 /// All locks.
 pub static ALL: [Lock; LOCKS] = [Lock::Ring, Lock::Link, Lock::Ticket];
 
-/// The locks' names on command lines, in the order of `ALL`, behind other texts: `lock_names!(array, "plain")` is an array of four names, and
-/// `lock_names!(text, "kinds: ")` a text in which commas part the locks' names.
+/// Makes the names of the kinds on command lines, in the order of `ALL`, behind other texts. `lock_names!(array,
+/// "plain")` is an array of four names, and `lock_names!(text, "kinds: ")` is a text in which commas separate the
+/// names.
 #[macro_export]
 macro_rules! lock_names {
     (@array [$($before:literal),*] $($name:literal),*) => { [$($before,)* $($name),*] };
@@ -45,11 +46,11 @@ macro_rules! lock_names {
     ($form:ident $(, $before:literal)*) => { $crate::lock_names!(@$form [$($before),*] "ring", "link", "ticket") };
 }
 
-/// The locks' names on command lines, in the order of `ALL`.
+/// The names of the kinds on command lines, in the order of `ALL`.
 pub static NAMES: [&str; LOCKS] = lock_names!(array);
 
 impl Lock {
-    /// Returns the lock of this name, if there is one.
+    /// Returns the kind of this name, if there is one.
     pub fn named(name: &str) -> Option<Lock>
         ensures { result ≡ lock_named name.now }
     {
@@ -61,9 +62,9 @@ impl Lock {
         }
     }
 
-    /// Returns the number of bytes of a table for `nodes` nodes: its words and its slots.
+    /// Returns the number of bytes of a table for `nodes` nodes, which are its words and its slots.
     ///
-    /// A port takes 128 more. Opening takes the table's bytes twice for a moment.
+    /// A port takes 128 bytes more. Opening a line takes the table's bytes twice for a moment.
     pub fn bytes_for(self, nodes: u64) -> u64
         requires { AreNodes nodes }
         ensures bytes { result ≡ bytes_of self nodes }

@@ -1,4 +1,4 @@
--- The bytes of a lane.
+-- Lemmas about the bytes of a lane.
 use Rattle.std.proofs.Common.{◌≡◌, ℕ, ◌+◌, ◌-◌, ◌*◌, ◌/◌, ◌%◌, ◌^◌, ◌<◌, ◌==◌, Bool, true, false, List, [], ◌∷◌, ◌++◌, take, drop, get_or, length, refl, sym, ap, add-zero, zero-add, ◌∙◌, arith, w64, Fits, ◌⊎◌, inl, inr, eq-eqb, ne_eqb, ◌≢◌, if◌then◌else◌}
 use Rattle.std.specs.Prelude.{slice_index}
 use Rattle.std.proofs.lemmas.Bool.{cases_order}

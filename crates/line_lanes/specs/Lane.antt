@@ -1,4 +1,5 @@
--- The eight lanes of a line: lane k is the little-endian number of bytes 8k to 8k + 7. (Of this project.)
+-- The eight lanes of a line: lane k is the little-endian number in bytes 8k to 8k + 7. The definitions are this
+-- project's own.
 use Rattle.std.specs.Prelude.{ℕ, ◌+◌, ◌*◌, ◌^◌, ◌<◌, ◌≤◌, List, ◌++◌, map, sum, take, drop}
 use Rattle.std.specs.List.{range_with_len}
 use Rattle.std.specs.Simd.Lanes.{number_l, digits_l}
@@ -7,7 +8,7 @@ use Rattle.std.specs.Simd.Lanes.{number_l, digits_l}
 abbrev pub lane_of : List ℕ → ℕ → ℕ
 lane_of line k = number_l 256 (take 8 (drop (8 * k) line))
 
--- the line with lane k replaced, and all else unchanged
+-- the line with lane k replaced, and all other lanes unchanged
 abbrev pub with_lane_of : List ℕ → ℕ → ℕ → List ℕ
 with_lane_of line k value = take (8 * k) line ++ (digits_l 256 8 value ++ drop (8 * k + 8) line)
 

@@ -1,4 +1,5 @@
--- A line: 64 bytes, byte by byte. (The unit of coherence of IEEE Std 1596-1992; masked writes are of this project.)
+-- A line: 64 bytes, byte by byte. (The 64-byte unit of coherence is from IEEE Std 1596-1992; masked writes are this
+-- project's own.)
 use Rattle.std.specs.Prelude.{◌≡◌, ◌<◌, ℕ, ◌-◌, true, if◌then◌else◌, List, map, length, slice_index}
 use Rattle.std.specs.List.{range_with_len}
 use Rattle.line_lanes.specs.Mask.{is_masked, is_within}
@@ -11,7 +12,7 @@ line_by byte = map byte (range_with_len 0 64)
 abbrev pub zeros : List ℕ
 zeros = line_by (λ _. 0)
 
--- byte k is the new line's if bit k of the mask is set, else the old line's
+-- byte k comes from the new line if bit k of the mask is set, and otherwise from the old line
 abbrev pub merged : List ℕ → List ℕ → ℕ → List ℕ
 merged old new mask = line_by (λ k. if is_masked mask k then slice_index new k else slice_index old k)
 

@@ -1,4 +1,5 @@
--- A mask: bit k of a number of 64 bits is set if byte k of a line is in the set. (Of this project.)
+-- A mask is a number of 64 bits: bit k is set if byte k of a line is in the set. The definitions are this project's
+-- own.
 use Rattle.std.specs.Prelude.{ℕ, ◌+◌, ◌==◌, ◌&&◌, Bool, not, map, nat_le, nat_lt, List, slice_index}
 use Rattle.std.specs.Int.{bit_at}
 use Rattle.std.specs.List.{range_with_len}

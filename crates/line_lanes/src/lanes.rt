@@ -27,7 +27,7 @@ pub fn lane(line: &Line64, k: usize) -> u64
     number_of(u8x8::from_slice(&line.bytes[8 * k..]))
 }
 
-/// Returns the line with `value` in lane `k`, and every other lane unchanged.
+/// Returns the line with `value` in lane `k`, and with every other lane unchanged.
 #[inline]
 pub fn with_lane(line: &Line64, k: usize, value: u64) -> Line64
     requires { k < 8 }
@@ -63,7 +63,7 @@ pub fn lane_sum(line: &Line64) -> u128
     sum_of(wide(low)) + sum_of(wide(high))
 }
 
-/// Adds two lines lane by lane. `None` exactly if one of the eight sums is more than `u64::MAX`.
+/// Adds two lines lane by lane. Returns `None` exactly if one of the eight sums is more than `u64::MAX`.
 #[inline]
 pub fn add_lanes(a: &Line64, b: &Line64) -> Option<Line64>
     ensures none { IsNone result ↔ OverflowsAtSomeLane a.now.bytes b.now.bytes }
@@ -82,21 +82,21 @@ pub fn add_lanes(a: &Line64, b: &Line64) -> Option<Line64>
     Some(joined(narrow(added(a_low, b_low)), narrow(added(a_high, b_high))))
 }
 
-/// The little-endian number of eight bytes.
+/// Returns the little-endian number of eight bytes.
 fn number_of(bytes: u8x8) -> u64
     ensures { result ≡ number_l 256 bytes }
 {
     u64x1::from_le_bytes(bytes).to_array()[0]
 }
 
-/// The four lanes of half a line.
+/// Returns the four lanes of half a line.
 fn wide(half: u8x32) -> u64x4
     ensures { (k : ℕ) → k < 4 → slice_index result k ≡ lane_of half k }
 {
     u64x4::from_le_bytes(half)
 }
 
-/// The half of a line that has these four lanes.
+/// Returns the half of a line that has these four lanes.
 fn narrow(lanes: u64x4) -> u8x32
     ensures len { length result ≡ 32 }
     ensures lanes { (k : ℕ) → k < 4 → lane_of result k ≡ slice_index lanes k }
@@ -104,7 +104,7 @@ fn narrow(lanes: u64x4) -> u8x32
     lanes.to_le_bytes()
 }
 
-/// The half of a line that has the value in each of its lanes.
+/// Returns the half of a line that has the value in each of its lanes.
 fn repeated(value: u64) -> u8x32
     ensures len { length result ≡ 32 }
     ensures bytes { (i : ℕ) → i < 32 → slice_index result i ≡ value / 256 ^ (i % 8) % 256 }
@@ -112,7 +112,7 @@ fn repeated(value: u64) -> u8x32
     u64x4::splat(value).to_le_bytes()
 }
 
-/// The half with the bytes of `value` at each place whose lane is `k`.
+/// Returns the half with the bytes of `value` at each place whose lane is `k`.
 fn replaced(half: u8x32, lanes: u8x32, k: u8, value: u8x32) -> u8x32
     ensures len { length result ≡ 32 }
     ensures bytes { (i : ℕ) → i < 32 → slice_index result i
@@ -121,7 +121,7 @@ fn replaced(half: u8x32, lanes: u8x32, k: u8, value: u8x32) -> u8x32
     lanes.simd_eq(u8x32::splat(k)).select(value, half)
 }
 
-/// The sum of four lanes.
+/// Returns the sum of four lanes.
 fn sum_of(lanes: u64x4) -> u128
     ensures total { result ≡ slice_index lanes 0 + slice_index lanes 1 + slice_index lanes 2
         + slice_index lanes 3 }
@@ -131,14 +131,14 @@ fn sum_of(lanes: u64x4) -> u128
     u128::from(first) + u128::from(second) + u128::from(third) + u128::from(fourth)
 }
 
-/// Returns `true` if some lane's sum is more than `u64::MAX`.
+/// Returns `true` if the sum of some lane is more than `u64::MAX`.
 fn overflows(a: u64x4, b: u64x4) -> bool
     ensures { IsTrue result ↔ (k : ℕ) × (k < 4) × (2 ^ 64 ≤ slice_index a k + slice_index b k) }
 {
     a.simd_gt(!b).any()
 }
 
-/// The sum of each lane.
+/// Returns the sum of each lane.
 fn added(a: u64x4, b: u64x4) -> u64x4
     requires { (k : ℕ) → k < 4 → slice_index a k + slice_index b k < 2 ^ 64 }
     ensures { (k : ℕ) → k < 4 → slice_index result k ≡ slice_index a k + slice_index b k }

@@ -1,4 +1,4 @@
-//! Lines of 64 bytes, masks of their bytes, and the kernels that work on them, two vectors of 32 bytes at a time.
+//! Lines of 64 bytes, masks of their bytes, and the functions that work on them, two vectors of 32 bytes at a time.
 #![tactic(auto)]
 
 mod compare;

@@ -1,9 +1,9 @@
 ghost use Rattle.std.specs.Prelude.{◌≡◌, ℕ};
 ghost use Rattle.line_lanes.specs.Line.{zeros};
 
-/// A line: 64 bytes, the unit that nodes share.
+/// A line: 64 bytes, which are the unit that nodes share.
 ///
-/// The field is public so that each caller proves the length without an annotation.
+/// The field is public, so that each caller proves the length without an annotation.
 #[derive(Clone, Copy, Debug, PartialEq, Eq)]
 pub struct Line64 {
     pub bytes: [u8; 64],

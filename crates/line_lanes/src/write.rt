@@ -12,7 +12,8 @@ const BITS: [u8; 32] = [
     8, 16, 32, 64, 128,
 ];
 
-/// Writes `new` over `old` under the mask: byte k is `new`'s if bit k of the mask is set, else `old`'s.
+/// Writes `new` over `old` under the mask: byte k comes from `new` if bit k of the mask is set, and otherwise from
+/// `old`.
 #[inline]
 pub fn merge(old: &Line64, new: &Line64, mask: Mask) -> Line64
     ensures { result.bytes ≡ merged old.now.bytes new.now.bytes mask.0 }
@@ -25,9 +26,9 @@ pub fn merge(old: &Line64, new: &Line64, mask: Mask) -> Line64
     )
 }
 
-/// Places `bytes` from place `off` on: returns their mask, and a line with zeros elsewhere.
+/// Places `bytes` from place `off` on. Returns their mask, and a line with zeros elsewhere.
 ///
-/// `None` exactly if they exceed the line.
+/// Returns `None` exactly if the bytes exceed the line.
 #[inline]
 pub fn placed(off: usize, bytes: &[u8]) -> Option<(Mask, Line64)>
     ensures none { IsNone result ↔ (64 < off + length bytes.now) }
@@ -37,8 +38,8 @@ pub fn placed(off: usize, bytes: &[u8]) -> Option<(Mask, Line64)>
     if off > 64 || bytes.len() > 64 - off {
         return None;
     }
-    // A slice of unknown length gets into a vector only by a copy, as `std::simd` has no partial load. So the bytes are copied to their
-    // place.
+    // A slice of unknown length gets into a vector only by a copy, because `std::simd` has no partial load. The bytes
+    // are therefore copied to their place.
     let mut line = [0; 64];
     write_at(&mut line, off, bytes);
     Some((Mask(run_of_bits(off, bytes.len())), Line64 { bytes: line }))
@@ -57,7 +58,7 @@ fn merge_half(old: u8x32, new: u8x32, mask: u64) -> u8x32
 fn mask_bytes(mask: u64) -> u8x32
     ensures { (k : ℕ) → k < 32 → slice_index result k ≡ mask / 2 ^ (8 * (k / 8)) % 256 }
 {
-    // A byte shuffle for each 16 bytes is fewer instructions than one for all 32.
+    // A byte shuffle for each 16 bytes takes fewer instructions than one shuffle for all 32.
     two_bytes(mask).shuffle::<32>(
         two_bytes(mask >> 16),
         [
@@ -77,7 +78,7 @@ fn two_bytes(mask: u64) -> u8x16
         .swizzle([0, 0, 0, 0, 0, 0, 0, 0, 1, 1, 1, 1, 1, 1, 1, 1])
 }
 
-/// Takes the new byte if the mask's byte there has the bit of that place, else the old one.
+/// Takes the new byte if the mask's byte there has the bit of that place, and otherwise the old byte.
 fn blend(old: u8x32, new: u8x32, mask: u8x32) -> u8x32
     ensures { (k : ℕ) → k < 32 → slice_index result k
         ≡ (if is_masked (slice_index mask k) (k % 8) then slice_index new k

@@ -1,4 +1,4 @@
--- A release leaves a chain of links behind it, whatever step is made.
+-- A release leaves a chain of links behind it, after every step.
 use Rattle.qolb_model.specs.declared.config.LineConfig.{LineConfig}
 use Rattle.std.proofs.Common.{◌≡◌, ◌≢◌, ℕ, zero, suc, ◌+◌, ◌<◌, ◌≤◌, ◌⊎◌, Bool, true, false, ◌||◌, List, [], ◌∷◌, ◌++◌, length, refl, sym, ◌∙◌, ap, subst, inl, inr, arith, length-append}
 use Rattle.std.specs.Prelude.{slice_index_or}
@@ -107,7 +107,7 @@ module _ {c d : State} {n : ℕ} {s : NodeCall} {k : ℕ} {w : Entry} (ch : Chan
       by (x ∷ xs) z = own_same f (ap (λ (t : NodeCall). t.passed) e ∙ ap (λ (ps : List ℕ). (seat_with ps p (seat c n).reason).passed) z ∙ sym z)
           (λ m y. let q : Freeing ≡ Granting m = sym (ap (λ (t : NodeCall). t.point) e ∙ ap (λ (ps : List ℕ). (seat_with ps p (seat c n).reason).point) z) ∙ y in cc)
 
-  -- so the chains are kept if the seat keeps its passed nodes, has none, or its call goes on to its end
+  -- therefore the chains are kept if the seat keeps its passed nodes, has none, or its call goes on to its end
   pub chained_same : Grows (entry c k) w → s.passed ≡ (seat c n).passed → ((m : ℕ) → s.point ≢ Granting m) → IsChained d
   chained_same f e ne = chained_grows f (own_same f e (λ m z. absurd (ne m z)))
 

@@ -1,4 +1,4 @@
--- What one act leaves as it was.
+-- What one act does not change.
 use Rattle.std.proofs.Common.{◌≡◌, ◌≢◌, ℕ, ◌<◌, ◌≤◌, Bool, false, ◌||◌, Option, List, [], length, refl, sym, ◌∙◌, ap, subst, inl, inr, arith}
 use Rattle.std.specs.Prelude.{slice_index_or}
 use Rattle.std.proofs.Math.Seq.{get_or-set_same, get_or-set_other}
@@ -40,7 +40,7 @@ changed_seat c n s i a = record {
   entry_other = λ m ne. refl;
 }
 
--- so it is if the words and the line change, too
+-- therefore it is if the words and the line change, too
 pub moved_both : (c : State) (hm : ℕ) (pl : Place) (cl : Bool) (mk : Mask) (lf : Option ℕ) (n : ℕ) (s : NodeCall) (k : ℕ) (w : Entry) → IsWide c → IsNode c n → IsNode c k → Changed c (put_seat n s (put_entry k w (record c { home = hm; place = pl; closed = cl; mask = mk; left = lf }))) n s k w
 moved_both c hm pl cl mk lf n s k w i a b = record {
   nodes = refl;

@@ -1,4 +1,4 @@
--- Putting ended requests on the clear list.
+-- Ended requests are put on the clear list.
 use Rattle.std.proofs.Common.{◌≡◌, ◌≢◌, ℕ, ◌<◌, ◌≤◌, Bool, true, false, List, [], ◌∷◌, ◌++◌, length, sym, ◌∙◌, ap, subst, inl, inr}
 use Rattle.link_core.specs.Places.{request, requester_at, IsLast}
 use Rattle.qolb_model.specs.Histories.{Clears, more}

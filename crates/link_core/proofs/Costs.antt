@@ -1,4 +1,4 @@
--- What each event costs: how many productive events the nodes have to go before and after it.
+-- The cost of each event: how many productive events the nodes still have to go, before the event and after it.
 use Rattle.qolb_model.specs.declared.config.LineConfig.{LineConfig}
 use Rattle.std.proofs.Common.{◌≡◌, ◌≢◌, ℕ, ◌+◌, ◌<◌, ◌≤◌, ◌⊎◌, Bool, true, false, List, [], ◌∷◌, Option, Some, refl, sym, ◌∙◌, ap, subst, inl, inr, arith}
 use Rattle.std.specs.Prelude.{cond}
@@ -54,7 +54,7 @@ grows_freed v = record { granted = λ e. e; done = λ e. e; freed = λ e. refl }
 grows_linked : (v : Entry) (n : ℕ) → Grows v (linked v n)
 grows_linked v n = record { granted = λ e. e; done = λ e. e; freed = λ e. e }
 
--- so no more is to go by it
+-- therefore no more is to go by it
 linking_least : (a b : Bool) → (a ≡ true → b ≡ true) → cond b 4 5 ≤ cond a 4 5
 linking_least true b f = rw (f refl) (omega arith)
 linking_least false true f = omega arith

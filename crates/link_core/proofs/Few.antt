@@ -1,4 +1,4 @@
--- The open requests are of different nodes, so they are no more than the nodes.
+-- The open requests are of different nodes, so there are no more of them than nodes.
 use Rattle.qolb_model.specs.declared.config.LineConfig.{LineConfig}
 use Rattle.std.proofs.Common.{◌≡◌, ℕ, suc, ◌+◌, ◌<◌, ◌≤◌, List, length, map, drop, sym, ◌∙◌, ap, subst, arith}
 use Rattle.std.specs.Prelude.{slice_index_or}

@@ -1,4 +1,4 @@
--- Laws of places and last requests, as the order grows.
+-- Lemmas about places and last requests while the order grows.
 use Rattle.std.proofs.Common.{◌≡◌, ◌≢◌, ℕ, ◌+◌, ◌<◌, ◌≤◌, zero, suc, Some, None, slice_get, List, [], ◌∷◌, ◌++◌, ◌⊎◌, length, take, Option, refl, sym, ◌∙◌, ap, subst, inl, inr, arith, length-append}
 use Rattle.std.proofs.lemmas.Bool.{cases_order}
 use Rattle.std.proofs.lemmas.Option.{slice_get_within}

@@ -80,7 +80,7 @@ module _ {config : LineConfig} {c : State} {h : Queue} (s : Matches config c h) 
       let k = last_once h.order m j.at (length h.ends + 1) (subst (λ (x : ℕ). IsLast h.order x j.at) e j.last) last in
       elim j.come [ inl f ↦ let g = slice_get_within h.ends j.at Gone f in omega arith | inr f ↦ let g = f.0 in omega arith ]
 
-  -- so with all others passed no request follows
+  -- therefore with all others passed no request follows
   pub none_follows : (n : ℕ) → IsNode c n → has_line (point c n) ≡ true → length h.ends + 1 < length h.order → length (seat c n).passed + 1 < c.nodes
   none_follows n a lined more =
       let last = s.distinct (length h.ends + 1) (omega arith) more in

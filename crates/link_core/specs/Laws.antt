@@ -1,4 +1,4 @@
--- The laws that a lock whose words are those of a core may use. (Of this project.)
+-- The theorems that a lock whose words are those of a core may use. The theorems are this project's own.
 use Rattle.std.specs.Prelude.{◌≡◌, ◌≢◌, ◌↔◌, ℕ, ◌+◌, ◌*◌, ◌<◌, ◌≤◌, true, false, Option, List, [], ◌∷◌, length}
 use Rattle.qolb_model.specs.declared.config.LineConfig.{LineConfig}
 use Rattle.qolb_model.specs.declared.config.TheConstants.{MAX_NODES}
@@ -26,12 +26,13 @@ use Rattle.link_core.specs.Progress.{GoesDown, ActsNext, HasWay, IsNear, Path, I
 abbrev pub OpenedShows : Type 0
 OpenedShows = (config : LineConfig) → config.nodes ≤ MAX_NODES → length config.opening.bytes ≡ 64 → IsWide (first config) × Shows config (first config) empty_queue
 
--- Each event leads from a state that shows a queue to one that shows a queue after the event's move, and changes nothing of the other
--- nodes.
+-- Each event leads from a state that shows a queue to a state that shows a queue after the event's move, and changes
+-- nothing of the other nodes.
 abbrev pub EachEventKeeps : Type 0
 EachEventKeeps = (config : LineConfig) (c d : State) (q : Queue) (e : Event) (t : Told) → IsWide c → Shows config c q → (step : Step c e t d) → Keeps config c e t d step q × IsWide d
 
--- The queue after an event is that after the step's move, but for the clear list; and that too, if the step clears nothing.
+-- The queue after an event is the queue after the step's move, except for the clear list. The clear list is the same,
+-- too, if the step clears nothing.
 abbrev pub MovesAreMade : Type 0
 MovesAreMade = (config : LineConfig) (c d : State) (q : Queue) (e : Event) (t : Told) (step : Step c e t d) (on : Keeps config c e t d step q) → (on.after ≡ record (made q (move_of step q.order)) { clear = on.after.clear }) × (may_clear e (move_of step q.order) ≡ false → on.after ≡ made q (move_of step q.order))
 
@@ -53,10 +54,11 @@ pub record Unset (c : State) : Type 0 where
 abbrev pub AddsFindUnset : Type 0
 AddsFindUnset = (config : LineConfig) (c : State) (q : Queue) → Shows config c q → Unset c
 
--- What the nodes find. A point names nodes only. A node in a release has the line in its hand, alone, as it is to be handed over, and is at
--- the entry that its list of passed nodes says. The next node waits or is withdrawn, and its flag tells which. A node that is to link is
--- right behind the one that it links to. Home names the newest open request. If a flag says that the line is granted, it is in that
--- mailbox. If no node waits or has the line, all requests have ended.
+-- What the nodes find. A point names only nodes. A node in a release is the only one that has the line in its hand, in
+-- the state in which it must be handed over, and the release is at the entry that the node's list of passed nodes says.
+-- The next node waits or is withdrawn, and its flag tells which. A node that still has to link is right behind the node
+-- that it links to. Home names the newest open request. If a flag says that the line is granted, it is in that mailbox.
+-- If no node waits or has the line, all requests have ended.
 pub record Found (config : LineConfig) (c : State) (q : Queue) : Type 0 where
   pub names : (n : ℕ) → IsNode c n → Names c (point c n)
   pub hand : (n : ℕ) → IsNode c n → has_line (point c n) ≡ true → c.place ≡ Hand n
@@ -87,7 +89,7 @@ NodesFind = (config : LineConfig) (c : State) (q : Queue) → Shows config c q �
 abbrev pub SizesStay : Type 0
 SizesStay = (c d : State) (e : Event) (t : Told) → Step c e t d → (d.nodes ≡ c.nodes) × (length d.entries ≡ length c.entries) × (length d.seats ≡ length c.seats)
 
--- The request at a node's last place has its highest number; and a node that has made requests has a last place.
+-- The request at a node's last place has the node's highest number, and a node that has made requests has a last place.
 pub record LastPlaces (order : List Request) (n : ℕ) : Type 0 where
   pub number : (p : ℕ) → IsLast order n p → request order p ≡ last_of n order
   pub place : 1 ≤ count_of n order → (p : ℕ) × IsLast order n p
@@ -95,7 +97,7 @@ pub record LastPlaces (order : List Request) (n : ℕ) : Type 0 where
 abbrev pub LastsHavePlaces : Type 0
 LastsHavePlaces = (lease : Option ℕ) (order : List Request) (ends : List End) (n : ℕ) → IsLegal lease order ends → LastPlaces order n
 
--- A release passes fewer nodes than there are, and finds itself named at home if it has passed all others.
+-- A release passes fewer nodes than the line has. Once it has passed all others, it finds itself named at home.
 pub record Short (c : State) : Type 0 where
   pub passed : (n : ℕ) → IsNode c n → length (seat c n).passed < c.nodes
   pub home : (n : ℕ) → IsNode c n → has_line (point c n) ≡ true → length (seat c n).passed + 1 ≡ c.nodes → c.home ≡ current c n
@@ -111,12 +113,13 @@ EndsClose = (config : LineConfig) (c : State) (q : Queue) (n : ℕ) (r : Release
 abbrev pub RunsMove : Type 0
 RunsMove = (config : LineConfig) (es : List Event) (c : State) (q : Queue) → Run config es c q → (moves : List Move) × Runs config empty_queue moves q
 
--- A productive event lowers the rank, and only a prepend raises it (ranking function); the same for each request that is open.
+-- The rank is a ranking function: a productive event lowers it, and only a prepend raises it. The same holds for each
+-- open request.
 abbrev pub EventsGoDown : Type 0
 EventsGoDown = (config : LineConfig) (c d : State) (q r : Queue) (e : Event) (t : Told) → IsWide c → Shows config c q → (step : Step c e t d) → Goes config q (move_of step q.order) r → GoesDown c d q r e t
 
--- While a request is open, some node that asks behind no open request has a productive event that is enabled; the line's place says which
--- node.
+-- While a request is open, some node that asks behind no open request has a productive event that is enabled. The place
+-- of the line says which node.
 abbrev pub OpenHaveWays : Type 0
 OpenHaveWays = (config : LineConfig) (c : State) (q : Queue) → Shows config c q → length q.ends < length q.order → HasWay c q
 
@@ -132,12 +135,12 @@ FewAreLeft = (config : LineConfig) (c : State) (q : Queue) → Shows config c q 
 abbrev pub PathsAreShort : Type 0
 PathsAreShort = (config : LineConfig) (c d : State) (q r : Queue) → IsWide c → Shows config c q → (path : Path config c q d r) → IsShort path
 
--- and a run from the opening at most 5 for each request.
+-- and a run from the opening has at most 5 for each request.
 abbrev pub RunsAreShort : Type 0
 RunsAreShort = (config : LineConfig) (es : List Event) (c : State) (q : Queue) → config.nodes ≤ MAX_NODES → length config.opening.bytes ≡ 64 → (run : Run config es c q) → productive_in run + rank c ≤ 5 * asked_in run
 
--- The open requests are of different nodes. So at most N - 1 others end before an open one, as its place stays and a later request is
--- behind it.
+-- The open requests are of different nodes. Therefore at most N - 1 others end before an open request, because its
+-- place stays and a later request is behind it.
 pub record AreFew (c : State) (q : Queue) : Type 0 where
   pub apart : (p i : ℕ) → length q.ends ≤ p → p < length q.order → length q.ends ≤ i → i < length q.order → requester_at q.order p ≡ requester_at q.order i → p ≡ i
   pub near : (p : ℕ) → length q.ends ≤ p → p < length q.order → p < length q.ends + c.nodes

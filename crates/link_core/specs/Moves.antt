@@ -1,5 +1,6 @@
--- The move of the queue that each case of an event makes: at most one, and then ended requests may be cleared. (The queue at a line is that
--- of Goodman, Vernon and Woest, 1989; the order of the ends as a list's links give it is of this project.)
+-- The move of the queue that each case of an event makes. An event makes at most one move, after which ended requests
+-- may be cleared. (The queue at a line is that of Goodman, Vernon and Woest, 1989. The order of the ends, which the
+-- links of a list give, is this project's own.)
 use Rattle.std.specs.Prelude.{ℕ, Bool, true, false, List, [], ◌∷◌, Option, Some, None}
 use Rattle.qolb_model.specs.declared.request.Request.{Request}
 use Rattle.qolb_model.specs.declared.end.End.{End}
@@ -26,8 +27,9 @@ end_by c _ (m ∷ ms) = end.Gone
 abbrev pub end_of : State → ℕ → End
 end_of c n = end_by c (seat c n).reason (seat c n).passed
 
--- A prepend asks. The request at its turn ends when the line leaves its entry: it goes home, stays with an entry that has no link, or is
--- granted to the next. A withdrawal before the grant marks the node's last request.
+-- A prepend makes a request. The request at its turn ends when the line leaves its entry: the line goes home, stays
+-- with an entry that has no link, or is granted to the next node. A withdrawal before the grant marks the node's last
+-- request.
 abbrev pub move_of : {c : State} {e : Event} {t : Told} {d : State} → Step c e t d → List Request → Option Move
 move_of (row.prepend_first n a at idle) order = Some (ask n)
 move_of (row.prepend n a at busy) order = Some (ask n)
@@ -40,7 +42,7 @@ move_of {c} (row.grant_rolled n m a at rolled) order = Some (finish (end_of c n)
 move_of (row.roll n a at ungranted) order = Some (mark (last_of n order))
 move_of _ order = None
 
--- requests may become clear by an end, by a link, and by a freeing
+-- an end, a link or a freeing may make requests clear
 abbrev pub may_clear : Event → Option Move → Bool
 may_clear e (Some (finish x)) = true
 may_clear (event.Link n) m = true

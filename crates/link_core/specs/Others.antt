@@ -1,4 +1,4 @@
--- The effect of a node's act on the other nodes. (Of this project.)
+-- How an act of one node affects the other nodes. The definitions are this project's own.
 use Rattle.std.specs.Prelude.{◌≡◌, ◌≢◌, ℕ, ◌≤◌, true, false, length, Some, slice_get}
 use mathlib.Core.List.{IsPrefix}
 use Rattle.qolb_model.specs.declared.request.Request.{Request}
@@ -10,18 +10,18 @@ use Rattle.link_core.specs.Places.{IsLast}
 use Rattle.link_core.specs.State.{State, seat, point, IsNode}
 use Rattle.link_core.specs.Shown.{has_line}
 
--- an act of n, which leads from c and q to d and r, spares the other nodes
+-- an act of n, which leads from c and q to d and r, does not touch the other nodes
 pub record Spared (c d : State) (q r : Queue) (n : ℕ) : Type 0 where
   pub nodes : d.nodes ≡ c.nodes
-  -- the seats of the others, and the line if one of them has it, are unchanged
+  -- the seats of the other nodes do not change, and neither does the line if one of them has it
   pub seats : (m : ℕ) → m ≢ n → seat d m ≡ seat c m
   pub line : (m : ℕ) → m ≢ n → IsNode c m → has_line (point c m) ≡ true → (d.bytes ≡ c.bytes) × (d.closed ≡ c.closed) × (d.mask ≡ c.mask) × (d.left ≡ c.left) × (r.ends ≡ q.ends)
-  -- so are the numbers of their requests, the last of each, and those that are marked
+  -- the numbers of the other nodes' requests do not change, nor the last request of each, nor which of them are marked
   pub asks : (m : ℕ) → m ≢ n → count_of m r.order ≡ count_of m q.order
   pub last : (m p : ℕ) → m ≢ n → IsLast q.order m p → IsLast r.order m p
   pub back : (m p : ℕ) → m ≢ n → IsLast r.order m p → IsLast q.order m p
   pub marks : (x : Request) → x.node ≢ n → has r.marked x ≡ has q.marked x
-  -- a new end that is served or told is of n's own request
+  -- a new end that is served or told belongs to n's own request
   pub its : (p : ℕ) (x : Request) (e : End) → length q.ends ≤ p → slice_get r.order p ≡ Some x → slice_get r.ends p ≡ Some e → is_gone e ≡ false → x.node ≡ n
   -- the old lists are prefixes of the new ones
   pub order : IsPrefix q.order r.order

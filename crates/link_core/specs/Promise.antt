@@ -1,4 +1,4 @@
--- The promise of a step: a state that shows a queue leads to one that shows a queue after at most one move.
+-- The promise of a step: a state that shows a queue leads to a state that shows a queue after at most one move.
 use Rattle.std.specs.Prelude.{◌≡◌, ◌≢◌, ℕ, ◌+◌, ◌<◌, ◌≤◌, false, List, [], ◌∷◌, ◌++◌, length, take, slice_get, Some}
 use Rattle.qolb_model.specs.declared.config.LineConfig.{LineConfig}
 use Rattle.qolb_model.specs.declared.config.TheConstants.{MAX_NODES}
@@ -22,7 +22,7 @@ use Rattle.link_core.specs.Moves.{move_of, may_clear, Goes}
 use Rattle.link_core.specs.Others.{Spared}
 use Rattle.link_core.specs.Shown.{EndedBy, Shows}
 
--- n's last request is at its turn, on an open line; or it waits behind that one
+-- n's last request is at its turn on an open line, or waits behind the request at its turn
 pub record AtTurn (q : Queue) (n : ℕ) : Type 0 where
   pub last : IsLast q.order n (length q.ends)
   pub open' : is_closed q.ends ≡ false
@@ -32,8 +32,8 @@ pub record Waits (q : Queue) (n : ℕ) : Type 0 where
   pub last : IsLast q.order n at
   pub behind : length q.ends < at
 
--- What is told of n's last request: granted only at its turn; queued, waiting and withdrawn only before it; released, shut and closed only
--- if it has ended so; free and busy as the clear list has it.
+-- What n's last request is told: granted only at its turn; queued, waiting and withdrawn only before its turn;
+-- released, shut and closed only if it has ended in that way; free and busy as the clear list says.
 abbrev pub Says : Queue → ℕ → Told → Type 0
 Says q n told.Went = Unit {0}
 Says q n told.Granted = AtTurn q n
@@ -50,8 +50,8 @@ Says q n told.Busy = (p : ℕ) → IsLast q.order n p → Lacks q.clear (request
 abbrev pub IsClearBefore : Queue → Type 0
 IsClearBefore q = (p : ℕ) (r : Request) (e : End) → p + 1 ≡ length q.ends → slice_get q.order p ≡ Some r → slice_get q.ends p ≡ Some e → is_gone e ≡ false → Has q.clear r
 
--- The step, from a state that shows q, leads to one that shows a queue after the step's move. If the line gets into a hand, the request
--- before is clear.
+-- The step leads from a state that shows q to a state that shows a queue after the step's move. If a node takes the
+-- line into its hand, the request before that node's is clear.
 pub record Keeps (config : LineConfig) (c : State) (e : Event) (t : Told) (d : State) (step : Step c e t d) (q : Queue) : Type 0 where
   pub after : Queue
   pub goes : Goes config q (move_of step q.order) after
@@ -70,7 +70,8 @@ pub record IsSound (c : State) : Type 0 where
   pub queue : Queue
   pub shows : Shows config c queue
 
--- a run: these events, each with its move and a queue that is shown after it, lead from the opening to a state and a queue
+-- a run: these events lead from the opening to a state and a queue, each with its move and a queue that is shown after
+-- it
 pub data Run (config : LineConfig) : List Event → State → Queue → Type 0 where
   opened : Run config [] (first config) empty_queue
   event : {es : List Event} {c : State} {q : Queue} → Run config es c q → (e : Event) (t : Told) (d : State) (r : Queue) (step : Step c e t d) → Goes config q (move_of step q.order) r → Shows config d r → Run config (es ++ e ∷ []) d r

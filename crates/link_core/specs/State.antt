@@ -1,5 +1,6 @@
--- The state of a line with reversed links, and the changes that one act makes. (A list of requesters at a line is of IEEE Std 1596-1992;
--- that its links are made by the younger node, from the tail's side to the head's, and the words that hold them are of this project.)
+-- The state of a line with reversed links, and the changes that one act makes. (A list of requesters at a line is from
+-- IEEE Std 1596-1992. This project's own are the links that the younger node makes, from the tail's side to the head's,
+-- and the words that hold these links.)
 use Rattle.std.specs.Prelude.{ℕ, ◌<◌, ◌≤◌, ◌==◌, Bool, true, false, ◌&&◌, not, List, [], ◌∷◌, length, replicate, slice_index_or, slice_set}
 use Rattle.link_core.specs.declared.point.Point.{Point}
 use Rattle.link_core.specs.declared.point.Point.TheVariants.{Idle, Ready, Linking, Queued, Holding, Leaving, Marking, Granting, Freeing, Left, Rolled, Shut}
@@ -39,7 +40,7 @@ pub record IsWide (c : State) : Type 0 where
   pub entries : c.nodes < length c.entries
   pub seats : c.nodes < length c.seats
 
--- the node whose entry the release is at: the last that it passed, or itself
+-- the node whose entry the release has reached, which is the last node that it passed, or itself
 abbrev pub last_or : ℕ → List ℕ → ℕ
 last_or n [] = n
 last_or n (m ∷ ms) = last_or m ms
@@ -47,7 +48,7 @@ last_or n (m ∷ ms) = last_or m ms
 abbrev pub current : State → ℕ → ℕ
 current c n = last_or n (seat c n).passed
 
--- the last request of a node at this point, with this entry, may be followed by another
+-- the node at this point, with this entry, may make another request after its last one
 abbrev pub is_clear : Point → Entry → Bool
 is_clear Idle w = true
 is_clear Ready w = true
@@ -72,7 +73,7 @@ put_seat n s c = record c { seats = slice_set c.seats n s }
 abbrev pub at_point : ℕ → Point → State → State
 at_point n p c = put_seat n (record (seat c n) { point = p }) c
 
--- no byte of a line
+-- the mask without any byte
 abbrev pub no_mask : Mask
 no_mask = record { 0 = 0 }
 

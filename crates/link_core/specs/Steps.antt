@@ -1,4 +1,5 @@
--- The effect of each event: a relation by cases. (Of this project; the handover at the tail is that of Goodman, Vernon and Woest, 1989.)
+-- The effect of each event, as a relation by cases. The definitions are this project's own. (Handing over at the tail
+-- is of Goodman, Vernon and Woest, 1989.)
 use Rattle.std.specs.Prelude.{◌≡◌, ◌≢◌, ℕ, ◌<◌, ◌≤◌, Bool, true, false, Option, List, [], ◌∷◌, ◌++◌, ◌⊎◌, length, slice_index_or, bit_or}
 use Rattle.link_core.specs.declared.point.Point.{Point}
 use Rattle.link_core.specs.declared.point.Point.TheVariants.{Idle, Ready, Linking, Queued, Holding, Leaving, Marking, Granting, Freeing, Left, Rolled, Shut}
@@ -95,12 +96,13 @@ pub data Step (c : State) : Event → Told → State → Type 0 where
   -- a node about to request stores 0 in its entry
   reset : (n : ℕ) → IsNode c n → (point c n ≡ Idle) ⊎ (point c n ≡ Shut) →
       Step c (event.Reset n) told.Went (at_point n Ready (put_entry n empty c))
-  -- prepend: the node puts itself into the home word; if that was 0 it takes the line from home, else it is to link to the node found there
+  -- prepend: the node puts itself into the home word; if that was 0 it takes the line from home, otherwise it is to
+  -- link to the node found there
   prepend_first : (n : ℕ) → IsNode c n → point c n ≡ Ready → c.home ≡ 0 →
       Step c (event.Prepend n) (told_at_arrival c.closed) (arrive n (record c { home = n }))
   prepend : (n : ℕ) → IsNode c n → point c n ≡ Ready → c.home ≢ 0 →
       Step c (event.Prepend n) told.Went (at_point n (Linking c.home) (record c { home = n }))
-  -- link: if the older entry is done, the node takes the line from its mailbox, else the request waits
+  -- link: if the older entry is done, the node takes the line from its mailbox, otherwise the request waits
   link_done : (n p : ℕ) → IsNode c n → point c n ≡ Linking p → (entry c p).done ≡ true →
       Step c (event.Link n) (told_at_arrival c.closed) (arrive n (put_entry p (record (entry c p) { link = n }) c))
   link : (n p : ℕ) → IsNode c n → point c n ≡ Linking p → (entry c p).done ≡ false →
@@ -115,14 +117,15 @@ pub data Step (c : State) : Event → Told → State → Type 0 where
       Step c (event.Load n) told.Free (at_point n Idle c)
   load_busy : (n : ℕ) → IsNode c n → (point c n ≡ Left) ⊎ (point c n ≡ Rolled) → is_clear (point c n) (entry c n) ≡ false →
       Step c (event.Load n) told.Busy c
-  -- a release at the entry e: if home names e, no request follows, and the line goes home; else e is to be marked as done
+  -- a release at the entry e: if home names e, no request follows, and the line goes home; otherwise e is to be marked
+  -- as done
   home : (n e : ℕ) → IsNode c n → Releases c n e → c.home ≡ e → Step c (event.Home n) (told_home n c) (gone_home n c)
   home_failed : (n e : ℕ) → IsNode c n → Releases c n e → c.home ≢ e → Step c (event.Home n) told.Went (at_point n (Marking e) c)
   -- a holder at the last turn of a lease first closes the line
   home_last : (n : ℕ) → IsNode c n → point c n ≡ Holding → is_one c.left ≡ true → c.home ≡ n → Step c (event.Home n) (told_home n (closed_by n c)) (gone_home n (closed_by n c))
   home_last_failed : (n : ℕ) → IsNode c n → point c n ≡ Holding → is_one c.left ≡ true → c.home ≢ n → Step c (event.Home n) told.Went (at_point n (Marking n) (closed_by n c))
-  -- e is marked as done: without a link the line stays in e's mailbox, which is n's own or that of a passed node; else the next node is
-  -- known
+  -- e is marked as done: without a link the line stays in e's mailbox, which is n's own or that of a passed node;
+  -- otherwise the next node is known
   done_left : (n e : ℕ) → IsNode c n → point c n ≡ Marking e → (entry c e).link ≡ 0 → e ≡ n →
       Step c (event.Done n) (told_with (seat c n).passed (seat c n).reason)
       (put_seat n (seat_at_close Left (seat c n)) (put_entry e (record (entry c e) { done = true }) (record c { place = Mailbox e; left = turns_after n c })))

@@ -50,7 +50,7 @@ impl State {
         }
     }
 
-    /// Adds n's link to the entry that it found at home. If that was done, n takes the line from its mailbox.
+    /// Adds n's link to the entry that n found at home. If that entry was done, n takes the line from its mailbox.
     pub fn link(&mut self, n: u64) -> Result<Told, NotEnabled>
         requires fits { Fits self.old }
         requires node { IsNode self.old n }

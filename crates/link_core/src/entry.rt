@@ -9,7 +9,7 @@ pub struct Entry {
     pub link: u64,
 }
 
-/// An entry after its reset.
+/// An entry just after its reset.
 pub const EMPTY: Entry = Entry {
     granted: false,
     rolled: false,

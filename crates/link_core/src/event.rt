@@ -3,7 +3,7 @@ ghost use Rattle.link_core.specs.Steps.{node_of};
 
 use line_lanes::{Line64, Mask};
 
-/// One atomic act of one node: a word step, or an act of a holder on the line in its hand.
+/// One atomic act of one node: an atomic step, or an act of a holder on the line in its hand.
 #[derive(Clone, Copy, Debug, PartialEq, Eq)]
 pub enum Event {
     /// The node stores 0 in its own entry.
@@ -24,7 +24,7 @@ pub enum Event {
     Roll(u64),
     /// A release adds the flag freed to the entry of a node that it passed.
     Freed(u64),
-    /// The holder writes the bytes, at the places of the mask.
+    /// The holder writes the bytes at the places of the mask.
     Write(u64, Mask, Line64),
     /// The holder closes the line.
     Close(u64),

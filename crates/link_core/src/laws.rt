@@ -1,4 +1,5 @@
-//! Laws of a core's events, for a lock whose words are those of a core. Each is the contract of a function that does nothing.
+//! Theorems about the events of a core, for a lock whose words are those of a core. Each theorem is the contract of a
+//! function that does nothing.
 
 ghost use Rattle.link_core.specs.Laws.{OpenedShows, EachEventKeeps, MovesAreMade, EventsAreEnabled, EventsHaveOneEffect, AddsFindUnset, NodesFind, SizesStay, LastsHavePlaces, WalksAreShort, EndsClose, RunsMove, FewAreOpen, EventsGoDown, OpenHaveWays, WaysStay, FewAreLeft, PathsAreShort, RunsAreShort};
 
@@ -7,12 +8,13 @@ pub fn opened_shows()
     ensures { OpenedShows }
 {}
 
-/// Each event keeps the invariant that a queue is shown: by its move, and without a change for the other nodes.
+/// Each event keeps the invariant that the state shows a queue: the event makes its move, and changes nothing for the
+/// other nodes.
 pub fn each_event_keeps()
     ensures { EachEventKeeps }
 {}
 
-/// The queue after an event is that after its move.
+/// The queue after an event is the queue after the event's move.
 pub fn moves_are_made()
     ensures { MovesAreMade }
 {}
@@ -47,7 +49,7 @@ pub fn lasts_have_places()
     ensures { LastsHavePlaces }
 {}
 
-/// A release passes each other node at most once, and then the line goes home.
+/// A release passes each other node at most once, and after all of them the line goes home.
 pub fn walks_are_short()
     ensures { WalksAreShort }
 {}
@@ -67,14 +69,14 @@ pub fn few_are_open()
     ensures { FewAreOpen }
 {}
 
-/// Ranking function: each productive event lowers the rank, and only a prepend raises it.
+/// The rank is a ranking function: each productive event lowers it, and only a prepend raises it.
 ///
-/// So it is for the rank of each open request, for any requests behind it.
+/// The same holds for the rank of each open request, whatever requests come behind it.
 pub fn events_go_down()
     ensures { EventsGoDown }
 {}
 
-/// While a request is open, some node has a productive event that is enabled. The line's place says which node.
+/// While a request is open, some node has a productive event that is enabled. The place of the line says which node.
 pub fn open_have_ways()
     ensures { OpenHaveWays }
 {}
@@ -84,7 +86,7 @@ pub fn ways_stay()
     ensures { WaysStay }
 {}
 
-/// Bounds of the rank, by the nodes that are in a call, or withdrawn and not freed.
+/// The rank is bounded by the number of nodes that are in a call, or withdrawn and not freed.
 pub fn few_are_left()
     ensures { FewAreLeft }
 {}
@@ -94,7 +96,7 @@ pub fn paths_are_short()
     ensures { PathsAreShort }
 {}
 
-/// A run of events has at most 5 productive ones for each request made in it.
+/// A run of events has at most 5 productive events for each request made in it.
 pub fn runs_are_short()
     ensures { RunsAreShort }
 {}

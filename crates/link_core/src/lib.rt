@@ -1,4 +1,5 @@
-//! The core of a lock-free queue lock by reversed links: its states and its events, with no threads and no memory.
+//! The core of a lock-free queue lock by reversed links: its states and its events, as values without threads and
+//! memory.
 #![tactic(auto)]
 
 mod asking;

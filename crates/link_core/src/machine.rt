@@ -61,9 +61,9 @@ impl Core {
         })
     }
 
-    /// Opens a line as `start` does, which closes at the `lease`-th served turn.
+    /// Opens a line as `start` does. The line closes at the `lease`-th served turn.
     ///
-    /// Returns `None` as `start`, and if `lease` is 0.
+    /// Returns `None` if `start` would, and if `lease` is 0.
     pub fn start_leased(nodes: u64, opening: Line64, lease: u64) -> Option<Core>
         ensures state { let config : LineConfig = record {
           nodes = nodes;
@@ -84,7 +84,7 @@ impl Core {
         })
     }
 
-    /// Opens a line by `config`: its nodes, opening bytes and lease.
+    /// Opens a line with the nodes, the opening bytes and the lease of `config`.
     pub fn with_config(config: LineConfig) -> Option<Core>
         ensures state { IfSome result (λ c. c ≡ first config) }
         ensures shows { IfSome result (λ c. Shows config c empty_queue) }
@@ -126,10 +126,10 @@ impl Core {
         self.state.point(node)
     }
 
-    /// Returns the rank: a bound of the productive events that can follow each other without a new request.
+    /// Returns the rank, which bounds the number of productive events that can follow each other without a new request.
     ///
-    /// These are links, loads that bring the line, releases and freeings. None of them waits for another request, and while a request is open
-    /// some node can make one.
+    /// The productive events are links, loads that bring the line, releases and freeings. None of them waits for
+    /// another request, and while a request is open some node can make one.
     pub fn rank(&self) -> u64
         ensures { result ≡ rank self.now }
     {

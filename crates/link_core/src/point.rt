@@ -9,7 +9,7 @@ pub enum Point {
     Linking(u64),
     /// The node's request waits.
     Queued,
-    /// The line is in the node's hand, open.
+    /// The node has the line in its hand, and the line is open.
     Holding,
     /// The node's release has reached the entry of this node, and tries home next.
     Leaving(u64),

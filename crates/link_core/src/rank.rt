@@ -1,4 +1,4 @@
-//! The rank of a core: a ranking function.
+//! The rank of a core, which is a ranking function: each productive event lowers it.
 ghost use Rattle.std.specs.Prelude.{◌≡◌, ◌≤◌};
 ghost use Rattle.link_core.specs.State.{IsNode};
 ghost use Rattle.link_core.specs.Steps.{Fits};
@@ -8,7 +8,7 @@ use crate::point::Point;
 use crate::state::State;
 
 impl State {
-    /// Returns the number of productive events that n's request still takes, with another behind it.
+    /// Returns the number of productive events that n's request still takes if another request is behind it.
     pub fn steps_left(&self, n: u64) -> u64
         requires fits { Fits self.now }
         requires node { IsNode self.now n }
@@ -35,7 +35,7 @@ impl State {
         }
     }
 
-    /// Returns the rank: a bound of the productive events that can follow each other without a new request.
+    /// Returns the rank, which bounds the number of productive events that can follow each other without a new request.
     pub fn rank(&self) -> u64
         requires { Fits self.now }
         ensures { result ≡ rank self.now }

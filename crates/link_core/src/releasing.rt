@@ -13,8 +13,8 @@ use crate::state::{State, point_at_end, told_at_end};
 use crate::told::{NotEnabled, Told};
 
 impl State {
-    /// Tries to release n's line to home, which works if home names no younger request. A holder first closes the line at the last turn of
-    /// a lease.
+    /// Tries to release n's line to home. It succeeds if home names no younger request. A holder first closes the line
+    /// at the last turn of a lease.
     pub fn go_home(&mut self, n: u64) -> Result<Told, NotEnabled>
         requires fits { Fits self.old }
         requires node { IsNode self.old n }
@@ -54,7 +54,7 @@ impl State {
         }
     }
 
-    /// Marks the entry that n's release has reached as done. Without a link the line stays in its mailbox.
+    /// Marks the entry that n's release has reached as done. If the entry has no link, the line stays in its mailbox.
     pub fn mark_done(&mut self, n: u64) -> Result<Told, NotEnabled>
         requires fits { Fits self.old }
         requires node { IsNode self.old n }
@@ -84,7 +84,7 @@ impl State {
         }
     }
 
-    /// Grants the next node in n's release; a rolled one is passed.
+    /// Grants the next node in n's release. A node that has withdrawn is passed.
     pub fn grant(&mut self, n: u64) -> Result<Told, NotEnabled>
         requires fits { Fits self.old }
         requires node { IsNode self.old n }
@@ -133,7 +133,8 @@ impl State {
         seat.point = Point::Leaving(m);
     }
 
-    /// Takes the first passed node off the list of n's release. Returns it, and what is told when it is freed.
+    /// Takes the first passed node off the list of n's release. Returns that node, and what the event tells when the
+    /// node is freed.
     pub fn next_freed(&mut self, n: u64) -> (u64, Told)
         requires node { n < PLACES }
         requires not_empty { (seat self.old n).passed ≢ [] }

@@ -13,7 +13,8 @@ use qolb_model::LineConfig;
 
 /// Makes the events in turn, and returns the core or the first refused event.
 ///
-/// A refused event is returned by its index, with its cause; `(0, Node)` if `nodes` is out of range, for any events.
+/// For a refused event it returns the event's index and the cause. It returns `(0, Node)` if `nodes` is out of range,
+/// whatever the events are.
 pub fn replay(nodes: u64, opening: Line64, events: &[Event]) -> Result<Core, (usize, NotEnabled)>
     ensures ok { let config : LineConfig = record {
       nodes = nodes;

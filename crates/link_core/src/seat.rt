@@ -25,7 +25,7 @@ pub const MAX_PASSED: usize = MAX_NODES as usize - 1;
 /// The nodes that a release has passed and not freed, oldest first.
 #[derive(Drop)]
 pub struct Passed {
-    /// As bytes, since each node has such a list.
+    /// The numbers are stored as bytes, because each node has such a list.
     nodes: ArrayVec<u8, MAX_PASSED>,
 }
 

@@ -117,7 +117,7 @@ impl State {
         }
     }
 
-    /// Puts the line into n's hand: to be held if it is open, to be released at once if it is closed.
+    /// Puts the line into n's hand. If the line is open, n holds it; if it is closed, n must release it at once.
     pub fn arrive(&mut self, n: u64) -> Told
         requires { n < PLACES }
         ensures state { self.new ≡ arrive n self.old }

@@ -9,7 +9,8 @@ use crate::state::State;
 use crate::told::{NotEnabled, Told};
 
 impl State {
-    /// Loads n's own entry: n takes the line if it is granted, or learns if its last request has become clear.
+    /// Loads n's own entry. If the entry is granted, n takes the line; otherwise n learns whether its last request has
+    /// become clear.
     pub fn load(&mut self, n: u64) -> Result<Told, NotEnabled>
         requires fits { Fits self.old }
         requires node { IsNode self.old n }

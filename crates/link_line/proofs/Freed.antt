@@ -1,4 +1,4 @@
--- The freeing of the nodes of all requests that a release has passed.
+-- A release frees the nodes of all requests that it has passed.
 use Rattle.std.proofs.Common.{◌≡◌, ◌≢◌, ℕ, zero, suc, ◌+◌, ◌≤◌, ◌<◌, ◌⊎◌, inl, inr, ⊎_elim, length, drop, List, [], ◌∷◌, sym, refl, ap, ◌∙◌, subst, get_or, slice_get, arith}
 use Rattle.std.proofs.lemmas.Option.{slice_get_within, slice_get-get_or}
 use Rattle.qolb_model.specs.declared.answer.PortState.{PortState}

@@ -1,4 +1,4 @@
--- Values by place, which are replaced one at a time.
+-- Lists of values, which are replaced one at a time.
 use Rattle.std.proofs.Common.{◌≡◌, ◌≢◌, ℕ, zero, suc, ◌<◌, ◌≤◌, List, [], ◌∷◌, set, sym, refl, ap, ◌∙◌, subst, ⊎_elim, Some, None}
 use mathlib.Core.Option.{some}
 use lib.ListN.{get_elem?}

@@ -1,4 +1,4 @@
--- Steps one after another, as one.
+-- Several steps, one after another, count as one.
 use Rattle.std.proofs.Common.{ℕ, ◌+◌, ◌∙◌, List, sym, ap, arith}
 use Rattle.qolb_model.proofs.Agreeing.{extends_trans}
 use Rattle.qolb_model.proofs.Going.{extends_self}

@@ -1,4 +1,4 @@
--- A walk over withdrawn requests.
+-- A release walks over withdrawn requests.
 use Rattle.std.proofs.Common.{◌≡◌, ◌≢◌, ℕ, zero, suc, ◌+◌, ◌-◌, ◌*◌, ◌≤◌, ◌<◌, inl, inr, ⊎_elim, Bool, length, List, [], ◌∷◌, ◌++◌, sym, refl, ap, ◌∙◌, subst, Some, arith, replicate, append_assoc, length-append}
 use Rattle.std.proofs.lemmas.List.{length-replicate}
 use Rattle.qolb_model.specs.declared.answer.PortState.{PortState}
@@ -184,8 +184,9 @@ walk_over v w x nodes k h f =
 pub walked_long : (v w x : LinkGhost) (nodes : List ℕ) → Walked v nodes w → FreesAll w x → length x.view.ends ≡ length v.view.ends + length nodes
 walked_long v w x nodes k f = ap length (f.ends ∙ k.ends) ∙ omega (arith, length-append v.view.ends (replicate (length nodes) Gone), length-replicate (length nodes) Gone)
 
--- the result of a walk from the seat s, by that of its last handoff, in `taken` word steps: each passed request took three; and if the line
--- is handed over, the last one took one to three, and a step more for each is within what a release may take
+-- the result of a walk from the seat s, by that of its last handoff, in `taken` atomic steps: each passed request took
+-- three; and if the line is handed over, the last one took one to three, and a step more for each is within what a
+-- release may take
 abbrev pub StandsBy : LinkSeat → List ℕ → LinkSeat → ℕ → Handoff → Type 0
 StandsBy s nodes t taken (handoff.HandedOver word behind) = HasNoSlot t × IsAway nodes (ghost_of t) × (taken + length nodes + 6 ≤ 4 * (ghost_of s).view.config.nodes) × (3 * length nodes ≤ taken + 2) × (taken ≤ 3 * length nodes)
 StandsBy s nodes t taken handoff.Left = HasNoSlot t × IsAway nodes (ghost_of t) × (taken + length nodes + 6 ≤ 4 * (ghost_of s).view.config.nodes) × (3 * length nodes ≤ taken + 2) × (taken ≤ 3 * length nodes)
@@ -273,7 +274,7 @@ module _ (allows : List ℕ → List ℕ → Type 0) (s t u : LinkSeat) (nodes :
   walks handoff.Left h = walks_left h
   walks (handoff.Passed to) h = walks_passed to h
 
--- so one more turn of the loop keeps it
+-- therefore one more turn of the loop keeps it
 pub walking_on : (allows : List ℕ → List ℕ → Type 0) (s t u : LinkSeat) (before : ℕ) (nodes : List ℕ) (node steps later n : ℕ) (result : Handoff) → IsWalking allows s before nodes (handoff.Passed node) t steps → HasSlot s (ghost_of s).own.line → (ghost_of s).view.state ≡ state_after (ghost_of s).own.line.closed
     → IsSameSeat t u → later ≡ steps + n → Advances allows t.me u.me n → ((y : Payload) → HasSlot t y → HandsOff t y u n result) → IsWalking allows s before (nodes ++ node ∷ []) result u later
 walking_on allows s t u before nodes node steps later n result k slot state same is advances hands =

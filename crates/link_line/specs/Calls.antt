@@ -1,5 +1,5 @@
--- What a release, and the walk over withdrawn requests in it, require and ensure of the holder's seat: one record for each. The line has
--- `many` nodes, and its table the number `id`.
+-- What a release requires and ensures of the holder's seat, and what the walk over withdrawn requests in it does. There
+-- is one record for each of the two. The line has `many` nodes, and its table has the number `id`.
 use Rattle.std.specs.Prelude.{◌≡◌, ℕ, ◌+◌, ◌*◌, ◌<◌, ◌≤◌, List, [], ◌∷◌, length, Bool}
 use Rattle.atomic_table.specs.Seated.{TableId}
 use Rattle.qolb_model.specs.declared.config.TheConstants.{MAX_NODES}
@@ -17,7 +17,7 @@ use Rattle.link_line.specs.Layout.{IsWithin, word_count}
 use Rattle.link_line.specs.Steps.{LinkSeat, IsSeatOf, IsAt, IsSeatOfNode, KnowsNodes, IsOfOneNode, ghost_of, Advances, SeatAdvances, MayHandOff}
 use Rattle.link_line.specs.Releases.{ReleasesLine, FinishesWalk}
 
--- the seat of a holder that has not passed any request; its turn leaves the line closed, or not
+-- the seat of a holder that has not passed any request, and whose turn leaves the line closed or not
 pub record IsReleaser (allows : List ℕ → List ℕ → Type 0) (many : ℕ) (id : TableId) (node : ℕ) (closed : Bool) (s : LinkSeat) : Type 0 where
   pub seat : IsSeatOfNode many id node s
   pub of_one_node : IsOfOneNode s.me
@@ -25,7 +25,7 @@ pub record IsReleaser (allows : List ℕ → List ℕ → Type 0) (many : ℕ) (
   pub nodes : (1 ≤ (ghost_of s).view.config.nodes) × ((ghost_of s).view.config.nodes ≤ MAX_NODES)
   pub payload : (y : Payload) × HasSlot s y × MayHandOff allows (ghost_of s) y node × (y.closed ≡ closed)
 
--- after `release`: the line is released, as this says
+-- what `release` ensures: the line is released, with this outcome
 pub record HasReleased (allows : List ℕ → List ℕ → Type 0) (many : ℕ) (old new : LinkSeat) (released : Released) : Type 0 where
   pub no_slot : HasNoSlot new
   pub advances : SeatAdvances allows old new released.steps
@@ -35,7 +35,7 @@ pub record HasReleased (allows : List ℕ → List ℕ → Type 0) (many : ℕ) 
   pub names_wake_word : released.unpark.word ≡ wake_word (ghost_of new).view
   pub bound : released.steps + 3 ≤ 4 * (ghost_of old).view.config.nodes
 
--- the seat of a holder whose successor, this node, had withdrawn; it has taken some steps
+-- the seat of a holder whose successor, this node, had withdrawn; the holder has taken some steps
 pub record MayWalk (many : ℕ) (id : TableId) (taken node : ℕ) (s : LinkSeat) : Type 0 where
   pub table : IsSeatOf many id s
   pub point : IsAt (Leaving node) s
@@ -49,7 +49,7 @@ pub record MayWalk (many : ℕ) (id : TableId) (taken node : ℕ) (s : LinkSeat)
   pub payload : HasSlot s (ghost_of s).own.line
   pub state : (ghost_of s).view.state ≡ state_after (ghost_of s).own.line.closed
 
--- after `walk`: the withdrawn requests are passed, and the line has left the seat
+-- what `walk` ensures: the withdrawn requests are passed, and the line has left the seat
 pub record HasWalked (allows : List ℕ → List ℕ → Type 0) (many taken : ℕ) (old new : LinkSeat) (walked : Walked) : Type 0 where
   pub seat : IsSameSeat old new
   pub no_slot : HasNoSlot new

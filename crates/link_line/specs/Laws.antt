@@ -1,4 +1,4 @@
--- The laws that a discipline owes, for the list.
+-- The theorems that a discipline must prove, for the list.
 pub mod PortModel
 pub mod Histories
 pub mod Nodes

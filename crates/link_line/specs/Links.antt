@@ -1,4 +1,5 @@
--- The invariant of the list's table: its words and its slot are those of a core, which shows one queue of the line (refinement mapping).
+-- The invariant of the list's table: its words and its slot are those of a core, and the core shows one queue of the
+-- line (a refinement mapping).
 use Rattle.std.specs.Prelude.{◌≡◌, ◌⊎◌, ℕ, ◌+◌, ◌<◌, ◌≤◌, Bool, true, false, List, [], ◌∷◌, map, length, slice_index, slice_get, Some}
 use mathlib.Core.List.{IsPrefix}
 use mathlib.Core.Option.{some}
@@ -90,8 +91,8 @@ pub record MayServe (s : NodeCall) : Type 0 where
   pub passed : s.passed ≡ []
   pub serves : serves s.reason ≡ true
 
--- The core after the last word step, and the queue that it shows; the requests that are joined; and the withdrawn ones whose nodes were
--- freed: those that were not clear then, and those that were.
+-- The core after the last atomic step, and the queue that it shows; the requests that are joined; and the withdrawn
+-- ones whose nodes were freed: those that were not clear then, and those that were.
 pub record History : Type 0 where
   pub core : Core
   pub queue : Queue

@@ -1,4 +1,4 @@
--- What a release as a whole tells a port.
+-- What a whole release tells a port.
 use Rattle.std.specs.Prelude.{◌≡◌, ◌≢◌, ◌⊎◌, ℕ, suc, ◌+◌, ◌<◌, ◌≤◌, List, ◌++◌, length, replicate, Option, Some, None}
 use Rattle.qolb_model.specs.declared.answer.PortState.{PortState}
 use Rattle.qolb_model.specs.declared.answer.PortState.TheVariants as port_state
@@ -22,7 +22,7 @@ use Rattle.link_line.specs.Links.{At}
 use Rattle.link_line.specs.Layout.{IsWithin, home_at}
 use Rattle.link_line.specs.Steps.{LinkSeat, ghost_of, point_by, IsReady, HasUnpassedNode, Ended, IsHandedOver, IsLeftForLinker, Passes}
 
--- the number of word steps by which a node finds out whether it may ask, and resets its entry
+-- the number of atomic steps by which a node finds out whether it may ask, and resets its entry
 abbrev pub steps_to_reset : Option ℕ → ℕ
 steps_to_reset (Some steps) = steps
 steps_to_reset None = 1
@@ -55,9 +55,9 @@ NamesWakeWord w (handoff.Passed next) = Unit {0}
 abbrev pub with_line : LinkGhost → Payload → LinkGhost
 with_line v y = record v { own = record v.own { line = y } }
 
--- The result of a handoff of the line y at an entry, in n word steps: the line is at home or granted to the next request; or it is left
--- there, for a late linker; or the next request is withdrawn, and the node still has the line. More than one step is taken only if another
--- node is left.
+-- The result of a handoff of the line y at an entry, in n atomic steps: the line is at home or granted to the next
+-- request; or it is left there, for a late linker; or the next request is withdrawn, and the node still has the line.
+-- More than one step is taken only if another node is left.
 abbrev pub HandsOff : LinkSeat → Payload → LinkSeat → ℕ → Handoff → Type 0
 HandsOff s y t steps (handoff.HandedOver word behind) = HasNoSlot t × Ended (ghost_of s) (ghost_of t) y × IsHandedOver (ghost_of s) (ghost_of t) y × ((steps ≡ 1) ⊎ ((steps ≡ 3) × HasUnpassedNode (ghost_of s)))
 HandsOff s y t steps handoff.Left = HasNoSlot t × Ended (ghost_of s) (ghost_of t) y × IsLeftForLinker (ghost_of s) (ghost_of t) y × (steps ≡ 2) × HasUnpassedNode (ghost_of s)

@@ -1,4 +1,4 @@
--- What each word step of a port tells it.
+-- What each atomic step tells the port that takes it.
 use Rattle.std.specs.Prelude.{◌≡◌, ◌≢◌, ◌⊎◌, ℕ, ◌+◌, ◌≤◌, ◌==◌, ◌&&◌, not, List, [], ◌∷◌, ◌++◌, length, Bool, true, false, Some}
 use Rattle.atomic_table.specs.Table.{Step}
 use Rattle.atomic_table.specs.Seated.{TableId}
@@ -102,13 +102,13 @@ is_free Left w = not (link_of w == 0)
 is_free Rolled w = is_freed w && not (is_done w && (link_of w == 0))
 is_free _ w = false
 
--- the last request is clear, so the node may ask, if `clear`; else it is not
+-- the last request is clear, so the node may ask, if `clear`; otherwise it is not
 pub record TellsIfClear (v : LinkGhost) (clear : Bool) (w : LinkGhost) : Type 0 where
   pub count : w.view.count ≡ v.view.count
   pub is_clear : clear ≡ true → (w.own.seat.point ≡ Idle) × (w.view.state ≡ port_state.Idle)
   pub unclear : clear ≡ false → (w.own.seat.point ≡ v.own.seat.point) × (w.view.state ≡ v.view.state) × Lacks w.view.clear (own w.view)
 
--- the end that a release makes next: of the node's own request if it has passed none, else of a withdrawn one
+-- the end that a release makes next: of the node's own request if it has passed none, otherwise of a withdrawn one
 abbrev pub end_of : List ℕ → Bool → Payload → End
 end_of [] closed y = own_end closed y
 end_of (p ∷ ps) closed y = Gone

@@ -1,4 +1,4 @@
-//! The list as a queue discipline.
+//! The queue discipline of the link line.
 ghost use Rattle.link_line.specs.BetweenCalls.{steps_to_ask};
 ghost use Rattle.link_line.specs.Layout as layout;
 ghost use Rattle.link_line.specs.Laws.Lasting as lasting;
@@ -69,7 +69,7 @@ impl<K: Keep> Discipline<K> for LinkQueue {
         take_from_closed(closed)
     }
 
-    /// Makes a request and links it to its predecessor's: two to four word steps; one if busy.
+    /// Makes a request and links it to its predecessor's. Takes two to four atomic steps, or one if the node is busy.
     #[inline]
     fn ask(
         table: &SharedTable<K>,
@@ -94,7 +94,7 @@ impl<K: Keep> Discipline<K> for LinkQueue {
         }
     }
 
-    /// A node whose last request is clear is idle again.
+    /// A node is idle again once its last request is clear.
     #[inline]
     fn look_at_rest(
         table: &SharedTable<K>,
@@ -144,7 +144,7 @@ impl<K: Keep> Discipline<K> for LinkQueue {
         entry_word(node)
     }
 
-    /// A link to the entry is no grant.
+    /// A link that was added to the entry is not a grant.
     #[inline]
     fn signals_turn(_token: u64, low: u32) -> bool {
         is_granted(u64::from(low))

@@ -1,4 +1,4 @@
-//! Making a request.
+//! A node makes a request, by one call or by two.
 ghost use Rattle.std.specs.Prelude.{◌≡◌, ◌≢◌, ℕ, ◌+◌, ◌≤◌, IsTrue, true, false};
 ghost use Rattle.qolb_model.specs.Enqueueing.{IsBusy, Asks, IsJoined};
 ghost use Rattle.qolb_model.specs.PortStates as states;
@@ -17,7 +17,7 @@ use qolb_model::{Keep, PortState};
 
 /// Makes a request, unless the node's last one is not clear.
 ///
-/// Behind a predecessor it is still to be linked; the token is the predecessor's node.
+/// A request behind a predecessor must then be linked. Its token is the predecessor's node.
 #[inline]
 pub(crate) fn request<K: Keep>(
     table: &SharedTable<K>,
@@ -63,7 +63,7 @@ pub(crate) fn request<K: Keep>(
     }
 }
 
-/// Resets the node's entry for a new request, and returns the word steps taken: 1 or 2.
+/// Resets the node's entry for a new request, and returns the atomic steps taken, which are 1 or 2.
 ///
 /// Returns `None`, after one step, if the last request is not clear.
 #[inline]
@@ -81,7 +81,8 @@ pub(crate) fn try_reset<K: Keep>(
     ensures advances { SeatAdvances K.allows seat.old seat.new (steps_to_reset result) }
     ensures is_reset { TriesReset state (ghost_of seat.old) (ghost_of seat.new) result }
 {
-    // By comparisons, rarest last: a `match` on all states would be a jump table in each round.
+    // The code compares the states one by one, the rarest last, because a `match` on all states would be a jump table
+    // in each round.
     let loads = if state == PortState::Left {
         if !load_left(table, seat, node) {
             return None;
@@ -99,7 +100,8 @@ pub(crate) fn try_reset<K: Keep>(
     Some(loads + 1)
 }
 
-/// Polls whether the last request of a node that may ask is clear; the node is then idle again. Makes no request.
+/// Polls whether the last request of a node that may make another one is clear. If it is, the node is idle again. Makes
+/// no request.
 pub(crate) fn look_at_rest<K: Keep>(
     table: &SharedTable<K>,
     seat: &mut LinkSeat,
@@ -124,7 +126,8 @@ pub(crate) fn look_at_rest<K: Keep>(
     }
 }
 
-/// Returns the result of a poll of a node in `state`: it is idle again if its last request is clear. One word step.
+/// Returns the result of a poll of a node in `state`, which is idle again if its last request is clear. Takes one
+/// atomic step.
 fn rested(state: PortState, clear: bool) -> Rested
     ensures clear { result.clear ≡ clear }
     ensures idle { clear ≡ true → result.state ≡ PortState.Idle }

@@ -1,4 +1,4 @@
-//! The queue discipline of a list, its ghost state and its invariant.
+//! The type of the link line's queue discipline, its ghost state, and its invariant.
 ghost use Rattle.link_line.specs.Laws.PortModel as port_model;
 ghost use Rattle.link_line.specs.BetweenCalls as between_calls;
 ghost use Rattle.link_line.specs.Layout as layout;
@@ -8,13 +8,14 @@ use line_generic::{DisciplineInvariant, DisciplineSpec, Line, LineSeat, NodeGhos
 use qolb_model::Keep;
 use std::collections::LinkedList;
 
-/// A list-based queue lock: an MCS swap of the home word, with links made late by the younger of two neighbours.
+/// A list-based queue lock: an MCS swap of the home word, with links that the younger of two neighbours makes later.
 ///
-/// A request is one swap of the home word, which names the newest requester. Later its node is linked: it adds its number to the
-/// predecessor's entry. A release looks at its own entry once and never waits for the link: if the link is missing, the release leaves the
-/// line there with a flag, and the late linker takes it. Between any two word steps the table shows one history of the line: an order of
-/// requests, and the ends of a prefix of them. Each port's view is a prefix of it. A port's token is the predecessor's node, to which its
-/// request is still to be linked.
+/// A request is one swap of the home word, which names the newest requester. Later the requester links itself: it adds
+/// its number to the predecessor's entry. A release looks at its own entry once and never waits for the link. If the
+/// link is missing, the release leaves the line there with a flag, and the late linker takes it. Between any two atomic
+/// steps the table shows one history of the line: an order of requests, and the ends of a prefix of them. Each port's
+/// view is a prefix of this history. A port's token is the predecessor's node, to which its request must still be
+/// linked.
 pub struct LinkQueue;
 
 impl DisciplineSpec for LinkQueue {
@@ -51,7 +52,8 @@ impl DisciplineSpec for LinkQueue {
     ghost max_steps_fits = { port_model.max_steps_fits };
 }
 
-/// The invariant says that the words and the slot are those of a core of `link_core`, which refines the queue machine (refinement mapping).
+/// The invariant says that the words and the slot are those of a core of `link_core`, which refines the queue machine
+/// (a refinement mapping).
 impl<K: Keep> DisciplineInvariant<K> for LinkQueue {
     ghost use Rattle.link_line.specs.Links.{LinkRule};
 
@@ -61,7 +63,7 @@ impl<K: Keep> DisciplineInvariant<K> for LinkQueue {
 /// A line whose nodes queue in a list of links.
 pub type LinkLine<K, W = Parking> = Line<K, LinkQueue, W>;
 
-/// A node's handle of a `LinkLine`.
+/// The port of a node of a `LinkLine`.
 pub type Port<W = Parking> = line_generic::Port<LinkQueue, W>;
 
 /// The table of a list, as all its nodes share it.

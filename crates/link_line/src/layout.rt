@@ -1,4 +1,5 @@
-//! The words of a list's table, and their contents. Any two are at least 64 bytes apart, so no two share a cache line of 64 bytes.
+//! The words of a link line's table, and their contents. Any two words are at least 64 bytes apart, so no two share a
+//! cache line of 64 bytes.
 ghost use Rattle.std.specs.Prelude.{◌≡◌, ◌≢◌, ℕ, ◌+◌, ◌<◌, ◌≤◌};
 ghost use Rattle.qolb_model.specs.declared.config.TheConstants.{MAX_NODES};
 ghost use Rattle.line_generic.specs.declared.elsewhere.TheConstants.{NO_WORD};
@@ -13,13 +14,13 @@ pub const GRANTED: u64 = 1;
 /// The flag that a withdrawal adds to its own entry.
 pub(crate) const ROLLED: u64 = 2;
 
-/// The flag that a release adds to the entry that it has reached, if home names another node.
+/// The flag that a release adds to the entry that it has reached, if the home word names another node.
 pub(crate) const DONE: u64 = 4;
 
 /// The flag that a release adds to the entry of a passed node.
 pub(crate) const FREED: u64 = 8;
 
-/// The unit of an entry's link: a link adds it times its node's number. The flags are below it.
+/// The unit of an entry's link: a node links by adding this unit times its own number. The flags are below it.
 pub const LINK_UNIT: u64 = 256;
 
 /// The home word. The entries are behind it.
@@ -42,7 +43,7 @@ pub(crate) fn entry_word(node: u64) -> usize
     ENTRY_STRIDE * node as usize
 }
 
-/// Returns the entry word of a linked node, for any number; for 0 the home word, on which no node waits.
+/// Returns the entry word of a linked node. For the number 0 it returns the home word, on which no node waits.
 #[inline]
 pub(crate) fn entry_or_home(node: u64) -> usize {
     ENTRY_STRIDE.wrapping_mul(node as usize)
@@ -64,7 +65,7 @@ pub(crate) fn is_rolled(word: u64) -> bool
     word / 2 % 2 == 1
 }
 
-/// Returns `true` if a release has reached the entry while home named another node.
+/// Returns `true` if a release has reached the entry while the home word named another node.
 #[inline]
 pub(crate) fn is_done(word: u64) -> bool
     ensures { result ≡ layout.is_done word }
@@ -88,15 +89,15 @@ pub(crate) fn link_of(word: u64) -> u64
     word / LINK_UNIT
 }
 
-/// Any two words of a list are at least 8 words apart; the home word is where a node 0 would have its entry. A law: the contract of a
-/// function that does nothing.
+/// Any two words of a list are at least 8 words apart, where the home word counts as the entry of a node 0. This
+/// theorem is the contract of a function that does nothing.
 pub fn words_are_apart()
     ensures home { layout.home_at ≡ layout.entry_at 0 }
     ensures entries { (m n : ℕ) → m < n → n ≤ MAX_NODES
         → layout.entry_at m + 8 ≤ layout.entry_at n }
 {}
 
-/// `NO_WORD` is none of a list's words. A law.
+/// `NO_WORD` is not a word of any list. This, too, is a theorem.
 pub fn no_word_is_none()
     ensures { layout.word_count MAX_NODES ≤ NO_WORD }
 {}

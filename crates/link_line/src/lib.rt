@@ -1,4 +1,8 @@
-//! A queue lock over atomic words that hands over a line: nodes are in a list, and the younger of two neighbours makes the link.
+//! The link line, a list of nodes that hands over a line. Of two neighbours in the list, the younger one makes the
+//! link.
+//!
+//! A release never waits for a late link: it leaves the line in its own entry, and the late linker takes the line from
+//! there.
 #![tactic(auto)]
 
 mod discipline;

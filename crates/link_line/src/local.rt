@@ -1,14 +1,15 @@
-//! The ghost state of a node of a list.
+//! The ghost state of a node of the list.
 use line_generic::Payload;
 use link_core::NodeCall;
 use std::collections::LinkedList;
 
-/// The invariant's knowledge of a node beside its port's view. Ghost state, of which no value is made.
+/// What the invariant knows of a node besides its port's view. It is ghost state, and the program makes no value of
+/// this type.
 pub struct LinkLocal {
-    /// The node's progress in its call, as the core has it.
+    /// The progress of the node in its call, as the core has it.
     pub seat: NodeCall,
     /// The places of the withdrawn requests that the node has passed and not freed yet.
     pub passed: LinkedList<u64>,
-    /// In a release, the line that the node has.
+    /// The line that the node has during a release.
     pub line: Payload,
 }

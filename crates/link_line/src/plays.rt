@@ -1,4 +1,4 @@
-//! The ghost updates of the word steps.
+//! The ghost updates of the atomic steps.
 ghost use Rattle.link_line.specs.Steps.{readied, prepended, linked, loaded, loaded_last, homed, marked, granted, rolled, freed};
 
 use crate::invariant::NodeGhosts;

@@ -1,7 +1,7 @@
 //! The release of the line: one handoff, or a walk past withdrawn successors.
 //!
-//! The releasing node's request ends at the step that gives the line up or passes a successor: a `home` that finds no successor, a `done`
-//! that finds no link, or the first `grant`.
+//! The releasing node's request ends at the step that gives the line up or passes a successor. That step is a `home`
+//! that finds no successor, a `done` that finds no link, or the first `grant`.
 ghost use Rattle.std.specs.Prelude.{◌≡◌, ◌≢◌, ℕ, ◌+◌, ◌*◌, ◌<◌, ◌≤◌, [], length};
 ghost use Rattle.qolb_model.specs.declared.config.TheConstants.{MAX_NODES};
 ghost use Rattle.qolb_model.specs.PortStates as states;
@@ -20,15 +20,16 @@ use arrayvec::ArrayVec;
 use line_generic::{Released, UnparkHandle};
 use qolb_model::{Keep, MAX_NODES, PortState};
 
-/// The maximum number of requests that a release passes: those of all nodes but its own.
+/// The maximum number of requests that a release passes: one for each node except its own.
 const MAX_PASSED: usize = MAX_NODES as usize - 1;
 
-/// A release has room for the nodes of all requests that it may pass, and for no more. A law: the contract of a function that does nothing.
+/// A release has room for the nodes of all requests that it may pass, and for no more. This theorem is the contract of
+/// a function that does nothing.
 pub fn passed_nodes_have_room()
     ensures { MAX_PASSED + 1 ≡ MAX_NODES }
 {}
 
-/// The number of node numbers: an entry's link has 16 bits.
+/// The number of node numbers, because an entry's link has 16 bits.
 const NODE_NUMBERS: u64 = 1 << 16;
 
 /// The result of one attempt to hand the line off from an entry.
@@ -38,28 +39,31 @@ pub(crate) enum Handoff {
     HandedOver {
         /// The word of the granted entry, or `HOME`.
         word: usize,
-        /// The node that is linked to the granted entry by now, or 0.
+        /// The node that is linked to the granted entry by that time, or 0.
         behind: u64,
     },
     /// The line is left in the entry, for a late linker.
     Left,
-    /// The successor, this node, has withdrawn. Its request is passed, and the releasing node still has the line.
+    /// The successor, this node, has withdrawn. The release passes its request, and the releasing node still has the
+    /// line.
     Passed(u64),
 }
 
-/// The end of a walk. Its 16 bytes are returned in registers, so a release without withdrawn successors sets up no room for them.
+/// The outcome of a walk. Its 16 bytes are returned in registers, so a release without withdrawn successors sets up no
+/// room for them.
 #[derive(Clone, Copy)]
 struct Walked {
-    /// The word steps of the release.
+    /// The atomic steps of the release.
     steps: u64,
     /// The word of the granted entry, or `HOME`.
     word: u32,
-    /// The node that is linked to it, or 0.
+    /// The node that is linked to that entry, or 0.
     behind: u32,
 }
 
 impl Handoff {
-    /// Returns the granted word, and the node that is linked behind the granted one: `HOME` and 0 if the line was not granted.
+    /// Returns the granted word, and the node that is linked behind the granted one. They are `HOME` and 0 if the line
+    /// was not granted.
     #[inline]
     fn granted(self) -> (usize, u64)
         ensures { result.0 ≡ granted_word self }
@@ -70,10 +74,10 @@ impl Handoff {
         }
     }
 
-    /// Returns the words whose waiters are to be unparked, the granted node's and that of the node behind it.
+    /// Returns the words whose waiters must be unparked: that of the granted node, and that of the node behind it.
     ///
-    /// A word is `HOME` if there is nobody to unpark: both if the line was not granted, the second if no node is linked behind the granted
-    /// one.
+    /// A word is `HOME` if no waiter must be unparked there. Both words are `HOME` if the line was not granted, and the
+    /// second is if no node is linked behind the granted one.
     #[inline]
     fn unpark_handle(self) -> UnparkHandle
         ensures { result.word ≡ granted_word self }
@@ -85,9 +89,10 @@ impl Handoff {
 
 /// Releases the line that this seat has. Never waits for a link.
 ///
-/// `closed`: the line is closed, by this turn or an earlier one. At most `4 * nodes - 3` word steps: three for each passed node and one to
-/// free it; the last attempt takes one to three, and only one if all other nodes were passed. The line is given up before the first node is
-/// freed. Returns the port's state, the word steps, and the words whose waiters are to be unparked.
+/// `closed` says that the line is closed, by this turn or an earlier one. The call takes at most `4 * nodes - 3` atomic
+/// steps: three for each passed node and one to free it. The last attempt takes one to three of them, and only one if
+/// all other nodes were passed. The call gives up the line before it frees the first node. It returns the port's state,
+/// the atomic steps, and the words whose waiters must be unparked.
 #[inline]
 pub(crate) fn release<K: Keep>(
     table: &SharedTable<K>,
@@ -123,10 +128,11 @@ pub(crate) fn release<K: Keep>(
     }
 }
 
-/// Tries to hand the line to the successor of node `from`.
+/// Tries to hand the line to the successor of the node `from`.
 ///
-/// If there is none, the line is put home. If the successor has not linked yet, the line is left in `from`'s entry. A withdrawn
-/// successor is passed, and the caller goes on from it. One to three word steps, added to `steps`.
+/// If there is no successor, the line goes home. If the successor has not linked yet, the line is left in the entry of
+/// `from`. A withdrawn successor is passed, and the caller goes on from it. The call takes one to three atomic steps,
+/// and adds them to `steps`.
 #[inline]
 fn try_handoff<K: Keep>(
     table: &SharedTable<K>,
@@ -148,9 +154,9 @@ fn try_handoff<K: Keep>(
     ensures within { granted_word result < layout.word_count table.now.key.config.nodes }
     ensures names_wake_word { NamesWakeWord (ghost_of seat.new) result }
 {
-    // `home` is the first step: if it fails there is a successor, so that a missing link is only late, and `done` may leave the line to the
-    // late linker. Loading the link first, as MCS does, would save a step if a successor has linked (two, not three) and cost one if there
-    // is none (two, not one).
+    // The first step is `home`. If it fails, there is a successor, so a missing link is only late, and `done` may leave
+    // the line to the late linker. Loading the link first, as MCS does, would save a step if a successor has linked
+    // (two steps, not three) and cost a step if there is none (two steps, not one).
     *steps += 1;
     if home(table, seat, from) {
         return Handoff::HandedOver {
@@ -175,12 +181,15 @@ fn try_handoff<K: Keep>(
     }
 }
 
-/// Hands the line on from the passed node `first`, past the withdrawn requests directly behind it, and then frees all passed nodes.
+/// Hands the line on from the passed node `first`, past the withdrawn requests directly behind it, and then frees all
+/// passed nodes.
 ///
-/// `steps` are the word steps of the first attempt; the result counts them, too. The port is never `Left` after it: a walk can leave the
-/// line only in the entry of a passed node, never in the releasing node's own.
+/// `steps` counts the atomic steps of the first attempt, and the result includes them. The port is never `Left`
+/// afterwards, because a walk can leave the line only in the entry of a passed node, and never in the releasing node's
+/// own.
 ///
-/// Cold and not inlined: it has an array of the passed nodes, which a release without withdrawn successors should not set up.
+/// The function is cold and not inlined, because it has an array of the passed nodes, which a release without withdrawn
+/// successors should not set up.
 #[cold]
 #[inline(never)]
 fn walk<K: Keep>(table: &SharedTable<K>, seat: &mut LinkSeat, steps: u64, first: u64) -> Walked
@@ -194,7 +203,8 @@ fn walk<K: Keep>(table: &SharedTable<K>, seat: &mut LinkSeat, steps: u64, first:
         passed.push(node);
         handoff = try_handoff(table, seat, &mut steps, node);
     }
-    // Freed only now: a freed node may become clear and request again, so a walk that freed early might pass it again and again.
+    // The nodes are freed only now. A freed node may become clear and request again, so a walk that freed nodes early
+    // might pass such a node again and again.
     free_passed(table, seat, &passed);
     let (word, behind) = handoff.granted();
     Walked {
@@ -204,7 +214,7 @@ fn walk<K: Keep>(table: &SharedTable<K>, seat: &mut LinkSeat, steps: u64, first:
     }
 }
 
-/// Frees the nodes of all passed requests, in their order. One word step for each.
+/// Frees the nodes of all passed requests, in their order. Takes one atomic step for each.
 fn free_passed<K: Keep>(table: &SharedTable<K>, seat: &mut LinkSeat, nodes: &[u64])
     requires table { IsSeatOf table.now.key.config.nodes table.now.table_id seat.old }
     requires point { IsAt Freeing seat.old }
@@ -221,9 +231,10 @@ fn free_passed<K: Keep>(table: &SharedTable<K>, seat: &mut LinkSeat, nodes: &[u6
     }
 }
 
-/// Returns the state after a release that did not leave the line in the node's own entry: `Shut` if the line is closed, else `Idle`.
+/// Returns the state after a release that did not leave the line in the node's own entry, which is `Shut` if the line
+/// is closed and otherwise `Idle`.
 ///
-/// `closed`: the line is closed, by this turn or an earlier one.
+/// `closed` says that the line is closed, by this turn or an earlier one.
 #[inline]
 fn state_after(closed: bool) -> PortState
     ensures { result ≡ states.state_after closed }

@@ -1,26 +1,29 @@
-//! The word steps: each is one atomic operation on one word, sequentially consistent. The operation's type argument, from `plays`, is the
-//! ghost transition, which counts the step.
+//! The atomic steps. Each step is one sequentially consistent operation on one word. The type argument of the
+//! operation, from `plays`, is the ghost transition that counts the step.
 //!
-//! - A *node* is a participant. Its queue node (in the sense of MCS) is one word: its *entry*.
-//! - A *seat* is a node's access to the shared table: its node's ghost state (`me.0`, a list of one: `IsOfOneNode`), and
-//!   the slot with the line while the seat has it (`me.1`).
-//! - The *home word* names the last node of the queue, as MCS's tail does, and is 0 if the line is at home. The line's 64 bytes stay in one
-//!   slot: "at home" and "left in an entry" only say whose next step takes them. A holder works on a copy in its port, which its release
-//!   stores back before its first step.
-//! - A *late linker* has swapped the home word and has not linked to its predecessor yet.
-//! - A request is *at its turn* once the line was granted to it, left for it or found at home. Its node's seat *has* the line from the step
-//!   that finds this. Its port *holds* the line only if the line is not closed.
-//! - A request is *joined* once it needs no link any more: it found the line at home, or is linked.
-//! - The *current request* of a release is at first the releasing node's own. To *pass* a withdrawn successor is to make its request the
-//!   current one and to go on from its entry with the line. The step that passes the next one or gives the line up ends the current
-//!   request.
-//! - A node's last request is *clear* if no other node will use the entry on account of it. The next request is then not answered `Busy`.
+//! - A *node* is a participant. Its queue node (in the sense of MCS) is one word, which is called its *entry*.
+//! - A *seat* is a node's access to the shared table. It has the ghost state of the node (`me.0`, a list of one:
+//!   `IsOfOneNode`), and the slot with the line while the seat has it (`me.1`).
+//! - The *home word* names the last node of the queue, as the tail of MCS does, and is 0 if the line is at home. The
+//!   line's 64 bytes stay in one slot: "at home" and "left in an entry" only say whose next step takes them. A holder
+//!   works on a copy in its port, and its release stores the copy back before its first step.
+//! - A *late linker* is a node that has swapped the home word and has not linked to its predecessor yet.
+//! - A request is *at its turn* once the line was granted to it, left for it, or found at home. Its node's seat *has*
+//!   the line from the step that finds this. Its port *holds* the line only if the line is not closed.
+//! - A request is *joined* once it needs no link any more, because it found the line at home or is linked.
+//! - The *current request* of a release is at first the releasing node's own. To *pass* a withdrawn successor is to
+//!   make its request the current one and to go on from its entry with the line. The step that passes the next
+//!   successor or gives the line up ends the current request.
+//! - A node's last request is *clear* once no other node will use the node's entry because of it. The node's next
+//!   request is then not answered `Busy`.
 //! - A view's `count` is the number of its node's requests.
-//! - A node's *point* says which step it takes next: `Idle` or `Shut` reset; `Left` load_left; `Rolled` load_rolled; `Ready` prepend;
-//!   `Linking` link; `Queued` load or roll; `Holding` home, from its own entry, also if it found its turn on a closed line; `Leaving` home,
-//!   from the node that it passed last; `Marking` done; `Granting` grant; `Freeing` free.
+//! - A node's *point* says which step it takes next: `Idle` or `Shut` reset; `Left` load_left; `Rolled` load_rolled;
+//!   `Ready` prepend; `Linking` link; `Queued` load or roll; `Holding` home, from its own entry, also if it found its
+//!   turn on a closed line; `Leaving` home, from the node that it passed last; `Marking` done; `Granting` grant;
+//!   `Freeing` free.
 //!
-//! Each flag, and the link, is added to an entry at most once between two resets, so no addition carries into another field.
+//! Each flag, and the link, is added to an entry at most once between two resets, so no addition carries into another
+//! field.
 ghost use Rattle.std.specs.Prelude.{◌≡◌, ◌≢◌, ◌⊎◌, ℕ, ◌≤◌, ◌∷◌, [], List, true, false};
 ghost use Rattle.qolb_model.specs.declared.request.Request.{Request};
 ghost use Rattle.qolb_model.specs.Enqueueing.{Asks, IsJoined};
@@ -52,10 +55,12 @@ pub(crate) fn reset<K: Keep>(table: &SharedTable<K>, seat: &mut LinkSeat, node: 
     table.store::<Reset<K>>(seat, entry_word(node), 0);
 }
 
-/// Puts the request at the queue's end by a swap of the home word (MCS): the linearization point of the request.
+/// Puts the request at the queue's end by a swap of the home word (MCS). This step is the linearization point of the
+/// request.
 ///
-/// Returns the word's old value: 0 if the request is at its turn, else the predecessor's node. The swap puts the request into the order;
-/// the link is made later and does not affect the order. SCI calls this step prepend, as its list begins with the newest request.
+/// Returns the word's old value, which is 0 if the request is at its turn, and otherwise the predecessor's node. The
+/// swap puts the request into the order; the link is made later and does not affect the order. SCI calls this step
+/// prepend, because its list begins with the newest request.
 pub(crate) fn prepend<K: Keep>(table: &SharedTable<K>, seat: &mut LinkSeat, node: u64) -> u64
     requires seat { IsSeatOfNode table.now.key.config.nodes table.now.table_id node seat.old }
     requires point { IsAt Ready seat.old }
@@ -70,9 +75,9 @@ pub(crate) fn prepend<K: Keep>(table: &SharedTable<K>, seat: &mut LinkSeat, node
     table.swap::<Prepend<K>>(seat, HOME, node)
 }
 
-/// Writes `node` into the link of the predecessor's entry (MCS: the predecessor's `next`).
+/// Writes `node` into the link of the predecessor's entry (in MCS, the predecessor's `next`).
 ///
-/// Returns `true` if `DONE` was set there: the line was left for this node, whose request is at its turn.
+/// Returns `true` if `DONE` was set there. The line was then left for this node, whose request is at its turn.
 pub(crate) fn link<K: Keep>(
     table: &SharedTable<K>,
     seat: &mut LinkSeat,
@@ -92,7 +97,7 @@ pub(crate) fn link<K: Keep>(
     is_done(table.fetch_add::<Link<K>>(seat, entry_word(predecessor), LINK_UNIT * node))
 }
 
-/// Loads the node's own entry. Returns `true` if it is granted, so that the request is at its turn.
+/// Loads the node's own entry. Returns `true` if the entry is granted, so that the request is at its turn.
 pub(crate) fn load<K: Keep>(table: &SharedTable<K>, seat: &mut LinkSeat, node: u64) -> bool
     requires seat { IsSeatOfNode table.now.key.config.nodes table.now.table_id node seat.old }
     requires point { IsAt Queued seat.old }
@@ -106,9 +111,9 @@ pub(crate) fn load<K: Keep>(table: &SharedTable<K>, seat: &mut LinkSeat, node: u
     is_granted(table.load::<Load<K>>(seat, entry_word(node)))
 }
 
-/// Withdraws the request, by the flag `ROLLED` in the node's own entry (rollout in SCI).
+/// Withdraws the request by the flag `ROLLED` in the node's own entry (rollout in SCI).
 ///
-/// Returns `true` if the entry was granted before: then the flag is ignored, and the request is at its turn.
+/// Returns `true` if the entry was granted before. The flag is then ignored, and the request is at its turn.
 pub(crate) fn roll<K: Keep>(table: &SharedTable<K>, seat: &mut LinkSeat, node: u64) -> bool
     requires seat { IsSeatOfNode table.now.key.config.nodes table.now.table_id node seat.old }
     requires point { IsAt Queued seat.old }
@@ -137,8 +142,8 @@ pub(crate) fn load_left<K: Keep>(table: &SharedTable<K>, seat: &mut LinkSeat, no
 
 /// Loads the node's own entry after its request was withdrawn. Returns `true` if the request is clear.
 ///
-/// It is clear if `FREED` is set, except if `DONE` is set and there is no link: then a release that passed this node has left the line in
-/// this entry, for a late linker.
+/// The request is clear if `FREED` is set, unless `DONE` is set and there is no link. In that case a release that
+/// passed this node has left the line in this entry, for a late linker.
 pub(crate) fn load_rolled<K: Keep>(table: &SharedTable<K>, seat: &mut LinkSeat, node: u64) -> bool
     requires seat { IsSeatOfNode table.now.key.config.nodes table.now.table_id node seat.old }
     requires point { IsAt Rolled seat.old }
@@ -150,10 +155,11 @@ pub(crate) fn load_rolled<K: Keep>(table: &SharedTable<K>, seat: &mut LinkSeat, 
     is_freed(word) && !(is_done(word) && link_of(word) == 0)
 }
 
-/// Tries to put the line home, from the entry of node `from`. Success ends the current request.
+/// Tries to put the line home from the entry of the node `from`. If it succeeds, the current request ends.
 ///
-/// A compare-exchange, so that a concurrent request finds either the line at home or a predecessor to link to. `true`: the home word was
-/// `from`, so `from` had no successor; it now is 0. `false`: `from` has a successor, linked or late, and the seat still has the line.
+/// The step is a compare-exchange, so that a concurrent request finds either the line at home or a predecessor to link
+/// to. `true` means that the home word was `from`, so `from` had no successor, and that the word is now 0. `false`
+/// means that `from` has a successor, linked or late, and that the seat still has the line.
 pub(crate) fn home<K: Keep>(table: &SharedTable<K>, seat: &mut LinkSeat, from: u64) -> bool
     requires table { IsSeatOf table.now.key.config.nodes table.now.table_id seat.old }
     requires of_one_node { IsOfOneNode seat.old.me }
@@ -172,10 +178,11 @@ pub(crate) fn home<K: Keep>(table: &SharedTable<K>, seat: &mut LinkSeat, from: u
     table.compare_exchange::<Home<K>>(seat, HOME, from, 0) == from
 }
 
-/// Sets the flag `DONE` in the entry of node `from`. Returns the linked successor; or 0, and then the line is left there for a late linker.
+/// Sets the flag `DONE` in the entry of the node `from`. Returns the linked successor, or 0 if the line is left there
+/// for a late linker.
 ///
-/// If it is left, the current request ends. One addition both sets the flag and reads the entry, as `link` does on the other side: the
-/// later of the two sees the earlier, and has the line.
+/// If the line is left there, the current request ends. One addition both sets the flag and reads the entry, as `link`
+/// does on the other side. The later of the two sees the earlier one, and has the line.
 pub(crate) fn done<K: Keep>(table: &SharedTable<K>, seat: &mut LinkSeat, from: u64) -> u64
     requires table { IsSeatOf table.now.key.config.nodes table.now.table_id seat.old }
     requires point { IsAt (Marking from) seat.old }
@@ -194,11 +201,12 @@ pub(crate) fn done<K: Keep>(table: &SharedTable<K>, seat: &mut LinkSeat, from: u
     link_of(table.fetch_add::<Done<K>>(seat, entry_word(from), DONE))
 }
 
-/// Ends the current request and sets the flag `GRANTED` in the entry of node `next`. Returns `true` if `next` has the line.
+/// Ends the current request and sets the flag `GRANTED` in the entry of the node `next`. Returns `true` if `next` has
+/// the line.
 ///
-/// `false`: `next` had withdrawn; it is passed, and the seat keeps the line. Either way sets `behind` to the node that is linked to `next`
-/// by now, or to 0. If `next` has the line, the waiter of `behind` is unparked one turn ahead, so that it is awake at its turn. No contract
-/// uses it.
+/// `false` means that `next` had withdrawn: it is passed, and the seat keeps the line. In both cases the call sets
+/// `behind` to the node that is linked to `next` by that time, or to 0. If `next` has the line, the waiter of `behind`
+/// is unparked one turn early, so that it is awake at its turn. No contract uses `behind`.
 pub(crate) fn grant<K: Keep>(
     table: &SharedTable<K>,
     seat: &mut LinkSeat,
@@ -223,9 +231,11 @@ pub(crate) fn grant<K: Keep>(
     !is_rolled(found)
 }
 
-/// Sets the flag `FREED` in the entry of `node`, whose request is the first of those that were passed and are not freed yet.
+/// Sets the flag `FREED` in the entry of `node`, whose request is the first of those that were passed and are not freed
+/// yet.
 ///
-/// The release no longer uses that entry: the request is clear, unless the line was left there for a late linker.
+/// The release no longer uses that entry. The request is therefore clear, unless the line was left there for a late
+/// linker.
 pub(crate) fn free<K: Keep>(table: &SharedTable<K>, seat: &mut LinkSeat, node: u64)
     requires table { IsSeatOf table.now.key.config.nodes table.now.table_id seat.old }
     requires point { IsAt Freeing seat.old }

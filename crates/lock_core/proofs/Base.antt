@@ -1,4 +1,4 @@
--- What the proofs of the steps share.
+-- Lemmas that the proofs of all steps share.
 use Rattle.std.proofs.Common.{◌≡◌, ◌≢◌, ℕ, ◌+◌, ◌%◌, ◌<◌, ◌≤◌, List, length, length-set, set, slice_index, sym, refl, ap, ◌∙◌, subst, arith, ⊎_elim, inr, ◌*◌, get_or-set_same, get_or-set_other, eqb, eq-eqb, ne_eqb}
 use mathlib.Core.Logic.{dite}
 use mathlib.Core.Option.{some}
@@ -16,7 +16,7 @@ use Rattle.lock_core.specs.Invariant.{tally, share, Ghost, Place, AtDoor, Door, 
 use Rattle.lock_core.proofs.Words.{same_mask}
 use Rattle.lock_core.proofs.Tally.{share_here, share_else, tally_set}
 
--- the function f, but x at k
+-- the function f with the value x at k
 abbrev pub put : (ℕ → ℕ) → ℕ → ℕ → ℕ → ℕ
 put f k x n = either (eqb n k) x (f n)
 
@@ -46,7 +46,7 @@ cells_after words i x n P low is here else t = word_after words i (cell_at t) x 
 pub cells_same : (words : List ℕ) (i x : ℕ) (P : ℕ → ℕ → Type 0) → i < 17 → ((t : ℕ) → P (slice_index words (cell_at t)) t) → (t : ℕ) → P (slice_index (set words i x) (cell_at t)) t
 cells_same words i x P low old t = subst (λ z. P z t) (sym (get_or-set_other words i (cell_at t) x 0 (λ e. omega arith))) (old t)
 
--- a word in which only the count has changed
+-- a word in which only the count of sleepers has changed
 pub record Recounted (found x c d : ℕ) : Type 0 where
   pub rounds : rounds_of x ≡ rounds_of found
   pub mask : x % 65536 ≡ found % 65536
@@ -60,22 +60,22 @@ recount g n m c d found x t e k old = record {
   count = let a = k.count in let b = old.count in omega arith;
 }
 
--- the count of another cell
+-- a step does not change the count of another cell
 pub tally_else : (s : State ℕ View) (id n : ℕ) (v w : View) → get_elem? s.views id ≡ some v → v.ticket % 4 ≢ n → w.ticket % 4 ≢ n → tally n (set s.views id w) ≡ tally n s.views
 tally_else s id n v w at a b = let e = tally_set n s.views id v w at in let x = share_else n v a in let y = share_else n w b in omega arith
 
--- the count of the seat's own cell
+-- how a step changes the count of the seat's own cell
 pub tally_here : (s : State ℕ View) (id n : ℕ) (v w : View) → get_elem? s.views id ≡ some v → v.ticket % 4 ≡ n → w.ticket % 4 ≡ n → tally n (set s.views id w) + v.counted ≡ tally n s.views + w.counted
 tally_here s id n v w at a b = let e = tally_set n s.views id v w at in let x = share_here n v a in let y = share_here n w b in omega arith
 
--- where the seat is not counted before and after
+-- no count changes if the seat is not counted before and after the step
 pub tally_none : (s : State ℕ View) (id n : ℕ) (v w : View) → get_elem? s.views id ≡ some v → v.counted ≡ 0 → w.counted ≡ 0 → tally n (set s.views id w) ≡ tally n s.views
 tally_none s id n v w at a b = let e = tally_set n s.views id v w at in let x : share n v ≡ 0 = none v a in let y : share n w ≡ 0 = none w b in omega arith
   where
     none : (u : View) → u.counted ≡ 0 → share n u ≡ 0
     none u z = dite (ℕ_discrete (u.ticket % 4) n) (λ e. share_here n u e ∙ z) (λ ne. share_else n u ne)
 
--- an open request of the seat, in good time: what the invariant says of it
+-- what the invariant says of a seat's open request, if the lock is timely
 module _ {fl : ℕ} (s : State ℕ View) (r : Tickets fl s) (id : ℕ) (v : View) (at : get_elem? s.views id ≡ some v) where
   pub known : v.most_open ≤ r.most_open
   known = r.seen id v at
@@ -93,7 +93,7 @@ module _ {fl : ℕ} (s : State ℕ View) (r : Tickets fl s) (id : ℕ) (v : View
   pub place_of : (le : r.most_open ≤ max_open) (p : Phase) → v.phase ≡ p → Place fl r.g v p
   place_of le p e = subst (Place fl r.g v) e (fits le).place
 
-  -- two seats at the door are one
+  -- two seats at the door are the same seat
   pub door_apart : (le : r.most_open ≤ max_open) (j : ℕ) (b : View) → j ≢ id → AtDoor fl v.inside v.phase → get_elem? s.views j ≡ some b → AtDoor fl b.inside b.phase → ⊥
   door_apart le j b ne here there_at there =
       let f = fits le in
@@ -109,18 +109,18 @@ module _ {fl : ℕ} (s : State ℕ View) (r : Tickets fl s) (id : ℕ) (v : View
       (λ a. ⊎_elim (λ d. let z = (f.lock_word.occupant a).0 in let y = d.0 in omega arith) (λ d. ne (sym (h.lock_word.occupant d).2 ∙ (f.lock_word.occupant a).2)) there)
       here
 
--- the ticket of who has the turn
+-- the ticket of a caller that has the turn
 pub turn_of_place : (fl : ℕ) (g : Ghost) (v : View) → HasTurn v → Place fl g v v.phase → v.ticket ≡ g.turn
 turn_of_place fl g v served k = ⊎_elim (λ e. let p : Place fl g v AtTurn = subst (Place fl g v) e k in p.0.turn) (λ e. let p : Place fl g v HeadInside = subst (Place fl g v) e k in p.0.turn) served
 
 pub busy_of : (v : View) → HasTurn v → v.phase ≢ Idle
 busy_of v served idle = ⊎_elim (λ e. cc) (λ e. cc) served
 
--- what a seat was told at the door, while it goes on
+-- what a seat was told at the door stays true while the seat goes on
 pub door_on : {fl : ℕ} (g : Ghost) (v : View) (p q : Phase) → p ≢ AtTurn → Door fl g v p → Door fl g v q
 door_on g v p q ne d some_ = let k = d some_ in (k.0, k.1, ⊎_elim (λ h. absurd (ne h.1)) (λ h. inr h) k.2)
 
--- the same after its turn by a ticket: it stays told if it holds the lock word
+-- the same after its turn by a ticket: what it was told stays true while it holds the lock word
 abbrev pub told_in : View → ℕ
 told_in v = either (eqb v.inside 1) v.door 0
 
@@ -142,14 +142,14 @@ place_told fl g v most told barred era holds nap naps probe ripe alone Passing k
 place_told fl g v most told barred era holds nap naps probe ripe alone HeadInside k = k
 place_told fl g v most told barred era holds nap naps probe ripe alone Impossible k = k
 
--- what holds of the request of a seat that has none, and of one that goes on
+-- what holds of the request of a seat that has no request, and of a seat that goes on
 pub idle_at_draw : (drawn : ℕ) (g : Ghost) (v : View) → v.drawn_in_epoch ≤ g.epoch → v.nobody_behind ≡ 0 → AtDraw drawn g v Idle
 idle_at_draw drawn g v early none_ = record { stamped = λ ne. absurd (ne refl); early = early; open_then = λ waits. absurd (⊎_elim (λ e. cc) (λ e. cc) waits); shut_then = λ waits. absurd (⊎_elim (λ e. cc) (λ e. cc) waits); nobody_behind = λ one. absurd (omega arith) }
 
 pub at_draw_on : (drawn : ℕ) (g : Ghost) (v : View) (p q : Phase) → p ≢ Idle → (Awaits q → Awaits p) → AtDraw drawn g v p → AtDraw drawn g (record v { nobody_behind = 0 }) q
 at_draw_on drawn g v p q busy waits k = record { stamped = λ _. k.stamped busy; early = k.early; open_then = λ w. k.open_then (waits w); shut_then = λ w. k.shut_then (waits w); nobody_behind = λ one. absurd (omega arith) }
 
--- tickets that are stamped change nothing of the requests
+-- stamping tickets changes nothing about the requests
 pub place_stamped : (fl : ℕ) (g : Ghost) (stamp : ℕ → ℕ) (v : View) (p : Phase) → Place fl g v p → Place fl (record g { drawn_open = stamp }) v p
 place_stamped fl g stamp v Idle k = k
 place_stamped fl g stamp v Queued k = k
@@ -159,13 +159,13 @@ place_stamped fl g stamp v Passing k = k
 place_stamped fl g stamp v HeadInside k = k
 place_stamped fl g stamp v Impossible k = k
 
--- the most newcomers between two queue heads, d the number of tickets
+-- the most newcomers between two queue heads, where d is the number of tickets
 pub in_bounds : (fl fellows total since number first by d : ℕ) → fellows ≡ fl → d + first ≡ number + 1 → total + fl * first ≤ since + fl * number + by → by ≤ fl → total ≤ since + fellows * d
 in_bounds fl fellows total since number first by d same_ sum_ overtaking few =
     let e : fl * (d + first) ≡ fl * (number + 1) = ap (λ z. fl * z) sum_ in
     subst (λ z. total ≤ since + z * d) (sym same_) (omega arith)
 
--- a step that changes no word, and of the views at most the seat's own
+-- a step that changes no word, and no view except the seat's own
 module _ {fl : ℕ} (s : State ℕ View) (r : Tickets fl s) (id : ℕ) (v : View) (at : get_elem? s.views id ≡ some v) (i x : ℕ) (low : i < 21) (x_is : x ≡ slice_index s.words i) (w : View) where
   pub unchanged : w.most_open ≡ r.most_open → w.newcomers_seen ≤ r.g.newcomers → (r.most_open ≤ max_open → v.counted ≡ 0) → (r.most_open ≤ max_open → w.counted ≡ 0) → (r.most_open ≤ max_open → Fits fl r.drawn r.owner r.who r.g id w) → Tickets fl record { words = set s.words i x; homes = s.homes; views = set s.views id w }
   unchanged same_most begun none_before none_after fit = record {

@@ -1,4 +1,4 @@
--- A caller takes a ticket, or tries for one that is at its turn.
+-- A caller draws a ticket, or tries for a ticket that is at its turn.
 use Rattle.std.proofs.Common.{◌≡◌, ◌/◌, ◌≢◌, ℕ, ◌+◌, ◌*◌, ◌%◌, ◌<◌, ◌≤◌, max, length, set, slice_index, sym, refl, ap, ◌∙◌, subst, arith, length-set, get_or-set_same, get_or-set_other, eqb, eq-eqb, ne_eqb, ◌-◌, ⊎_elim}
 use mathlib.Core.Logic.{dite}
 use mathlib.Core.Option.{none, some}
@@ -14,7 +14,7 @@ use Rattle.lock_core.specs.Invariant.{tally, Cell, Fits, Tickets}
 use Rattle.lock_core.specs.Steps.{draws, reads, reads_cell, draws_granted, draws_near}
 use Rattle.lock_core.proofs.Base.{put, put_here, put_else, each_after, cells_same, tally_none, known, heard, fits, door_on, place_told, place_stamped, idle_at_draw, turn_of_place, busy_of, unchanged}
 
--- The next ticket is taken by the seat, whose view is w then, and the load is `most`.
+-- The seat draws the next ticket. Its view is then w, and the load is `most`.
 module _ {fl : ℕ} (s : State ℕ View) (r : Tickets fl s) (id : ℕ) (v : View) (at : get_elem? s.views id ≡ some v) (x most : ℕ) (w : View) where
   abbrev stamp : ℕ → ℕ
   stamp = put r.g.drawn_open r.drawn (1 - shut_of r.g.lock_word)
@@ -106,7 +106,7 @@ draw_allowed {fl} id slots me no_slot fresh s r sized at low = (
     w : View
     w = record v { most_open = new_load; rounds_seen = 0; ticket = r.drawn; phase = Queued; counted = 0; newcomers_at_draw = r.g.newcomers; first_pending = r.g.turn + r.g.head_inside; newcomers_seen = r.g.newcomers; drawn_open = 1 - shut_of r.g.lock_word; drawn_in_epoch = r.g.epoch; nobody_behind = 0 }
 
-    -- the tickets that are done with the lock word
+    -- the tickets whose callers are done with the lock word
     first_low : new_load ≤ max_open → r.g.turn + r.g.head_inside ≤ r.drawn
     first_low le =
         let m = more.0 in
@@ -115,7 +115,7 @@ draw_allowed {fl} id slots me no_slot fresh s r sized at low = (
         let one = o.counts.single in
         dite (dec_le r.drawn r.g.turn) (λ low. let z = o.idle low in omega arith) (λ high. omega arith)
 
--- a step of one that tries for a ticket, by which no word changes
+-- a step of a caller that tries for a ticket; it changes no word
 module _ {fl : ℕ} (s : State ℕ View) (r : Tickets fl s) (id : ℕ) (v : View) (at : get_elem? s.views id ≡ some v) (i x : ℕ) (low : i < 21) (x_is : x ≡ slice_index s.words i) (number floor probe ripe : ℕ) where
   abbrev probing : View
   probing = record v { most_open = r.most_open; rounds_seen = floor; ticket = number; phase = Idle; counted = 0; tail_seen = probe; next_is_at_turn = ripe; nobody_behind = 0 }
@@ -258,7 +258,7 @@ try_draw_allowed {fl} id slots old new me no_slot new_is has s r sized at low = 
           (((refl, refl, (let k = known s r id v at in omega arith), heard s r id v at), ((refl, refl, refl), refl, (refl, refl), (refl, refl), (refl, refl), (λ _. refl))), (λ timely. ((λ _. ((refl, r.tail, refl, refl), ((let k = (fits s r id v at (omega arith)).knows in let q = (r.granted (omega arith)).within in omega arith), (omega arith), heard s r id v at, refl, (fits s r id v at (omega arith)).lock_word.dated))), (λ ne. absurd (ne is))))),
         )
 
-    -- 2 ^ 64 tickets were drawn since, and the tail is the same word
+    -- 2 ^ 64 tickets were drawn since, and the tail has the same value again
     wraps : tail ≡ old → r.drawn ≢ v.tail_seen → Goal
     wraps is other =
         let most : ℕ = r.most_open + 1073741824 in
@@ -279,11 +279,11 @@ try_draw_allowed {fl} id slots old new me no_slot new_is has s r sized at low = 
       (((refl, refl, known s r id v at, (omega arith)), ((refl, refl, refl), refl, (refl, refl), (refl, refl), (refl, refl), (λ _. refl))), (λ timely. ((λ is. absurd (ne is)), (λ _. ((refl, refl), refl))))),
     )
 
--- the ticket that it is to draw, and the requests that are open before it, are few
+-- few requests are open before the ticket that the caller is about to draw
 abbrev pub IsFew : ℕ → View → Type 0
 IsFew old v = (old < 9223372036854775808) × (v.ticket / 4 + 1 ≤ v.rounds_seen + 134217728)
 
--- the next ticket is taken if it is the one that was read; it waits, or is at its turn
+-- the caller draws the next ticket if that is the one that it read; then it waits, or is at its turn
 pub draw_near_allowed : {fl : ℕ} (id slots old new : ℕ) (me : Me ℕ View) → (slots ≡ 1 → IsFew old me.0) → new ≡ (old + 1) % 18446744073709551616 → (Timely me.0 → IsIdle me.0 × (old ≡ me.0.tail_seen % 18446744073709551616) × (me.0.ticket ≡ me.0.tail_seen)) → Allows (Tickets fl) slots id me 16 (λ n. either (eqb n old) new n) (draws_near (step slots 16 old new none) me)
 draw_near_allowed {fl} id slots old new me few_ new_is has s r sized at low = dite (ℕ_discrete tail old) (λ is. dite (ℕ_discrete r.drawn v.tail_seen) (λ same_. dite (ℕ_discrete v.next_is_at_turn 1) (wins is same_) (queues is same_)) (wraps is)) stays
   where
@@ -305,7 +305,7 @@ draw_near_allowed {fl} id slots old new me few_ new_is has s r sized at low = di
     lowest_ : r.drawn ≡ v.tail_seen → (le : r.most_open ≤ max_open) → v.rounds_seen ≤ rounds r.g.turn r.drawn
     lowest_ same_ le = subst (λ z. v.rounds_seen ≤ rounds r.g.turn z) ((had le).2 ∙ sym same_) (fits s r id v at le).lowest
 
-    -- at a table with a slot the tail has not come round
+    -- at a table with a slot the tail has not wrapped around
     old_is : length s.homes ≡ 1 → tail ≡ old → r.drawn + 1 ≤ 9223372036854775808
     old_is one is = let k = (r.guard one).1 in let f = (few_ (sym sized ∙ one)).0 in let t = r.tail in omega arith
 
@@ -319,7 +319,7 @@ draw_near_allowed {fl} id slots old new me few_ new_is has s r sized at low = di
         let t = r.tail in
         other (omega arith)
 
-    -- so few requests are open that one more is within `max_open`
+    -- few requests are open, so one more is within `max_open`
     few_open : length s.homes ≡ 1 → tail ≡ old → r.drawn ≡ v.tail_seen → r.drawn ≤ r.g.turn + 536870912
     few_open one is same_ =
         let le : r.most_open ≤ max_open = (r.guard one).0 in
@@ -363,7 +363,7 @@ draw_near_allowed {fl} id slots old new me few_ new_is has s r sized at low = di
           ),
         )
 
-    -- it waits
+    -- the caller waits
     queues : tail ≡ old → r.drawn ≡ v.tail_seen → v.next_is_at_turn ≢ 1 → Goal
     queues is same_ unripe =
         let new_most : (m : ℕ) × ((r.most_open ≤ m) × (r.drawn ≤ r.g.turn + r.most_open → r.drawn + 1 ≤ r.g.turn + m) × (r.most_open ≤ max_open → r.drawn ≤ r.g.turn + 536870912 → m ≤ max_open)) = dite (dec_le (r.drawn + 1) (r.g.turn + r.most_open)) (λ le. (r.most_open, (omega arith, (λ _. le), (λ timely few. timely)))) (λ gt. (r.most_open + 1, (omega arith, (λ h. omega arith), (λ timely few. omega arith)))) in
@@ -396,7 +396,7 @@ draw_near_allowed {fl} id slots old new me few_ new_is has s r sized at low = di
           ),
         )
       where
-        -- the tickets that are done with the lock word
+        -- the tickets whose callers are done with the lock word
         done_low : r.most_open ≤ max_open → r.g.turn + r.g.head_inside ≤ r.drawn
         done_low le =
             let o = r.granted le in
@@ -404,7 +404,7 @@ draw_near_allowed {fl} id slots old new me few_ new_is has s r sized at low = di
             let one = o.counts.single in
             dite (dec_le r.drawn r.g.turn) (λ low. let z = o.idle low in omega arith) (λ high. omega arith)
 
-    -- 2 ^ 64 tickets were drawn since, and the tail is the same word
+    -- 2 ^ 64 tickets were drawn since, and the tail has the same value again
     wraps : tail ≡ old → r.drawn ≢ v.tail_seen → Goal
     wraps is other =
         let most : ℕ = r.most_open + 1073741824 in

@@ -1,4 +1,4 @@
--- The lock word: newcomers and heads take it and leave it.
+-- Newcomers and queue heads take the lock word and leave it.
 use Rattle.std.proofs.Common.{◌≡◌, ◌≢◌, ℕ, ◌+◌, ◌*◌, ◌/◌, ◌%◌, ◌<◌, ◌≤◌, ◌-◌, inr, set, slice_index, sym, refl, ap, ◌∙◌, subst, arith, length-set, get_or-set_same, get_or-set_other, eqb, eq-eqb, ne_eqb, ⊎_elim}
 use mathlib.Core.Option.{none, some}
 use mathlib.Core.Logic.{dite}
@@ -18,11 +18,12 @@ use Rattle.lock_core.proofs.Base.{put, put_here, put_else, each_after, cells_sam
 use Rattle.lock_core.proofs.Base.{unchanged}
 use Rattle.lock_core.proofs.Tally.{tally_set}
 
--- what the lock word is becomes that of h
+-- the ghost state g with the lock word of h
 abbrev pub gated : Ghost → Ghost → Ghost
 gated g h = record h { turn = g.turn; withdrawn = g.withdrawn; drawn_open = g.drawn_open; nobody_asleep = g.nobody_asleep }
 
--- what holds of a request stays so: a newcomer that goes in counts, and where the queue head takes the lock word, one more ticket is done
+-- What holds of a request stays true: a newcomer that goes in is counted, and if the queue head takes the lock word,
+-- one more ticket is done.
 module _ (fl : ℕ) (g h : Ghost) (b : View) (sums : h.newcomers + fl * g.head_inside + g.since_head ≤ g.newcomers + fl * h.head_inside + h.since_head) (grows : g.head_inside ≤ h.head_inside) where
   pub late_after : Overtaking fl g b → Overtaking fl (gated g h) b
   late_after k = record { came = let c = k.came in omega arith; overtaken = let o = k.overtaken in omega arith }
@@ -46,7 +47,7 @@ module _ {fl : ℕ} (s : State ℕ View) (r : Tickets fl s) (id : ℕ) (h : Ghos
   abbrev pub after : Ghost
   after = gated r.g h
 
-  -- in good time
+  -- what holds if the lock is timely
   pub record Turns : Type 0 where
     pub counts : Counts fl after
     pub sums : h.newcomers + fl * r.g.head_inside + r.g.since_head ≤ r.g.newcomers + fl * h.head_inside + h.since_head
@@ -108,20 +109,20 @@ module _ {fl : ℕ} (s : State ℕ View) (r : Tickets fl s) (id : ℕ) (h : Ghos
         };
   }
 
--- who sleeps there stays told of
+-- the sleep of a caller that sleeps at the lock word stays noted
 pub rest_on : (g : Ghost) (x epoch : ℕ) (b : View) → (state_of x ≡ 1 → state_of g.lock_word ≡ 1) → (asleep_of g.lock_word ≡ 1 → asleep_of x ≡ 1) → Rests g b → Rests (record g { lock_word = x; epoch = epoch }) b
 rest_on g x epoch b state asleep k = record { takes_seen = k.takes_seen; held = k.held; lulls = k.lulls; sleeps_at_lock_word = λ one. let n = k.sleeps_at_lock_word one in (n.0, n.1, (λ e z. asleep (n.2 e (state z)))) }
 
--- a request stays as it was while the epoch goes on
+-- a request stays as it was while the epoch lasts
 pub at_draw_kept : (drawn : ℕ) (g h : Ghost) (v : View) (alone : ℕ) (p : Phase) → h.epoch ≡ g.epoch → (shut_of g.lock_word ≡ 1 → shut_of h.lock_word ≡ 1) → (alone ≡ 1 → v.nobody_behind ≡ 1) → AtDraw drawn g v p → AtDraw drawn (gated g h) (record v { nobody_behind = alone }) p
 at_draw_kept drawn g h v alone p same_ shut_ old k = record { stamped = k.stamped; early = let e = k.early in omega arith; open_then = λ w one. k.open_then w one ∙ sym same_; shut_then = λ w ne e. shut_ (k.shut_then w ne (e ∙ same_)); nobody_behind = λ one two. k.nobody_behind (old one) two }
 
--- The word changes and nobody takes the lock word: x is the new word.
+-- The lock word changes to x, and nobody takes it.
 module _ {fl : ℕ} (s : State ℕ View) (r : Tickets fl s) (id : ℕ) (v : View) (at : get_elem? s.views id ≡ some v) (x epoch : ℕ) (lulled : ℕ → ℕ) (w : View) where
   abbrev pub still : Ghost
   still = record r.g { lock_word = x; epoch = epoch; left_quietly = lulled }
 
-  -- in good time
+  -- what holds if the lock is timely
   pub record Stays : Type 0 where
     pub came : came_of x ≡ came_of r.g.lock_word
     pub room : state_of x ≡ 0 → state_of r.g.lock_word ≢ 0 → came_of x + 1 ≤ fl
@@ -167,12 +168,12 @@ module _ {fl : ℕ} (s : State ℕ View) (r : Tickets fl s) (id : ℕ) (v : View
         at_draw = m.others;
       })
 
--- a step on the lock word that changes of the seat at most what it knows of that
+-- a step on the lock word that changes, of the seat, at most what it knows of the lock word
 module _ {fl : ℕ} (s : State ℕ View) (r : Tickets fl s) (id : ℕ) (v : View) (at : get_elem? s.views id ≡ some v) (x epoch told barred era holds nap naps alone : ℕ) where
   abbrev pub knowing : View
   knowing = record v { most_open = r.most_open; door = told; knows_shut = barred; epoch = era; takes_seen = holds; slept_in_take = nap; sleeps_at_lock_word = naps; nobody_behind = alone }
 
-  -- in good time
+  -- what holds if the lock is timely
   pub record Learns : Type 0 where
     pub came : came_of x ≡ came_of r.g.lock_word
     pub state : state_of x ≡ state_of r.g.lock_word

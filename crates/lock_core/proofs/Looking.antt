@@ -1,4 +1,4 @@
--- A waiter's steps on its cell: it looks, it counts itself, it takes its count away.
+-- The steps of a waiter on its cell: it looks, counts itself as a sleeper, and takes its count back.
 use Rattle.std.proofs.Common.{◌≡◌, ◌≢◌, ℕ, ◌+◌, ◌-◌, ◌*◌, ◌/◌, ◌%◌, ◌<◌, ◌≤◌, set, slice_index, sym, refl, ap, ◌∙◌, subst, arith, length-set, get_or-set_other, ⊎_elim, inl, inr, eqb, eq-eqb, ne_eqb}
 use mathlib.Core.Logic.{dite}
 use mathlib.Core.Option.{none, some}
@@ -16,7 +16,7 @@ use Rattle.lock_core.specs.Steps.{finds, same, looks, announces_sleep}
 use Rattle.lock_core.proofs.Base.{each_after, cells_after, Recounted, recount, tally_else, tally_here, known, heard, fits, place_of, door_on, at_draw_on, in_bounds}
 use Rattle.lock_core.proofs.Tally.{share_here, tally_has}
 
--- The seat's view and the count in its cell change, and nothing else.
+-- The seat's view and the count in its cell change, and nothing else does.
 module _ {fl : ℕ} (s : State ℕ View) (r : Tickets fl s) (id : ℕ) (v : View) (at : get_elem? s.views id ≡ some v) (i x ticket most c d : ℕ) (is : i ≡ cell_at ticket) (more : r.most_open ≡ most) where
   abbrev was : ℕ
   was = slice_index s.words i
@@ -64,7 +64,7 @@ module _ {fl : ℕ} (s : State ℕ View) (r : Tickets fl s) (id : ℕ) (v : View
         };
   }
 
--- A waiter looks, and its count becomes d.
+-- A waiter looks at its cell, and its count becomes d.
 module _ {fl : ℕ} (s : State ℕ View) (r : Tickets fl s) (id slots i x ticket most c d : ℕ) (p : Phase) (me : Me ℕ View) (same_newcomers : me.0.max_newcomers ≡ fl) (at : get_elem? s.views id ≡ some me.0) (is : i ≡ cell_at ticket) (more : r.most_open ≡ most) where
   abbrev v : View
   v = me.0
@@ -95,7 +95,7 @@ module _ {fl : ℕ} (s : State ℕ View) (r : Tickets fl s) (id slots i x ticket
       cell : (le : most ≤ max_open) → Cell r.g (tally (v.ticket % 4) s.views) found v.ticket
       cell le = subst (λ z. Cell r.g (tally (v.ticket % 4) s.views) z v.ticket) (ap (slice_index s.words) (let m = (waits le).counts.mine in omega arith)) ((r.granted (omega arith)).cells v.ticket)
 
-      -- the rounds to go, in good time
+      -- the rounds to go, if the lock is timely
       going : (le : most ≤ max_open) → rounds r.g.turn v.ticket + go ≡ v.ticket / 4 + 1
       going le =
           let m = open_fits le in

@@ -1,4 +1,4 @@
--- A waiter sets its bit, and who has the turn of a withdrawn request clears it.
+-- A waiter marks its request as withdrawn, and the caller that has the turn of a withdrawn request clears the mark.
 use Rattle.std.proofs.Common.{◌*◌, ◌-◌, ◌≡◌, ◌≢◌, ℕ, ◌+◌, ◌-◌, ◌/◌, ◌%◌, ◌^◌, ◌<◌, ◌≤◌, set, slice_index, sym, refl, ap, ◌∙◌, subst, arith, length-set, get_or-set_other, bit_or, ⊎_elim}
 use Rattle.std.specs.Prelude.{bit_xor}
 use Rattle.std.specs.Int.{bit_at}
@@ -36,12 +36,12 @@ module _ (fl : ℕ) (g : Ghost) (n y : ℕ) (b : View) where
   elsewhere HeadInside ne k = (holder 0 (ne (λ e. cc)) k.0, k.1)
   elsewhere Impossible ne k = k
 
--- The bit of the seat's open request becomes y: the word of its cell, the marks and the view change.
+-- The mark of the seat's open request becomes y: the word of its cell, the marks and the view change.
 module _ {fl : ℕ} (s : State ℕ View) (r : Tickets fl s) (id : ℕ) (v : View) (at : get_elem? s.views id ≡ some v) (i ticket new y : ℕ) (is : i ≡ cell_at ticket) where
   abbrev was : ℕ
   was = slice_index s.words i
 
-  -- in good time: how the word changes
+  -- how the word changes, if the lock is timely
   record Flips : Type 0 where
     busy : v.phase ≢ Idle
     none_counted : v.counted ≡ 0
@@ -133,7 +133,7 @@ withdraw_allowed {fl} id slots i ticket k x me same_newcomers is mask near waits
     placed : (le : r.most_open ≤ max_open) → Waiter fl r.g v
     placed le = place_of s r id v at le Queued (queued le).0.0
 
-    -- its cell, in good time
+    -- the request's cell, if the lock is timely
     cell : (le : r.most_open ≤ max_open) → Cell r.g (tally (v.ticket % 4) s.views) found v.ticket
     cell le = subst (λ z. Cell r.g (tally (v.ticket % 4) s.views) z v.ticket) (ap (slice_index s.words) (let m = (queued le).0.1 in omega arith)) ((r.granted le).cells v.ticket)
 
@@ -156,7 +156,7 @@ withdraw_allowed {fl} id slots i ticket k x me same_newcomers is mask near waits
           other_bit = λ j ne. ap (λ z. bit_at z j) new ∙ or_other found (bit_of v.ticket) j ne;
         }
 
-    -- granted before, it was overtaken within the bound
+    -- a request that was granted before was overtaken within the bound
     overtaken : (le : r.most_open ≤ max_open) → rounds_of found ≡ (v.ticket / 4 + 1) % 1073741824 → r.g.newcomers ≤ v.newcomers_at_draw + v.max_newcomers * (v.ticket + 1 - v.first_pending)
     overtaken le is_ =
         let m = open_fits le in

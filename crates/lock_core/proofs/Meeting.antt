@@ -1,4 +1,4 @@
--- What two callers know of one another.
+-- Two callers meet, and each learns what the other knows.
 use Rattle.std.proofs.Common.{◌≡◌, ◌≢◌, ℕ, ◌%◌, ◌<◌, ◌≤◌, List, [], ◌∷◌, ◌++◌, set, slice_index, sym, refl, ap, ◌∙◌, subst, arith, ⊎_elim, max}
 use mathlib.Core.Option.{none, some}
 use lib.ListN.{get_elem?}
@@ -16,7 +16,7 @@ use Rattle.lock_core.proofs.Tally.{tally_snoc}
 use Rattle.lock_core.proofs.Entering.{none_of}
 use Rattle.lock_core.proofs.Base.{unchanged}
 
--- two that cannot meet
+-- two callers that cannot meet
 meet_joins : {fl : ℕ} (id other : ℕ) (v w : View) → ((s : State ℕ View) (r : Tickets fl s) → r.most_open ≤ max_open → get_elem? s.views id ≡ some v → get_elem? s.views other ≡ some w → other ≢ id → ⊥) → Joins (Tickets fl) id v other w (meet v w) (initial_view 0)
 meet_joins {fl} id other v w never s r at apart at_other =
     let there : get_elem? s.views other ≡ some w = sym (set_else s.views id other (meet v w) apart) ∙ at_other in record {
@@ -135,7 +135,7 @@ places_differ_joins id other v w a b = meet_joins id other v w (λ s r le at the
     let same_ : w.newcomer_number ≡ v.newcomer_number = omega arith in
     apart (sym h.1 ∙ ap r.who same_ ∙ f.1))
 
--- a view changes, and no word
+-- a view changes, and no word does
 module _ {fl : ℕ} (s : State ℕ View) (r : Tickets fl s) (id : ℕ) (v : View) (at : get_elem? s.views id ≡ some v) (w : View) where
   viewed : w.most_open ≤ r.most_open → w.newcomers_seen ≤ r.g.newcomers → (r.most_open ≤ max_open → v.counted ≡ 0) → w.counted ≡ 0 → (r.most_open ≤ max_open → Fits fl r.drawn r.owner r.who r.g id w) → Tickets fl record { words = s.words; homes = s.homes; views = set s.views id w }
   viewed most begun none_before none_after fit = record {
@@ -204,7 +204,7 @@ learn_joins {fl} id other v w a b s r at apart at_other =
     let one = viewed s r id v at (learns v w) (omega arith) (omega arith) (λ le. (a (omega arith)).1) refl (λ le. let f = fits s r id v at le in let h = fits s r other w there le in record { knows = let x = f.knows in let y = h.knows in omega arith; lowest = omega arith; mine = λ ne. absurd (ne refl); place = tt; told_nobody = f.told_nobody; lock_word = record { turn_of = f.lock_word.turn_of; occupant = λ e. absurd (omega arith); rests = record { takes_seen = let n = f.lock_word.rests.takes_seen in let m = h.lock_word.rests.takes_seen in omega arith; held = λ e. absurd (omega arith); lulls = f.lock_word.rests.lulls; sleeps_at_lock_word = f.lock_word.rests.sleeps_at_lock_word }; dated = f.lock_word.dated; barrier = f.lock_word.barrier }; door = λ ne. absurd (ne refl); tail_seen = f.tail_seen; at_draw = idle_at_draw r.drawn r.g (learns v w) f.at_draw.early refl }) in
     viewed record { words = s.words; homes = s.homes; views = set s.views id (learns v w) } one other w at_other (initial_view 0) (omega arith) (omega arith) (λ le. (b (let k = one.seen other w at_other in omega arith)).1) refl (λ le. record { knows = omega arith; lowest = omega arith; mine = λ ne. absurd (ne refl); place = tt; told_nobody = λ e. absurd (omega arith); lock_word = record { turn_of = λ e. absurd (omega arith); occupant = λ e. absurd (omega arith); rests = record { takes_seen = omega arith; held = λ e. absurd (omega arith); lulls = λ e. absurd (omega arith); sleeps_at_lock_word = λ e. absurd (omega arith) }; dated = omega arith; barrier = λ e. absurd (omega arith) }; door = λ ne. absurd (ne refl); tail_seen = record { probed = omega arith; next_is_at_turn = λ e. absurd (omega arith) }; at_draw = idle_at_draw one.drawn one.g (initial_view 0) (omega arith) refl })
 
--- what holds of one at its turn does not depend on which requests it knows to have ended
+-- What holds of a caller at its turn does not depend on which requests it knows to have ended.
 place_learned : (fl : ℕ) (g : Ghost) (v : View) (ended most : ℕ) (p : Phase) → p ≢ Asleep → Place fl g v p → Place fl g (record v { ended = ended; counted = 0; most_open = most }) p
 place_learned fl g v ended most Idle ne k = k
 place_learned fl g v ended most Queued ne k = k
@@ -217,7 +217,7 @@ place_learned fl g v ended most Impossible ne k = k
 awake : (v : View) → HasTurn v → v.phase ≢ Asleep
 awake v has sleeps = ⊎_elim (λ e. cc) (λ e. cc) has
 
--- one at its turn learns which requests have ended
+-- a caller at its turn learns which requests have ended
 pub learn_ended_joins : {fl : ℕ} (id other : ℕ) (v w : View) → (Timely v → HasTurnAwake v) → (Timely w → IsIdle w) → Joins (Tickets fl) id v other w (learns_ended v w) (initial_view 0)
 learn_ended_joins {fl} id other v w a b s r at apart at_other =
     let there : get_elem? s.views other ≡ some w = sym (set_else s.views id other (learns_ended v w) apart) ∙ at_other in
@@ -226,7 +226,7 @@ learn_ended_joins {fl} id other v w a b s r at apart at_other =
     let one = viewed s r id v at (learns_ended v w) sv (r.heard id v at) (λ le. (a (omega arith)).1) refl (λ le. let f = fits s r id v at le in let h = fits s r other w there le in record { knows = let x = f.knows in let y = h.knows in omega arith; lowest = f.lowest; mine = f.mine; place = place_learned fl r.g v (max v.ended w.ended) v.most_open v.phase (awake v (a (omega arith)).0) f.place; told_nobody = f.told_nobody; lock_word = f.lock_word; door = f.door; tail_seen = f.tail_seen; at_draw = f.at_draw }) in
     viewed record { words = s.words; homes = s.homes; views = set s.views id (learns_ended v w) } one other w at_other (initial_view 0) (omega arith) (omega arith) (λ le. (b (let k = one.seen other w at_other in omega arith)).1) refl (λ le. record { knows = omega arith; lowest = omega arith; mine = λ ne. absurd (ne refl); place = tt; told_nobody = λ e. absurd (omega arith); lock_word = record { turn_of = λ e. absurd (omega arith); occupant = λ e. absurd (omega arith); rests = record { takes_seen = omega arith; held = λ e. absurd (omega arith); lulls = λ e. absurd (omega arith); sleeps_at_lock_word = λ e. absurd (omega arith) }; dated = omega arith; barrier = λ e. absurd (omega arith) }; door = λ ne. absurd (ne refl); tail_seen = record { probed = omega arith; next_is_at_turn = λ e. absurd (omega arith) }; at_draw = idle_at_draw one.drawn one.g (initial_view 0) (omega arith) refl })
 
--- and those are before its own
+-- these requests are before its own
 pub order_tells : {fl : ℕ} (id slots : ℕ) (me : Me ℕ View) → (Timely me.0 → HasTurnAwake me.0) → Allows (Tickets fl) slots id me 0 (λ n. n) (tells_order (step slots 0 0 0 none) me)
 order_tells {fl} id slots me has s r sized at low =
     let v : View = me.0 in

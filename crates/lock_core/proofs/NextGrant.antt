@@ -1,4 +1,4 @@
--- A turn ends, and the next ticket is granted.
+-- A turn of the queue ends, and the next ticket is granted.
 use Rattle.std.proofs.Common.{◌≡◌, ◌≢◌, ℕ, suc, ◌+◌, ◌/◌, ◌%◌, ◌<◌, ◌≤◌, ◌⊎◌, inl, inr, set, slice_index, sym, refl, ap, ◌∙◌, subst, arith, ⊎_elim, length-set, get_or-set_other, eqb, eq-eqb, ne_eqb}
 use Rattle.std.specs.Int.{bit_at}
 use mathlib.Core.Logic.{dite}
@@ -20,7 +20,7 @@ use Rattle.lock_core.proofs.Base.{put, put_here, put_else, each_after, cells_aft
 use Rattle.lock_core.proofs.Tally.{share_here, tally_has}
 use Rattle.lock_core.proofs.Words.{same_mask}
 
--- 1 where nobody is counted
+-- 1 if nobody is counted
 abbrev pub nobody : ℕ → ℕ
 nobody found = either (eqb (count_of found) 0) 1 0
 
@@ -38,7 +38,7 @@ module _ (fl : ℕ) (g : Ghost) (q : ℕ) (b : View) (single : g.head_inside ≤
   waiter : Waiter fl g b → Waiter fl (next_turn g q) b
   waiter k = record { unmarked = k.unmarked; overtaking = record { came = let c = k.overtaking.came in omega arith; overtaken = let o = k.overtaking.overtaken in let m = mul-le fl g.head_inside fl 1 (omega arith) single in omega arith }; at_turn = λ e. refl }
 
-  -- the others wait on
+  -- the other callers wait on
   waits_on : (p : Phase) → (p ≢ Idle → b.ticket ≢ g.turn) → (p ≡ Asleep → b.ticket ≡ g.turn + 1 → q ≡ 0) → Place fl g b p → Place fl (next_turn g q) b p
   waits_on Idle ne h k = tt
   waits_on Queued ne h k = waiter k
@@ -48,7 +48,7 @@ module _ (fl : ℕ) (g : Ghost) (q : ℕ) (b : View) (single : g.head_inside ≤
   waits_on HeadInside ne h k = absurd (ne (λ e. cc) k.0.turn)
   waits_on Impossible ne h k = k
 
--- who is not done with its turn has an unmarked ticket
+-- a caller that is not done with its turn has a ticket without a mark
 unmarked_of : (fl : ℕ) (g : Ghost) (v : View) (p : Phase) → p ≢ Idle → Place fl g v p → (g.withdrawn v.ticket ≡ 0) ⊎ (v.ticket ≡ g.turn)
 unmarked_of fl g v Idle ne k = absurd (ne refl)
 unmarked_of fl g v Queued ne k = inl k.unmarked
@@ -68,7 +68,7 @@ module _ {fl : ℕ} (s : State ℕ View) (r : Tickets fl s) (id slots i x ticket
   abbrev pub found : ℕ
   found = slice_index s.words i
 
-  -- in good time: the seat is at its turn, and the word is the next cell, which has one round more
+  -- the seat is at its turn, and the word is the next cell, which has one round more, if the lock is timely
   pub record Granting : Type 0 where
     pub mine : ticket ≡ v.ticket % 18446744073709551616
     pub none_counted : v.counted ≡ 0
@@ -187,11 +187,11 @@ module _ {fl : ℕ} (s : State ℕ View) (r : Tickets fl s) (id slots i x ticket
           let t0 = (granting le).holder.turn in
           let z = (open_fits le).1 in record { probed = f.probed; next_is_at_turn = λ one e. let q = f.next_is_at_turn one e in absurd (omega arith) }
 
-      -- in a strict lock nobody is inside, so its turn ends its service
+      -- in a strict lock nobody is inside, so the end of a turn ends its service
       home : r.most_open ≤ max_open → v.max_newcomers ≡ 0 → told_in v ≡ 0
       home le none_ = ap (λ b. either b v.door 0) (ne_eqb v.inside 1 (λ one. let few = ((fits s r id v at le).lock_word.occupant one).0 in omega arith))
 
-      -- it is overtaken as much as before
+      -- the caller is overtaken as much as before
       late_on : r.most_open ≤ max_open → Overtaking fl g v
       late_on le =
           let l = (granting le).holder.overtaking in

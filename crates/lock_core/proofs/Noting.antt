@@ -1,4 +1,4 @@
--- What a step finds is noted in the view of its seat, and the invariant does not depend on that.
+-- The view of a seat notes what a step found. The invariant does not depend on these notes.
 use Rattle.std.proofs.Common.{◌≡◌, ◌≢◌, ℕ, zero, suc, ◌+◌, ◌*◌, ◌-◌, ◌/◌, ◌%◌, ◌^◌, ◌<◌, ◌≤◌, List, [], ◌∷◌, set, slice_index, sym, refl, subst, arith, eqb}
 use mathlib.Core.Option.{none, some, some-ne-none}
 use lib.ListN.{get_elem?}
@@ -42,7 +42,7 @@ place_noted fl g v l Passing k = k
 place_noted fl g v l HeadInside k = k
 place_noted fl g v l Impossible k = k
 
--- the state with another note in the view of one seat
+-- the state in which the view of one seat has another note
 module _ {fl : ℕ} (s : State ℕ View) (r : Tickets fl s) (id : ℕ) (v : View) (at : get_elem? s.views id ≡ some v) (l : Looks) where
   abbrev noted_view : View
   noted_view = record v { looks = l }
@@ -85,7 +85,7 @@ module _ {fl : ℕ} (s : State ℕ View) (r : Tickets fl s) (id : ℕ) (v : View
         };
   }
 
--- a step that may be made may be noted
+-- a step that may be taken may be noted
 pub notes : {fl : ℕ} (id i : ℕ) (me : Me ℕ View) (f : ℕ → ℕ) (st : Step ℕ) (left : Step ℕ → ℕ → ℕ) (tells : Step ℕ → Me ℕ View → ℕ → Me ℕ View → Type 0)
     → ((n : ℕ) (w : View) (c : List (ℕ × ℕ)) (l : Looks) → tells st me n (w, c) → tells st me n (record w { looks = l }, c))
     → Allows (Tickets fl) st.slots id me i f (tells st me) → Allows (Tickets fl) st.slots id me i f (noting left tells st me)
@@ -103,7 +103,7 @@ notes {fl} id i me f st left tells carries allowed s r sized at low =
       (refl, carries n w (carried_after me.1 a) l made.4),
     )
 
--- the lock word is read
+-- a caller reads the lock word
 pub read_lock_word_allowed : {fl : ℕ} (id slots : ℕ) (me : Me ℕ View) → Allows (Tickets fl) slots id me 0 (λ n. n) (noting kept_word reads_lock_word (step slots 0 0 0 none) me)
 read_lock_word_allowed {fl} id slots me = notes id 0 me (λ n. n) (step slots 0 0 0 none) kept_word reads_lock_word (λ n w c l told. (told.0, λ k. record (told.1 k) { looks = l })) (λ s r sized at low. (
   me.0,
@@ -117,7 +117,7 @@ read_lock_word_allowed {fl} id slots me = notes id 0 me (λ n. n) (step slots 0 
     same_word [] = refl
     same_word (x ∷ xs) = refl
 
--- each step, noted
+-- each step, with its note
 pub draw_noted : {fl : ℕ} (id slots : ℕ) (me : Me ℕ View) → slots ≡ 0 → (Timely me.0 → IsIdle me.0) → Allows (Tickets fl) slots id me 16 (λ n. (n + 1) % 18446744073709551616) (noting added_word draws (step slots 16 1 0 none) me)
 draw_noted {fl} id slots me no_slot fresh = notes id 16 me (λ n. (n + 1) % 18446744073709551616) (step slots 16 1 0 none) added_word draws (λ n w c l told. told) (draw_allowed id slots me no_slot fresh)
 

@@ -1,4 +1,5 @@
--- The lock is shut and reopened, who is at its turn reads whether it is open, and the queue head announces its sleep.
+-- A lock is shut and reopened, the caller at its turn reads whether the lock is open, and the queue head announces its
+-- sleep.
 use Rattle.std.proofs.Common.{◌≡◌, ◌≢◌, ℕ, ◌+◌, ◌/◌, ◌%◌, ◌≤◌, inl, slice_index, sym, refl, ap, ◌∙◌, arith, eqb, eq-eqb, ne_eqb, ⊎_elim}
 use mathlib.Core.Option.{none}
 use mathlib.Core.Logic.{dite}
@@ -14,7 +15,7 @@ use Rattle.lock_core.specs.Steps.{checks_open, shuts, reopens, announces_head_sl
 use Rattle.lock_core.proofs.Base.{known, fits, other, door_apart, turn_of_place, busy_of}
 use Rattle.lock_core.proofs.LockWord.{at_draw_kept, knowing, learned}
 
--- one at the door shuts the lock
+-- a caller at the door shuts the lock
 pub shut_allowed : {fl : ℕ} (id slots : ℕ) (me : Me ℕ View) → (Timely me.0 → ServedOpen me.0) → Allows (Tickets fl) slots id me 0 (λ n. (n + 16) % 18446744073709551616) (shuts (step slots 0 16 0 none) me)
 shut_allowed {fl} id slots me served s r sized at low =
     let v : View = me.0 in
@@ -48,7 +49,7 @@ shut_allowed {fl} id slots me served s r sized at low =
       ((refl, refl, known s r id v at, (omega arith)), (refl, refl, refl, refl, refl, refl, refl, (refl, refl, refl), (refl, refl)), (refl, refl), refl, refl, refl, refl),
     )
 
--- one at the door of a shut lock check_open it again
+-- a caller at the door of a shut lock reopens it
 pub reopen_allowed : {fl : ℕ} (id slots : ℕ) (me : Me ℕ View) → (Timely me.0 → HasTurn me.0) → (Timely me.0 → me.0.nobody_behind ≡ 1) → (Timely me.0 → ServedShut me.0) → Allows (Tickets fl) slots id me 0 (λ n. (n + 18446744073709551600) % 18446744073709551616) (reopens (step slots 0 16 0 none) me)
 reopen_allowed {fl} id slots me turns is_alone served s r sized at low =
     let v : View = me.0 in
@@ -100,7 +101,7 @@ reopen_allowed {fl} id slots me turns is_alone served s r sized at low =
     still_at_turn : r.most_open ≤ max_open → Awaits me.0.phase → ⊥
     still_at_turn le q = ⊎_elim (λ a. ⊎_elim (λ e. cc) (λ e. cc) q) (λ a. ⊎_elim (λ e. cc) (λ e. cc) q) (turns (let k = known s r id me.0 at in omega arith))
 
--- in a strict lock the one at its turn looks at the lock word
+-- in a strict lock the caller at its turn looks at the lock word
 pub check_open_allowed : {fl : ℕ} (id slots ticket : ℕ) (me : Me ℕ View) → fl ≡ 0 → (Timely me.0 → IsAtTurn ticket me.0) → Allows (Tickets fl) slots id me 0 (λ n. n) (checks_open (step slots 0 0 0 none) me)
 check_open_allowed {fl} id slots ticket me strict has s r sized at low =
     let v : View = me.0 in
@@ -128,7 +129,7 @@ check_open_allowed {fl} id slots ticket me strict has s r sized at low =
       ((refl, refl, known s r id v at, (omega arith)), (refl, refl, refl, refl, refl, refl, refl, (refl, refl, refl), (refl, refl)), (refl, refl), (λ timely. (refl, refl, (fits s r id v at timely).lock_word.dated)), refl),
     )
 
--- the head notes at the lock word that it sleeps
+-- the queue head notes at the lock word that it sleeps
 pub announce_head_sleep_allowed : {fl : ℕ} (id slots old new : ℕ) (me : Me ℕ View) → state_of old ≡ 1 → new / 4 ≡ old / 4 → asleep_of new ≡ 1 → Allows (Tickets fl) slots id me 0 (λ n. either (eqb n old) new n) (announces_head_sleep (step slots 0 old new none) me)
 announce_head_sleep_allowed {fl} id slots old new me held half sets s r sized at low = dite (ℕ_discrete lock_word old) notes stays
   where

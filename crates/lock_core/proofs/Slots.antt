@@ -1,5 +1,5 @@
--- The value in the slot: a step that a table without a slot allows is allowed with one, where whoever is served from then on takes the value, and who ends that
--- gives it back.
+-- The value in the slot. If a table without a slot allows a step, a table with one allows it too: a caller that is
+-- served from that step on takes the value, and a caller that is no longer served gives it back.
 use Rattle.std.proofs.Common.{◌≡◌, ◌≢◌, ℕ, suc, ◌+◌, ◌-◌, ◌*◌, ◌/◌, ◌%◌, ◌^◌, ◌<◌, ◌≤◌, List, [], ◌∷◌, map, length, set, slice_index, sym, refl, ap, ◌∙◌, subst, arith, eqb, length-set, ⊎_elim}
 use mathlib.Core.Logic.{dite}
 use mathlib.Core.Option.{Option, none, some, some-injective}
@@ -24,7 +24,7 @@ use Rattle.lock_core.proofs.DrawingSteps.{IsFew}
 use Rattle.lock_core.proofs.Meeting.{meet_tells, tell_splits, learn_joins, learn_ended_joins, order_tells}
 use Rattle.lock_core.proofs.Noting.{set_there, read_lock_word_allowed, draw_noted, read_tail_noted, read_cell_noted, try_draw_noted, draw_near_noted, look_noted, request_handoff_noted, barge_noted, take_lock_word_noted, leave_noted, shut_noted, reopen_noted, check_open_noted, announce_head_sleep_noted, grant_noted, announce_sleep_noted, retract_sleep_noted, withdraw_noted, clear_noted}
 
--- an act leaves the number of slots
+-- an act does not change the number of slots
 length_after : {S : Type 0} (hs : List (Option S)) (c : List (ℕ × S)) (a : Act S) → length (homes_after hs c a) ≡ length hs
 length_after hs c keeps = refl
 length_after hs c (act_takes k y) = length-set hs k none
@@ -32,7 +32,7 @@ length_after hs [] gives = refl
 length_after hs (x ∷ xs) gives = length-set hs x.0 (some x.1)
 length_after hs c (chain a b) = length_after (homes_after hs c a) (carried_after c a) b ∙ length_after hs c a
 
--- what lies in the slots is nothing to the lock
+-- the lock does not depend on what lies in the slots
 rehomed : {fl : ℕ} (words : List ℕ) (hs ks : List (Option ℕ)) (views : List View) → length ks ≡ length hs → Tickets fl record { words = words; homes = hs; views = views } → Tickets fl record { words = words; homes = ks; views = views }
 rehomed words hs ks views same_ r = record {
   drawn = r.drawn;
@@ -56,11 +56,11 @@ bare_length (x ∷ xs) = ap suc (bare_length xs)
 pub carries_nothing : {T : Type 0} (slots : ℕ) (me : Me T View) → slots ≡ 0 → me.1 ≡ [] → Carries slots me
 carries_nothing slots me none_ empty = record { nothing = λ _. empty; at_home = λ one. absurd (omega arith); carries = λ one. absurd (omega arith); timely = λ one. absurd (omega arith) }
 
--- one that learns which requests have ended has the value that it had
+-- a caller that learns which requests have ended has the value that it had
 pub carries_learned : {T : Type 0} (slots : ℕ) (v w : View) (c : List (ℕ × T)) → Carries slots (v, c) → Carries slots (learns_ended v w, c)
 carries_learned slots v w c k = record { nothing = k.nothing; at_home = k.at_home; carries = k.carries; timely = k.timely }
 
--- who is outside, and has no request, is not served
+-- a caller that is outside, and has no request, is not served
 outside_door : {fl : ℕ} (s : State ℕ View) (r : Tickets fl s) (id : ℕ) (v : View) (at : get_elem? s.views id ≡ some v) → r.most_open ≤ max_open → IsOutside v → v.door ≡ 0
 outside_door s r id v at le out = dite (ℕ_discrete v.door 0) (λ e. e) (λ ne. absurd (⊎_elim (λ a. let p = a.1 in let q = out.1.0 in cc) (λ a. let z = out.0 in omega arith) ((fits s r id v at le).door ne).2))
 
@@ -95,7 +95,7 @@ module _ {T : Type 0} {fl : ℕ} where
       Goal : Type 0
       Goal = (w : View) × (a : Act T) × Valid s.homes me.1 a × Slotted fl (stepped s i (f n) id me.1 w a) × with_slot tells st me n (w, carried_after me.1 a)
 
-      -- it is a lock without a value
+      -- the lock has no value
       alone : st.slots ≢ 1 → Goal
       alone ne = (
         w,
@@ -111,7 +111,7 @@ module _ {T : Type 0} {fl : ℕ} where
       timely : st.slots ≡ 1 → Timely w
       timely one = let k = made.3.seen id w at_w in let t = in_time one in omega arith
 
-      -- where the caller is served now, nobody else is, and was
+      -- if the caller is served now, nobody else is or was
       all_home : st.slots ≡ 1 → v.door ≡ 0 → w.door ≢ 0 → (j : ℕ) (b : View) → get_elem? s.views j ≡ some b → b.door ≡ 0
       all_home one out in_ j b there = dite (ℕ_discrete j id)
           (λ e. ap (λ (x : View). x.door) (some-injective b v (sym there ∙ ap (get_elem? s.views) e ∙ at)) ∙ out)

@@ -1,4 +1,4 @@
--- What the answers of calls say, by their cases.
+-- These definitions say which claim holds for each answer of a call.
 use Rattle.std.specs.Prelude.{◌≡◌, ℕ, Bool, ◌<◌, ◌≤◌}
 use Rattle.lock_core.specs.declared.opening.LockKind.{LockKind}
 use Rattle.lock_core.specs.declared.opening.LockKind.TheVariants as kind
@@ -33,12 +33,12 @@ abbrev pub HasValidLimit : LockKind → Type 0
 HasValidLimit kind.Strict = Unit {0}
 HasValidLimit (kind.Barging turns) = 2 ≤ turns
 
--- the error fits the kind that was asked for
+-- whether the error fits the kind that the caller asked for
 abbrev pub IsOpenErrorOf : LockKind → OpenError → Type 0
 IsOpenErrorOf k error.Memory = HasValidLimit k
 IsOpenErrorOf k (error.BadBargingLimit turns) = (k ≡ kind.Barging turns) × (turns < 2)
 
--- `draw_near` drew a ticket, or none
+-- each definition claims P for some answers: here, that `draw_near` drew a ticket, or that it drew none
 abbrev pub IfDrawn : DrawNearResult → Type 0 → Type 0
 IfDrawn (near.AtTurn ticket) P = P
 IfDrawn (near.Queued ticket rounds) P = P
@@ -75,7 +75,7 @@ IfNearChanged (near.Queued ticket rounds) P = Unit {0}
 IfNearChanged (near.Far rounds) P = Unit {0}
 IfNearChanged near.Changed P = P
 
--- `draw_within` drew a ticket, or none
+-- the same: `draw_within` drew a ticket, or drew none
 abbrev pub IfWithinDrawn : DrawWithinResult → Type 0 → Type 0
 IfWithinDrawn (within.AtTurn ticket) P = P
 IfWithinDrawn (within.Queued ticket rounds) P = P
@@ -125,7 +125,7 @@ IfWithinSpent (within.Far rounds) P = Unit {0}
 IfWithinSpent within.Changed P = Unit {0}
 IfWithinSpent within.Spent P = P
 
--- `announce_sleep` found the waiter at its turn, counted it, or neither
+-- the same: `announce_sleep` found the waiter at its turn, counted the waiter, or did neither
 abbrev pub IfSleepAtTurn : SleepResult → Type 0 → Type 0
 IfSleepAtTurn sleep.AtTurn P = P
 IfSleepAtTurn (sleep.Asleep rounds cell) P = Unit {0}
@@ -156,7 +156,7 @@ IfSleepRefused (sleep.Asleep rounds cell) P = Unit {0}
 IfSleepRefused (sleep.Full rounds) P = P rounds
 IfSleepRefused (sleep.Changed rounds) P = P rounds
 
--- `release` granted the next ticket, or must be called again
+-- the same: `release` granted the next ticket, or must be called again
 abbrev pub IfGranted : ReleaseResult → (ℕ → Type 0) → Type 0
 IfGranted (release.Granted sleepers) P = P sleepers
 IfGranted release.Unfinished P = Unit {0}
@@ -165,7 +165,7 @@ abbrev pub IfUnfinished : ReleaseResult → Type 0 → Type 0
 IfUnfinished (release.Granted sleepers) P = Unit {0}
 IfUnfinished release.Unfinished P = P
 
--- `barge_if` took the lock word, or found a word by which it did not
+-- the same: `barge_if` took the lock word, or found a value at which it did not
 abbrev pub IfIn : BargeResult → Type 0 → Type 0
 IfIn went.Inside P = P
 IfIn (went.Outside lock_word) P = Unit {0}
@@ -174,7 +174,7 @@ abbrev pub IfNotIn : BargeResult → (ℕ → Type 0) → Type 0
 IfNotIn went.Inside P = Unit {0}
 IfNotIn (went.Outside lock_word) P = P lock_word
 
--- a look found the lock word held, free for barging threads, or free for the queue head alone
+-- the same: a look found the lock word held, free for barging threads, or free for the queue head alone
 abbrev pub IfSeenHeld : LockWordState → (ℕ → Bool → Type 0) → Type 0
 IfSeenHeld (seen.Held newcomers requested) P = P newcomers requested
 IfSeenHeld (seen.Free newcomers) P = Unit {0}
@@ -190,7 +190,7 @@ IfSeenForHead (seen.Held newcomers requested) P = Unit {0}
 IfSeenForHead (seen.Free newcomers) P = Unit {0}
 IfSeenForHead seen.ForHead P = P
 
--- `take_lock_word` took the lock word, of an open lock or of a shut one, or not
+-- the same: `take_lock_word` took the lock word of an open lock, took that of a shut lock, or did not take the word
 abbrev pub IfTaken : TakeResult → Type 0 → Type 0
 IfTaken taken.Open P = P
 IfTaken taken.Shut P = P
@@ -227,7 +227,7 @@ IfTakeChanged taken.Shut P = Unit {0}
 IfTakeChanged (taken.Held lock_word) P = Unit {0}
 IfTakeChanged (taken.Changed lock_word) P = P
 
--- `leave_lock_word` left, and says whether the queue head is asleep at the lock word, or must be called again
+-- the same: `leave_lock_word` left the word and says whether the queue head sleeps there, or must be called again
 abbrev pub IfLeft : LeaveResult → (Bool → Type 0) → Type 0
 IfLeft (leave.Outside head_asleep) P = P head_asleep
 IfLeft (leave.Changed lock_word) P = Unit {0}
@@ -236,7 +236,7 @@ abbrev pub IfNotLeft : LeaveResult → (ℕ → Type 0) → Type 0
 IfNotLeft (leave.Outside head_asleep) P = Unit {0}
 IfNotLeft (leave.Changed lock_word) P = P lock_word
 
--- `announce_head_sleep` noted the sleep, or not
+-- the same: `announce_head_sleep` noted the sleep, or did not
 abbrev pub IfHeadAsleep : HeadSleepResult → (ℕ → Type 0) → Type 0
 IfHeadAsleep (head.Asleep lock_word) P = P lock_word
 IfHeadAsleep head.NotHeld P = Unit {0}

@@ -1,4 +1,4 @@
--- The invariant that the words and the views keep.
+-- The invariant that relates the words of a lock to the views of its callers.
 use Rattle.std.specs.Prelude.{◌≡◌, ◌≢◌, ℕ, ◌+◌, ◌*◌, ◌/◌, ◌%◌, ◌<◌, ◌≤◌, ◌⊎◌, List, [], ◌∷◌, length, slice_index, ◌==◌}
 use Rattle.std.specs.Int.{bit_at}
 use mathlib.Core.Option.{some}
@@ -11,7 +11,7 @@ use Rattle.lock_core.specs.declared.view.Phase.TheVariants.{Idle, Queued, Asleep
 use Rattle.lock_core.specs.Layout.{max_sleepers, max_tickets, withdrawal_window, asleep_of, bit_of, came_of, cell_at, count_of, lock_word_at, rounds, rounds_of, shut_of, state_of, tail_at}
 use Rattle.lock_core.specs.Views.{Awaits, max_open}
 
--- the sleepers of a cell: the counted seats whose ticket is of it
+-- the sleepers of a cell are the counted seats whose tickets belong to it
 abbrev pub share : ℕ → View → ℕ
 share c v = either (v.ticket % 4 == c) v.counted 0
 
@@ -19,10 +19,15 @@ abbrev pub tally : ℕ → List View → ℕ
 tally c [] = 0
 tally c (v ∷ vs) = share c v + tally c vs
 
--- What the invariant knows. Of the queue: the ticket at its turn; 1 if that is inside, as the queue head. Of the lock word: how often queue heads took it,
--- the newcomers since the last of them and in all, the word, the seat that is inside, and how often the lock was reopened. Of each ticket:
--- 1 if it is withdrawn; if it was drawn while the lock was open; if its grant found nobody asleep. Of each queue head: the newcomers before
--- it. Of each take of the lock word, by newcomers and heads: 1 if the caller that left it then was told that no queue head sleeps.
+-- What the invariant knows of a lock. Its numbers are, in the order of the fields:
+-- - of the queue: the ticket at its turn, and 1 if that ticket's caller is inside as the queue head;
+-- - of the lock word: how often queue heads took it, the newcomers since the last queue head and in all, the word, the
+--   seat that is inside, and how often the lock was reopened;
+-- - of each ticket: 1 if it is withdrawn, 1 if it was drawn while the lock was open, and 1 if its grant found nobody
+--   asleep;
+-- - of each queue head: the newcomers before it;
+-- - of each take of the lock word, by newcomers and queue heads: 1 if the caller that left it was told that no queue
+--   head sleeps.
 pub record Ghost : Type 0 where
   pub turn : ℕ
   pub head_inside : ℕ
@@ -38,19 +43,20 @@ pub record Ghost : Type 0 where
   pub newcomers_before : ℕ → ℕ
   pub left_quietly : ℕ → ℕ
 
--- overtaken by at most c newcomers for each ticket whose turn ended since it drew its own, and by those since the last queue head
+-- at most c newcomers overtook the caller for each ticket whose turn ended since the caller drew its own, and besides
+-- those since the last queue head
 abbrev pub Overtaking : ℕ → Ghost → View → Type 0
 Overtaking c g v = record { came : v.first_pending ≤ g.turn + g.head_inside; overtaken : g.newcomers + c * v.first_pending ≤ v.newcomers_at_draw + c * (g.turn + g.head_inside) + g.since_head }
 
--- it waits: not withdrawn, and if it is at its turn, it is not inside
+-- the caller waits: its request is not withdrawn, and if its ticket is at its turn, it is not inside
 abbrev pub Waiter : ℕ → Ghost → View → Type 0
 Waiter c g v = record { unmarked : g.withdrawn v.ticket ≡ 0; overtaking : Overtaking c g v; at_turn : v.ticket ≡ g.turn → g.head_inside ≡ 0 }
 
--- it is at its turn, and withdrawn or not
+-- the caller's ticket is at its turn, and withdrawn or not
 abbrev pub Holder : ℕ → Ghost → View → ℕ → Type 0
 Holder c g v bit = record { turn : v.ticket ≡ g.turn; mark : g.withdrawn v.ticket ≡ bit; overtaking : Overtaking c g v }
 
--- it is inside
+-- the caller is inside
 abbrev pub Occupant : ℕ → Ghost → ℕ → Type 0
 Occupant c g id = (0 < c) × (state_of g.lock_word ≡ 1) × (g.who_is_inside ≡ id)
 
@@ -58,7 +64,7 @@ Occupant c g id = (0 < c) × (state_of g.lock_word ≡ 1) × (g.who_is_inside �
 abbrev pub takes_of : Ghost → ℕ
 takes_of g = g.newcomers + g.heads
 
--- what holds of a seat's view by its phase
+-- what holds of a seat's view in each phase
 abbrev pub Place : ℕ → Ghost → View → Phase → Type 0
 Place c g v Idle = Unit {0}
 Place c g v Queued = Waiter c g v
@@ -68,7 +74,8 @@ Place c g v Passing = Holder c g v 1 × (g.head_inside ≡ 0)
 Place c g v HeadInside = Holder c g v 0 × (g.head_inside ≡ 1)
 Place c g v Impossible = ⊥
 
--- of its takes of the lock word: how many it knows of; its own last one; whether it left that quietly; and that its sleep there is noted in the word
+-- What a caller knows of the takes of the lock word: how many there were, its own last take, whether it left that
+-- quietly, and that its sleep there is noted in the word.
 abbrev pub Rests : Ghost → View → Type 0
 Rests g v = record {
   takes_seen : v.takes_seen ≤ takes_of g;
@@ -77,8 +84,8 @@ Rests g v = record {
   sleeps_at_lock_word : v.sleeps_at_lock_word ≡ 1 → (v.slept_in_take ≤ takes_of g) × (g.left_quietly v.slept_in_take ≡ 0) × (v.slept_in_take ≡ takes_of g → state_of g.lock_word ≡ 1 → asleep_of g.lock_word ≡ 1);
 }
 
--- of the lock word: its last acquisition as a newcomer is its own; whether it is inside; its takes; and what it knows of a shut lock is so until a
--- reopening
+-- What a caller knows of the lock word: its last acquisition as a newcomer is its own, whether it is inside, and its
+-- takes. What it knows of a shut lock is true until a reopening.
 abbrev pub AtLockWord : ℕ → (ℕ → ℕ) → Ghost → ℕ → View → Type 0
 AtLockWord c who g id v = record {
   turn_of : 0 < v.newcomer_number → (v.newcomer_number ≤ g.newcomers) × (who v.newcomer_number ≡ id) × (v.newcomer_number ≡ g.newcomers_before v.heads_before + v.place_after_head) × (v.heads_before ≤ g.heads);
@@ -88,21 +95,22 @@ AtLockWord c who g id v = record {
   barrier : v.knows_shut ≡ 1 → v.epoch ≡ g.epoch → shut_of g.lock_word ≡ 1;
 }
 
--- it is at its turn in a strict lock, or inside
+-- the caller is at its turn in a strict lock, or inside; this is called at the door
 abbrev pub AtDoor : ℕ → ℕ → Phase → Type 0
 AtDoor c inside p = ((c ≡ 0) × (p ≡ AtTurn)) ⊎ (inside ≡ 1)
 
--- it was told there whether the lock is open (1) or shut (2), and this is still so, because nobody else may change it
+-- the caller was told there whether the lock is open (1) or shut (2), and that is still true, because nobody else may
+-- change it
 abbrev pub Door : ℕ → Ghost → View → Phase → Type 0
 Door c g v p = v.door ≢ 0 → (v.door ≡ 1 + shut_of g.lock_word) × (v.epoch ≡ g.epoch) × AtDoor c v.inside p
 
--- what it read of the tail, and that the next ticket is at its turn, if none was drawn since
+-- what the caller read of the tail; and the next ticket is at its turn, unless it was drawn since
 abbrev pub Probe : ℕ → Ghost → View → Type 0
 Probe drawn g v = record { probed : v.tail_seen ≤ drawn; next_is_at_turn : v.next_is_at_turn ≡ 1 → drawn ≡ v.tail_seen → g.turn ≡ drawn }
 
--- Of its request: whether the lock was open when it drew its ticket, and in which epoch. A ticket that was drawn while the lock was open, and waits, is
--- of this epoch.
--- If it was told that the lock is shut, and read that nobody is behind, each ticket behind was drawn while it was shut.
+-- What a caller knows of its request: whether the lock was open when it drew its ticket, and in which epoch. A waiting
+-- ticket that was drawn while the lock was open is of this epoch. If the caller was told that the lock is shut, and
+-- read that nobody is behind it, each later ticket was drawn while the lock was shut.
 abbrev pub AtDraw : ℕ → Ghost → View → Phase → Type 0
 AtDraw drawn g v p = record {
   stamped : p ≢ Idle → v.drawn_open ≡ g.drawn_open v.ticket;
@@ -112,7 +120,7 @@ AtDraw drawn g v p = record {
   nobody_behind : v.nobody_behind ≡ 1 → v.door ≡ 2 → (t : ℕ) → v.ticket < t → t < drawn → g.drawn_open t ≡ 0;
 }
 
--- what holds of a seat's view
+-- what holds of a seat's view in every phase
 pub record Fits (c drawn : ℕ) (owner who : ℕ → ℕ) (g : Ghost) (id : ℕ) (v : View) : Type 0 where
   pub knows : v.ended ≤ g.turn
   pub lowest : v.rounds_seen ≤ rounds g.turn v.ticket
@@ -124,7 +132,7 @@ pub record Fits (c drawn : ℕ) (owner who : ℕ → ℕ) (g : Ghost) (id : ℕ)
   pub tail_seen : Probe drawn g v
   pub at_draw : AtDraw drawn g v v.phase
 
--- What the word of a ticket's cell says. Its bits are those of the withdrawn requests of the next fifteen rounds.
+-- What the word of a ticket's cell says. Its bits mark the withdrawn requests of the next fifteen rounds.
 abbrev pub Cell : Ghost → ℕ → ℕ → ℕ → Type 0
 Cell g sleepers word t = record {
   high : rounds_of word ≡ rounds g.turn t % 1073741824;
@@ -133,7 +141,7 @@ Cell g sleepers word t = record {
   count : count_of word ≡ sleepers;
 }
 
--- of tickets: none is withdrawn beyond the window, or before it is drawn
+-- no ticket is withdrawn beyond the window, or before it is drawn
 abbrev pub Marks : ℕ → Ghost → Type 0
 Marks drawn g = record {
   far : (t : ℕ) → rounds g.turn t + withdrawal_window ≤ t / 4 → g.withdrawn t ≡ 0;
@@ -141,7 +149,7 @@ Marks drawn g = record {
   unheard : (t : ℕ) → g.turn < t → g.nobody_asleep t ≡ 0;
 }
 
--- of the lock word: newcomers since the last queue head are at most c, and it counts them
+-- the lock word counts the newcomers since the last queue head, and there are at most c of them
 abbrev pub Counts : ℕ → Ghost → Type 0
 Counts c g = record {
   bounded : g.since_head ≤ c;
@@ -154,7 +162,7 @@ Counts c g = record {
   later : (n : ℕ) → takes_of g < n → g.left_quietly n ≡ 0;
 }
 
--- what holds of a lock that is timely
+-- what holds of a timely lock
 pub record Granted (c drawn most : ℕ) (owner who : ℕ → ℕ) (g : Ghost) (words : List ℕ) (views : List View) : Type 0 where
   pub within : g.turn ≤ drawn
   pub few : drawn ≤ g.turn + most
@@ -165,8 +173,9 @@ pub record Granted (c drawn most : ℕ) (owner who : ℕ → ℕ) (g : Ghost) (w
   pub cells : (t : ℕ) → Cell g (tally (t % 4) views) (slice_index words (cell_at t)) t
   pub each : (id : ℕ) (v : View) → get_elem? views id ≡ some v → Fits c drawn owner who g id v
 
--- The invariant of a lock with at most c newcomers between two queue heads: the tickets drawn, the most requests open at a time, who has each ticket and
--- each newcomer's number, and what the words and the views say. Where the table has a slot, no more requests are ever open than `max_open`.
+-- The invariant of a lock with at most c newcomers between two queue heads. It has the tickets drawn, the most requests
+-- that were open at a time, who has each ticket and each newcomer's number, and what the words and the views say. If
+-- the table has a slot, never more requests are open than `max_open`.
 pub record Tickets (c : ℕ) (s : State ℕ View) : Type 0 where
   pub drawn : ℕ
   pub most_open : ℕ

@@ -1,12 +1,12 @@
--- The words of a lock: which word has what, and how it is packed.
+-- The layout of a lock: what each word has, and how it is packed.
 use Rattle.std.specs.Prelude.{◌≡◌, ℕ, ◌+◌, ◌-◌, ◌/◌, ◌%◌}
 use Rattle.atomic_table.specs.Seated.{TableId}
 
--- the words of a lock's table: the lock word, fifteen words that are never written, the tail, four cells
+-- the words of a lock's table: the lock word, fifteen words that are never written, the tail, and four cells
 abbrev pub HasLockWords : TableId → Type 0
 HasLockWords table = table.words ≡ 21
 
--- the table of a lock alone; of one with a value, in the table's slot
+-- the table of a lock without a value, or of a lock with a value in the table's slot
 abbrev pub IsLockTable : TableId → Type 0
 IsLockTable table = HasLockWords table × (table.slots ≡ 0)
 
@@ -26,42 +26,43 @@ cell_at ticket = 17 + ticket % 4
 abbrev pub bit_of : ℕ → ℕ
 bit_of ticket = ticket / 4 % 16
 
--- a cell: its granted rounds modulo 2 ^ 30, and how many sleepers it counts
+-- the granted rounds of a cell, modulo 2 ^ 30, and how many sleepers the cell counts
 abbrev pub rounds_of : ℕ → ℕ
 rounds_of cell = cell / 17179869184
 
 abbrev pub count_of : ℕ → ℕ
 count_of cell = cell / 65536 % 65536
 
--- the lock word: whether a handoff is requested, and whether the queue head sleeps there
+-- the lock word's bits: whether a handoff is requested, and whether the queue head sleeps there
 abbrev pub handoff_of : ℕ → ℕ
 handoff_of lock_word = lock_word % 2
 
 abbrev pub asleep_of : ℕ → ℕ
 asleep_of lock_word = lock_word / 2 % 2
 
--- 0 free, 1 held, 2 reserved for the queue head
+-- the state of the lock word: 0 is free, 1 is held, 2 is reserved for the queue head
 abbrev pub state_of : ℕ → ℕ
 state_of lock_word = lock_word / 4 % 4
 
--- whether the lock is shut
+-- whether the lock is shut, according to the lock word
 abbrev pub shut_of : ℕ → ℕ
 shut_of lock_word = lock_word / 16 % 2
 
--- the newcomers since the last queue head
+-- how many newcomers the lock word counts since the last queue head
 abbrev pub came_of : ℕ → ℕ
 came_of lock_word = lock_word / 32
 
--- the rounds that are granted in a ticket's cell while the tickets up to `turn` are granted
+-- how many rounds are granted in a ticket's cell once all tickets up to `turn` are granted
 abbrev pub rounds : ℕ → ℕ → ℕ
 rounds turn ticket = (turn + 4 - ticket % 4) / 4
 
--- the rounds to be granted until the ticket's own is, by the word of its cell
+-- how many rounds must be granted before the ticket is at its turn, according to the word of its cell
 abbrev pub to_go : ℕ → ℕ → ℕ
 to_go cell ticket = (ticket / 4 + 1 + 1073741824 - rounds_of cell) % 1073741824
 
--- The limits of a lock, as src/layout.rt has them: the most sleepers that a cell counts; the most rounds to be granted before a request that can be
--- withdrawn; the most requests that one release passes; the greatest barging limit; the widest window of `draw_within`, and the most tickets that it draws
+-- The limits of a lock, as `src/layout.rt` has them: the most sleepers that a cell counts; the most rounds before the
+-- turn of a request that can still be withdrawn; the most requests that one release passes; the greatest barging limit;
+-- the widest window of `draw_within`; and the most tickets that `draw_within` draws.
 abbrev pub max_sleepers : ℕ
 max_sleepers = 65535
 

@@ -1,4 +1,4 @@
--- The value in the slot of a lock's table: the invariant, and what each step tells of it.
+-- The value in the slot of a lock's table: its invariant, and what each step says of it.
 use Rattle.std.specs.Prelude.{◌≡◌, ◌≢◌, ℕ, List, [], map, length}
 use mathlib.Core.Option.{Option, none, some}
 use lib.ListN.{get_elem?}
@@ -8,7 +8,7 @@ use Rattle.lock_core.specs.Views.{Carries}
 use Rattle.lock_core.specs.Invariant.{Tickets}
 
 module _ {T : Type 0} where
-  -- the words and the views alone
+  -- the words and the views alone, without the slots
   abbrev pub blanks : List (Option T) → List (Option ℕ)
   blanks hs = map (λ _. none) hs
 
@@ -18,7 +18,7 @@ module _ {T : Type 0} where
   abbrev pub bare_step : Step T → Step ℕ
   bare_step st = step st.slots st.word st.first st.second none
 
-  -- the value is at home while nobody is served
+  -- the value is in its slot while no caller is served
   pub record Slotted (c : ℕ) (s : State T View) : Type 0 where
     pub lock : Tickets c (bare s)
     pub home : length s.homes ≡ 1 → ((id : ℕ) (v : View) → get_elem? s.views id ≡ some v → v.door ≡ 0) → (y : T) × (get_elem? s.homes 0 ≡ some (some y))

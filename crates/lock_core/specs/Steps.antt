@@ -1,4 +1,4 @@
--- What each atomic step tells.
+-- What each kind of atomic step tells the caller that takes it.
 use Rattle.std.specs.Prelude.{◌==◌, ◌≡◌, ◌≢◌, ℕ, ◌+◌, ◌-◌, ◌/◌, ◌%◌, ◌<◌, ◌≤◌}
 use Rattle.std.specs.Int.{bit_at}
 use prog.Atomic.{either}
@@ -10,7 +10,8 @@ use Rattle.lock_core.specs.Layout.{asleep_of, bit_of, count_of, rounds_of, shut_
 use Rattle.lock_core.specs.Looks.{looked}
 use Rattle.lock_core.specs.Views.{OnlyLooks, DrawsAfter, IsAtTurn, GrantedToNobodyAsleep, HasGrantedNext, HasTurn, IsIdle, IsInside, IsNewcomer, IsNotServed, IsOutside, IsOvertakenInBounds, IsQueued, Kept, KnowsShut, LeftQuietly, SameInside, SameKnown, SameNewcomersSeen, SameNewcomer, SameOvertaking, SameRequest, SameSleepAtLockWord, SameTurn, ServedOpen, ServedShut, SleepsAtLockWord, TakesLockWord, Timely}
 
--- the word that a step leaves: after a load, a sum, a difference (of 0 too), an exchange where the word was the expected
+-- the word that a step leaves: after a load, an addition, a subtraction (also of 0), or an exchange that found the
+-- expected word
 abbrev pub kept_word : Step ℕ → ℕ → ℕ
 kept_word st n = n
 
@@ -23,11 +24,11 @@ subtracted_word st n = (n + (18446744073709551616 - st.first)) % 184467440737095
 abbrev pub exchanged_word : Step ℕ → ℕ → ℕ
 exchanged_word st n = either (n == st.first) st.second n
 
--- each step is counted, and what it found is noted, beside what it tells
+-- beside what a step tells, it is counted, and what it found is noted
 abbrev pub noting : (Step ℕ → ℕ → ℕ) → (Step ℕ → Me ℕ View → ℕ → Me ℕ View → Type 0) → Step ℕ → Me ℕ View → ℕ → Me ℕ View → Type 0
 noting left tells st m n m' = (m'.0.looks ≡ looked st n (left st n) m.0.looks) × tells st m n m'
 
--- What each step tells. A new caller knows nothing but what its first step found
+-- What each step tells. A new caller knows only what its first step found.
 abbrev pub comes : Step ℕ → Me ℕ View → ℕ → Me ℕ View → Type 0
 comes st m n m' = m' ≡ (record m.0 { looks = looked st n n m.0.looks }, m.1)
 
@@ -40,23 +41,24 @@ same m m' = more m m' × SameTurn m.0 m'.0
 abbrev pub draws : Step ℕ → Me ℕ View → ℕ → Me ℕ View → Type 0
 draws st m n m' = same m m' × (Timely m'.0 → IsQueued n m'.0 × DrawsAfter m.0 m'.0)
 
--- it reads how many tickets were drawn; a caller at its turn learns by this whether no request came after its own
+-- the caller reads how many tickets were drawn; a caller at its turn learns from this whether a request came after its
+-- own
 abbrev pub reads : Step ℕ → Me ℕ View → ℕ → Me ℕ View → Type 0
 reads st m n m' = same m m' × Kept m.0 m'.0 × (m'.0.door ≡ m.0.door) × (Timely m'.0 → (n ≡ m'.0.tail_seen % 18446744073709551616) × (HasTurn m.0 → n ≡ (m.0.ticket + 1) % 18446744073709551616 → m'.0.nobody_behind ≡ 1))
 
--- A caller that tries for a ticket has read the tail, and reads its cell: whether it is at its turn, and how many rounds are to be granted yet if
--- not. Then it draws the ticket, if that is still the next one.
+-- A caller that tries for a ticket has read the tail, and now reads the ticket's cell: whether the ticket is at its
+-- turn, and otherwise how many rounds it has to go. Then it draws the ticket, if that is still the next one.
 abbrev pub reads_cell : Step ℕ → Me ℕ View → ℕ → Me ℕ View → Type 0
 reads_cell st m n m' = same m m' × (Timely m'.0 → IsIdle m'.0 × (m'.0.tail_seen ≡ m.0.tail_seen) × (to_go n m.0.tail_seen ≡ 0 → m'.0.next_is_at_turn ≡ 1) × (0 < to_go n m.0.tail_seen → m'.0.next_is_at_turn ≡ 0) × (m'.0.ticket ≡ m.0.tail_seen) × (m.0.tail_seen / 4 + 1 ≤ m'.0.rounds_seen + to_go n m.0.tail_seen) × (m'.0.ended ≡ m.0.ended))
 
 abbrev pub draws_granted : Step ℕ → Me ℕ View → ℕ → Me ℕ View → Type 0
 draws_granted st m n m' = same m m' × (Timely m'.0 → (n ≡ st.first → IsAtTurn n m'.0 × DrawsAfter m.0 m'.0) × (n ≢ st.first → IsIdle m'.0 × (m'.0.tail_seen ≡ m.0.tail_seen)))
 
--- the same, if it was found near its turn: it waits, or is at its turn already
+-- the same for a ticket that was found near its turn: the caller waits, or is at its turn already
 abbrev pub draws_near : Step ℕ → Me ℕ View → ℕ → Me ℕ View → Type 0
 draws_near st m n m' = same m m' × (Timely m'.0 → (n ≡ st.first → (n ≡ m'.0.ticket % 18446744073709551616) × (m'.0.ticket ≡ m.0.tail_seen) × (m'.0.rounds_seen ≡ m.0.rounds_seen) × (m'.0.counted ≡ 0) × DrawsAfter m.0 m'.0 × (m.0.next_is_at_turn ≡ 1 → (m'.0.phase ≡ AtTurn) × (m'.0.ended ≡ m'.0.ticket)) × (m.0.next_is_at_turn ≡ 0 → m'.0.phase ≡ Queued)) × (n ≢ st.first → IsIdle m'.0 × (m'.0.tail_seen ≡ m.0.tail_seen)))
 
--- a waiter's view after a look: at its turn, counted so often, or it waits on in the phase p
+-- a waiter's view after a look: the waiter is at its turn, or waits on in the phase p, and is counted this often
 abbrev pub finds : ℕ → Phase → ℕ → View → ℕ → View → Type 0
 finds counted p waiting v n w = (w.ticket ≡ v.ticket) × (w.newcomers_at_draw ≡ v.newcomers_at_draw) × (w.first_pending ≡ v.first_pending)
     × (to_go n v.ticket ≡ 0 → (w.phase ≡ AtTurn) × (w.ended ≡ w.ticket) × (w.counted ≡ counted) × IsOvertakenInBounds w)
@@ -65,14 +67,14 @@ finds counted p waiting v n w = (w.ticket ≡ v.ticket) × (w.newcomers_at_draw 
 abbrev pub looks : Step ℕ → Me ℕ View → ℕ → Me ℕ View → Type 0
 looks st m n m' = same m m' × (Timely m'.0 → finds 0 Queued 0 m.0 n m'.0)
 
--- it counts itself, if the word is the one that it read; else it has looked
+-- the waiter counts itself, if the word is the one that it read; otherwise the step was only a look
 abbrev pub announces_sleep : Step ℕ → Me ℕ View → ℕ → Me ℕ View → Type 0
 announces_sleep st m n m' = same m m' × (Timely m'.0 → (n ≡ st.first → finds 1 Asleep 1 m.0 n m'.0) × (n ≢ st.first → finds 0 Queued 0 m.0 n m'.0))
 
 abbrev pub sets_withdrawn : Step ℕ → Me ℕ View → ℕ → Me ℕ View → Type 0
 sets_withdrawn st m n m' = same m m' × (Timely m'.0 → (m'.0.ticket ≡ m.0.ticket) × (m'.0.counted ≡ 0) × (rounds_of n ≡ (m.0.ticket / 4 + 1) % 1073741824 → (m'.0.phase ≡ Passing) × SameRequest m.0 m'.0 × IsOvertakenInBounds m'.0) × (rounds_of n ≢ (m.0.ticket / 4 + 1) % 1073741824 → m'.0.phase ≡ Idle))
 
--- a grant
+-- the caller grants the next ticket
 abbrev pub grants_to : View → ℕ → View → Type 0
 grants_to v n w = (bit_at n (bit_of (v.ticket + 1)) ≡ 0 → HasGrantedNext v w × (count_of n ≡ 0 → GrantedToNobodyAsleep w)) × (bit_at n (bit_of (v.ticket + 1)) ≡ 1 → (w.phase ≡ Passing) × (w.ticket ≡ v.ticket + 1) × (w.counted ≡ 0))
 
@@ -82,7 +84,7 @@ grants st m n m' = same m m' × (Timely m'.0 → grants_to m.0 n m'.0) × SameOv
 abbrev pub clears_withdrawn : Step ℕ → Me ℕ View → ℕ → Me ℕ View → Type 0
 clears_withdrawn st m n m' = same m m' × (Timely m'.0 → (m'.0.ticket ≡ m.0.ticket) × (m'.0.phase ≡ AtTurn) × (m'.0.ended ≡ m'.0.ticket) × (m'.0.counted ≡ 0) × SameRequest m.0 m'.0 × (m'.0.newcomers_seen ≡ m.0.newcomers_seen))
 
--- told by the lock word, in no earlier epoch
+-- the lock word told the caller this, in no earlier epoch
 abbrev pub Told : ℕ → View → View → Type 0
 Told lock_word v w = (w.door ≡ 1 + shut_of lock_word) × (w.knows_shut ≡ shut_of lock_word) × (v.epoch ≤ w.epoch)
 
@@ -107,7 +109,7 @@ reopens st m n m' = more m m' × Kept m.0 m'.0 × SameSleepAtLockWord m.0 m'.0 �
 abbrev pub announces_head_sleep : Step ℕ → Me ℕ View → ℕ → Me ℕ View → Type 0
 announces_head_sleep st m n m' = more m m' × Kept m.0 m'.0 × SameKnown m.0 m'.0 × (m'.0.door ≡ m.0.door) × (n ≡ st.first → SleepsAtLockWord m'.0) × (Timely m'.0 → n ≡ st.first → (m.0.takes_seen ≤ m'.0.slept_in_take) × (m'.0.takes_seen ≡ m'.0.slept_in_take))
 
--- nothing but what it found
+-- the step tells only what it found
 abbrev pub reads_lock_word : Step ℕ → Me ℕ View → ℕ → Me ℕ View → Type 0
 reads_lock_word st m n m' = (m'.1 ≡ m.1) × OnlyLooks m.0 m'.0
 

@@ -1,7 +1,7 @@
-//! Barging: a thread takes the lock word without a ticket, and overtakes the queue.
+//! Barging: a thread takes the lock word without a ticket, and so overtakes the queue.
 //!
-//! A thread that barges is a *newcomer*: the lock word counts it, and the barging limit bounds how many come between two
-//! queue heads.
+//! A thread that barges is a *newcomer*. The lock word counts the newcomers, and the barging limit bounds how many of
+//! them come between two queue heads.
 ghost use Rattle.std.specs.Prelude.{◌≡◌, ◌≢◌, ◌+◌, ◌/◌, ◌%◌, ◌<◌, ◌≤◌, ◌⊎◌, true, false};
 ghost use Rattle.lock_core.specs.Layout.{HasLockWords, lock_word_at};
 ghost use Rattle.lock_core.specs.Views.{InTime, InTimeFrom, LoadGrows, IsSeatOf, IsIdle, IsInside, IsNewcomer, BargesAfter, ServedOpen, SameInside};
@@ -12,16 +12,16 @@ use crate::invariant::{SharedValue, ValueSeat};
 use crate::layout::{HELD, LOCK_WORD, NEWCOMER};
 use crate::plays::{Barge, ReadLockWord};
 
-/// What `barge_if` did.
+/// What `barge_if` found and did.
 #[derive(Clone, Copy, Debug, PartialEq, Eq)]
 pub enum BargeResult {
-    /// The newcomer is inside.
+    /// The thread holds the lock word, as a newcomer.
     Inside,
-    /// It is outside. Its step found this lock word.
+    /// The thread does not hold the lock word. Its step found this value there.
     Outside { lock_word: u64 },
 }
 
-/// Whether no thread may barge by this lock word: it is held, reserved, or shut.
+/// Whether no thread may barge at this value of the lock word, because the word is held, reserved, or shut.
 #[inline(always)]
 pub(crate) fn is_no_entry(lock_word: u64) -> bool
     ensures no_entry { result ≡ true → IsNoEntry lock_word }
@@ -30,8 +30,8 @@ pub(crate) fn is_no_entry(lock_word: u64) -> bool
     lock_word / HELD % 8 != 0
 }
 
-/// Takes the lock word without a ticket, if it is `expected`, by which a thread may barge. Returns the word that was
-/// found. One atomic step.
+/// Takes the lock word without a ticket if the word is `expected`, a value at which a thread may barge. Returns the
+/// value that the step found. One atomic step.
 #[inline(always)]
 fn barge_from<T>(table: &SharedValue<T>, seat: &mut ValueSeat<T>, expected: u64) -> u64
     requires table { HasLockWords table.now.table_id }
@@ -55,7 +55,7 @@ fn barge_from<T>(table: &SharedValue<T>, seat: &mut ValueSeat<T>, expected: u64)
     table.compare_exchange::<Barge>(seat, LOCK_WORD, expected, held)
 }
 
-/// Takes the lock word without a ticket, if it is `expected`, free for barging threads, and open: one atomic step.
+/// Takes the lock word without a ticket if the word is `expected`, free for barging threads, and open. One atomic step.
 #[inline(always)]
 pub fn barge_if<T>(table: &SharedValue<T>, seat: &mut ValueSeat<T>, expected: u64) -> BargeResult
     requires table { HasLockWords table.now.table_id }
@@ -87,7 +87,8 @@ pub fn barge_if<T>(table: &SharedValue<T>, seat: &mut ValueSeat<T>, expected: u6
     BargeResult::Inside
 }
 
-/// Takes the lock word without a ticket, if it is free for barging threads and open: at most two atomic steps.
+/// Takes the lock word without a ticket if the word is free for barging threads and open. At most two atomic steps.
+/// Returns whether the thread holds the lock word.
 #[inline(always)]
 pub fn barge<T>(table: &SharedValue<T>, seat: &mut ValueSeat<T>) -> bool
     requires table { HasLockWords table.now.table_id }

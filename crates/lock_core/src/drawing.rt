@@ -1,4 +1,4 @@
-//! A caller requests the lock: it draws a ticket, which is its place in the order.
+//! Requests: a caller draws a ticket, whose number is its place in the order.
 ghost use Rattle.std.specs.Prelude.{◌≡◌, ◌<◌, ◌≤◌, IfSome, IfNone};
 ghost use Rattle.lock_core.specs.Layout.{withdrawal_window, max_window, max_tickets, IsLockTable, cell_at, to_go, HasLockWords, tail_at};
 ghost use Rattle.lock_core.specs.Views.{view_of, InTime, InTimeFrom, LoadGrows, IsSeatOf, IsIdle, IsQueued, IsQueuedWithin, IsAtTurn, IsOvertakenInBounds, DrawsAfter, SameTurn};
@@ -9,35 +9,36 @@ use crate::invariant::{SharedTable, SharedValue, TicketSeat, ValueSeat};
 use crate::layout::{MAX_TICKETS, TAIL, WITHDRAWAL_WINDOW, cell_word, rounds_to_go};
 use crate::plays::{Draw, DrawGranted, DrawNear, ReadCell, ReadTail};
 
-/// What `draw_near` did.
+/// What `draw_near` found and did.
 #[derive(Clone, Copy, Debug, PartialEq, Eq)]
 pub enum DrawNearResult {
-    /// It drew this ticket, which is at its turn.
+    /// The caller drew this ticket, which is at its turn.
     AtTurn { ticket: u64 },
-    /// It drew this ticket. `rounds` rounds, at most `WITHDRAWAL_WINDOW`, are to be granted until the ticket's own is.
+    /// The caller drew this ticket. `rounds` rounds, at most `WITHDRAWAL_WINDOW`, must be granted before the ticket is
+    /// at its turn.
     Queued { ticket: u64, rounds: u64 },
-    /// It drew none. The next ticket has `rounds` rounds to go, more than `WITHDRAWAL_WINDOW`.
+    /// The caller drew no ticket. The next ticket has `rounds` rounds to go, which is more than `WITHDRAWAL_WINDOW`.
     Far { rounds: u64 },
-    /// It drew none: another caller drew at that moment.
+    /// The caller drew no ticket, because another caller drew one at that moment.
     Changed,
 }
 
-/// What `draw_within` did.
+/// What `draw_within` found and did.
 #[derive(Clone, Copy, Debug, PartialEq, Eq)]
 pub enum DrawWithinResult {
-    /// It drew this ticket, which is at its turn.
+    /// The caller drew this ticket, which is at its turn.
     AtTurn { ticket: u64 },
-    /// It drew this ticket. `rounds` rounds are to be granted until the ticket's own is.
+    /// The caller drew this ticket. `rounds` rounds must be granted before the ticket is at its turn.
     Queued { ticket: u64, rounds: u64 },
-    /// It drew none. The next ticket has `rounds` rounds to go, more than the window.
+    /// The caller drew no ticket. The next ticket has `rounds` rounds to go, which is more than the window.
     Far { rounds: u64 },
-    /// It drew none: another caller drew at that moment.
+    /// The caller drew no ticket, because another caller drew one at that moment.
     Changed,
-    /// It drew none, and no call will: `MAX_TICKETS` are drawn.
+    /// The caller drew no ticket, and no later call will draw one, because all `MAX_TICKETS` have been drawn.
     Spent,
 }
 
-/// Draws the next ticket, which is never refused: one atomic step.
+/// Draws the next ticket. The call never refuses, and takes one atomic step.
 #[inline(always)]
 pub fn draw(table: &SharedTable, seat: &mut TicketSeat) -> u64
     requires table { IsLockTable table.now.table_id }
@@ -53,7 +54,8 @@ pub fn draw(table: &SharedTable, seat: &mut TicketSeat) -> u64
     table.fetch_add::<Draw>(seat, TAIL, 1)
 }
 
-/// Draws the next ticket if that is at its turn: at most three atomic steps. `None` leaves nothing behind.
+/// Draws the next ticket if that ticket is at its turn. At most three atomic steps. A call that returns `None` leaves
+/// nothing behind.
 #[inline(always)]
 pub fn try_draw(table: &SharedTable, seat: &mut TicketSeat) -> Option<u64>
     requires table { IsLockTable table.now.table_id }
@@ -81,8 +83,8 @@ pub fn try_draw(table: &SharedTable, seat: &mut TicketSeat) -> Option<u64>
     Some(ticket)
 }
 
-/// Draws the next ticket if the request could be withdrawn: at most three atomic steps. A call that draws none leaves
-/// nothing behind.
+/// Draws the next ticket if its request could be withdrawn. At most three atomic steps. A call that draws no ticket
+/// leaves nothing behind.
 #[inline(always)]
 pub fn draw_near(table: &SharedTable, seat: &mut TicketSeat) -> DrawNearResult
     requires table { IsLockTable table.now.table_id }
@@ -123,11 +125,11 @@ pub fn draw_near(table: &SharedTable, seat: &mut TicketSeat) -> DrawNearResult
     DrawNearResult::Queued { ticket, rounds }
 }
 
-/// Draws the next ticket if at most `window` rounds, of four tickets each, are to be granted until its own is: at most
-/// three atomic steps. A call that draws none leaves nothing behind.
+/// Draws the next ticket if at most `window` rounds, of four tickets each, must be granted before that ticket is at its
+/// turn. At most three atomic steps. A call that draws no ticket leaves nothing behind.
 ///
-/// Callers of a table with a value draw in no other way. So at most 2^29 requests and one are open there, with the
-/// widest window, and the premise of this crate is a fact.
+/// Callers of a table with a value draw in no other way. Therefore at most 2^29 + 1 requests are open there, even with
+/// the widest window, and the premise of this crate is a fact.
 #[inline(always)]
 pub fn draw_within<T>(
     table: &SharedValue<T>,

@@ -1,5 +1,5 @@
-//! The queue head, which is the first waiter of a barging lock, looks at the lock word, takes it, and announces its
-//! sleep there.
+//! The queue head looks at the lock word, takes it, and announces its sleep there. The queue head is the first waiter
+//! of a barging lock.
 ghost use Rattle.std.specs.Prelude.{◌≡◌, ◌≢◌, ◌+◌, ◌/◌, ◌%◌, ◌<◌, ◌≤◌, ◌⊎◌, true, false};
 ghost use Rattle.lock_core.specs.Layout.{HasLockWords, lock_word_at, state_of, handoff_of, asleep_of};
 ghost use Rattle.lock_core.specs.Views.{view_of, InTime, InTimeFrom, LoadGrows, IsSeatOf, IsAtTurn, IsOvertakenInBounds, IsHeadInside, TakesLockWord, SleepsAtLockWord, ServedOpen, ServedShut, KnowsShut, Kept, SameRequest, SameNewcomer, SameKnown, SameSleepAtLockWord, IsLaterEpoch, SleepsInTake, SameDoor, SameInside, OnlyLooks};
@@ -14,8 +14,8 @@ use crate::plays::{AnnounceHeadSleep, ReadLockWord, RequestHandoff, TakeLockWord
 /// What the lock word says to the queue head.
 #[derive(Clone, Copy, Debug, PartialEq, Eq)]
 pub enum LockWordState {
-    /// A thread holds the lock. `newcomers` is how many threads have barged since a queue head last took the lock word,
-    /// and `requested` says whether the queue head has requested a handoff.
+    /// A thread holds the lock. `newcomers` threads have barged since a queue head last took the lock word, and
+    /// `requested` says whether the queue head has requested a handoff.
     Held { newcomers: u64, requested: bool },
     /// The lock is free, and any thread may take it. `newcomers` is as above.
     Free { newcomers: u64 },
@@ -39,8 +39,8 @@ pub enum TakeResult {
 /// What `announce_head_sleep` did.
 #[derive(Clone, Copy, Debug, PartialEq, Eq)]
 pub enum HeadSleepResult {
-    /// The queue head may sleep while the lower 32 bits of the lock word are those of `lock_word`. The thread that leaves
-    /// the word is told of the sleep.
+    /// The queue head may sleep while the lower 32 bits of the lock word are those of `lock_word`. The thread that
+    /// leaves the word is told of the sleep.
     Asleep { lock_word: u64 },
     /// The lock is free: the queue head may take the lock word.
     NotHeld,
@@ -48,7 +48,7 @@ pub enum HeadSleepResult {
     Changed,
 }
 
-/// Reads the lock word: one atomic step, which changes nothing.
+/// Reads the lock word. One atomic step, which changes nothing.
 #[inline(always)]
 pub fn read_lock_word<T>(table: &SharedValue<T>, seat: &mut ValueSeat<T>) -> LockWordState
     requires table { HasLockWords table.now.table_id }
@@ -77,8 +77,8 @@ pub fn read_lock_word<T>(table: &SharedValue<T>, seat: &mut ValueSeat<T>) -> Loc
     }
 }
 
-/// Takes the lock word for the queue head, free or reserved, and resets the count of newcomers: at most two atomic
-/// steps. Inside, the queue head passes its turn of the queue on by `release`.
+/// Takes the lock word for the queue head, if it is free or reserved, and resets the count of newcomers. At most two
+/// atomic steps. Once the queue head holds the word, it passes its turn of the queue on by `release`.
 #[inline(always)]
 pub fn take_lock_word<T>(table: &SharedValue<T>, seat: &mut ValueSeat<T>, ticket: u64) -> TakeResult
     requires table { HasLockWords table.now.table_id }
@@ -126,8 +126,8 @@ pub fn take_lock_word<T>(table: &SharedValue<T>, seat: &mut ValueSeat<T>, ticket
     }
 }
 
-/// Requests for the queue head that the thread inside leaves the lock word reserved: at most two atomic steps. `false`:
-/// the lock word changed at that moment, and the queue head must look again.
+/// Requests for the queue head that the thread that holds the lock word leave it reserved. At most two atomic steps.
+/// `false` means that the lock word changed at that moment, so the queue head must look again.
 #[inline(always)]
 pub fn request_handoff<T>(table: &SharedValue<T>, seat: &mut ValueSeat<T>) -> bool
     requires table { HasLockWords table.now.table_id }
@@ -149,8 +149,8 @@ pub fn request_handoff<T>(table: &SharedValue<T>, seat: &mut ValueSeat<T>) -> bo
         == lock_word
 }
 
-/// Notes in the lock word that the queue head sleeps there, while the word is held: at most two atomic steps. Then the
-/// thread that leaves the word is told of the sleep.
+/// Notes in the lock word that the queue head sleeps there, if the word is held. At most two atomic steps. The thread
+/// that leaves the word is then told of the sleep.
 #[inline(always)]
 pub fn announce_head_sleep<T>(table: &SharedValue<T>, seat: &mut ValueSeat<T>) -> HeadSleepResult
     requires table { HasLockWords table.now.table_id }

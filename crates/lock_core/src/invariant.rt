@@ -1,4 +1,4 @@
-//! A lock's table, and the invariant that it keeps.
+//! The types of a lock's table and of its callers' seats, and the invariant that the table keeps.
 ghost use Rattle.lock_core.specs.Views.{max_newcomers_of, initial_view};
 ghost use Rattle.lock_core.specs.Slots.{Slotted};
 
@@ -6,7 +6,7 @@ use crate::view::View;
 use atomic_table::{Seat, Shared, Table, TableRule};
 use std::alloc::Global;
 
-/// The invariant. The table's key is the barging limit, which is 1 in a strict lock.
+/// The invariant of a lock's table. The table's key is the barging limit, which is 1 in a strict lock.
 pub struct LockInvariant;
 
 impl<T> TableRule<T, View, u64> for LockInvariant {
@@ -15,20 +15,20 @@ impl<T> TableRule<T, View, u64> for LockInvariant {
     ghost first = { λ barging_limit. initial_view (max_newcomers_of barging_limit) };
 }
 
-/// A lock, as its callers share it.
+/// A lock without a value, as its callers share it.
 pub type SharedTable = Shared<u64, View, u64, LockInvariant>;
 
-/// A lock, as its owner has it.
+/// A lock without a value, as its owner has it.
 pub type TicketTable = Table<u64, View, u64, LockInvariant, Global>;
 
-/// A caller of a lock.
+/// The seat by which one caller steps on a lock without a value.
 pub type TicketSeat = Seat<u64, View>;
 
-/// A lock, maybe with a value in the table's slot, as its callers share it.
+/// A lock, possibly with a value in the table's slot, as its callers share it.
 pub type SharedValue<T> = Shared<T, View, u64, LockInvariant>;
 
 /// A lock with a value, as its owner has it.
 pub type ValueTable<T> = Table<T, View, u64, LockInvariant, Global>;
 
-/// A caller of a lock, which has the value while it is served.
+/// The seat by which one caller steps on a lock with a value. The seat has the value while its caller is served.
 pub type ValueSeat<T> = Seat<T, View>;

@@ -1,13 +1,13 @@
-//! The words of a lock, what each packs, and the limits of a lock. Each of these numbers has its name here alone.
+//! The words of a lock, what each word packs, and the limits of a lock. Each of these numbers has its name only here.
 //!
-//! - Word 0 is the lock word. Bit 0: a handoff is requested. Bit 1: the queue head sleeps there. Bits 2 and 3: its state
-//!   (0 free, 1 held, 2 reserved for the queue head). Bit 4: the lock is shut. From bit 5 on: the *newcomers*, which are
-//!   the threads that barged, since the last queue head.
+//! - Word 0 is the lock word. Bit 0 says that a handoff is requested, and bit 1 that the queue head sleeps there. Bits
+//!   2 and 3 are the state: 0 is free, 1 is held, and 2 is reserved for the queue head. Bit 4 says that the lock is
+//!   shut. The bits from 5 on count the *newcomers*, which are the threads that have barged since the last queue head.
 //! - Words 1 to 15 are never written.
-//! - Word 16 is the tail, the number of the next ticket.
-//! - Words 17 to 20 are cells. Ticket t has cell t mod 4, in round t div 4. Bits 0 to 15 of a cell: the withdrawn
-//!   requests, by their round modulo 16. Bits 16 to 31: a count of sleepers. From bit 34 on: the granted rounds modulo
-//!   2^30.
+//! - Word 16 is the tail, which is the number of the next ticket.
+//! - Words 17 to 20 are cells. Ticket t has cell t mod 4, in round t div 4. Bits 0 to 15 of a cell mark the withdrawn
+//!   requests, each by its round modulo 16. Bits 16 to 31 count sleepers. The bits from 34 on count the granted rounds
+//!   modulo 2^30.
 ghost use Rattle.std.specs.Prelude.{◌≡◌, ◌≢◌, ◌+◌, ◌/◌, ◌%◌, ◌^◌, true, false};
 ghost use Rattle.std.specs.Int.{bit_at};
 ghost use Rattle.lock_core.specs.Layout.{cell_at, bit_of, count_of, rounds_of, shut_of, state_of, to_go};
@@ -27,64 +27,64 @@ pub const FIRST_CELL: usize = 17;
 /// The number of cells.
 pub const CELLS: u64 = 4;
 
-/// A round, in a cell.
+/// One granted round, as a cell counts it.
 pub const ROUND: u64 = 1 << 34;
 
 /// A cell counts its rounds modulo this number.
 const ROUNDS: u64 = 1 << 30;
 
-/// A sleeper, in a cell.
+/// One sleeper, as a cell counts it.
 pub const SLEEPER: u64 = 1 << 16;
 
-/// In the lock word: the queue head requests a handoff.
+/// The bit of the lock word by which the queue head requests a handoff.
 pub const HANDOFF: u64 = 1;
 
-/// In the lock word: the queue head sleeps there.
+/// The bit of the lock word that says that the queue head sleeps there.
 pub const HEAD_ASLEEP: u64 = 2;
 
-/// The state of the lock word: held.
+/// The state of a lock word that a thread holds.
 pub const HELD: u64 = 4;
 
-/// The state of the lock word: free for the queue head alone.
+/// The state of a lock word that is free for the queue head alone.
 pub const RESERVED: u64 = 8;
 
-/// In the lock word: the lock is shut.
+/// The bit of the lock word that says that the lock is shut.
 pub const SHUT: u64 = 16;
 
-/// A newcomer, in the lock word: a thread that barged.
+/// One newcomer, as the lock word counts it: a thread that barged.
 pub const NEWCOMER: u64 = 32;
 
-/// What barging adds to the lock word: it is held, after one newcomer more.
+/// What a barging thread adds to the lock word: the word is then held, and counts one newcomer more.
 pub const BARGED: u64 = HELD + NEWCOMER;
 
 /// The most sleepers that a cell can count.
 pub const MAX_SLEEPERS: u64 = 65535;
 
-/// The window of withdrawal: a request can be withdrawn while at most this number of rounds is to be granted before its
-/// own is.
+/// The window of withdrawal: a request can be withdrawn while at most this number of rounds must be granted before its
+/// own round.
 pub const WITHDRAWAL_WINDOW: u64 = 15;
 
 /// The most withdrawn requests that one release passes.
 pub const MAX_PASSED: u64 = 64;
 
-/// The least barging limit. In a strict lock it is 1, which lets no thread barge.
+/// The least barging limit. A strict lock has the limit 1, which lets no thread barge.
 pub const MIN_BARGING_LIMIT: u64 = 2;
 
 /// The greatest barging limit.
 pub const MAX_BARGING_LIMIT: u64 = 65535;
 
-/// The most requests that may be open at one time: the premise of each claim of this crate.
+/// The most requests that may be open at one time. Each claim of this crate has this bound as its premise.
 pub const MAX_OPEN: u64 = ROUNDS - 1;
 
-/// The widest window of `draw_within`, in rounds of four tickets: then at most 2^29 requests and one are open.
+/// The widest window of `draw_within`, in rounds of four tickets. With this window, at most 2^29 + 1 requests are open.
 pub const MAX_WINDOW: u64 = 1 << 27;
 
 const _: () = prove!(MAX_WINDOW * CELLS + 1 <= MAX_OPEN);
 
-/// The most tickets that `draw_within` draws, in all.
+/// The most tickets that `draw_within` ever draws from one lock.
 pub const MAX_TICKETS: u64 = 1 << 63;
 
-/// The number of the word of a ticket's cell.
+/// The number of the word that is the ticket's cell.
 #[inline(always)]
 pub(crate) fn cell_word(ticket: u64) -> usize
     ensures { result ≡ cell_at ticket }
@@ -100,7 +100,7 @@ pub(crate) fn bit(ticket: u64) -> u64
     1 << (ticket / CELLS % 16)
 }
 
-/// The number of rounds to be granted until the ticket's own is, by the word of its cell.
+/// How many rounds must be granted before the ticket is at its turn, according to the word of its cell.
 #[inline(always)]
 pub(crate) fn rounds_to_go(cell: u64, ticket: u64) -> u64
     ensures { result ≡ to_go cell ticket }
@@ -108,7 +108,7 @@ pub(crate) fn rounds_to_go(cell: u64, ticket: u64) -> u64
     (ticket / CELLS + 1 + ROUNDS - cell / ROUND) % ROUNDS
 }
 
-/// Whether the last granted round is the ticket's, by the word of its cell.
+/// Whether the last granted round is the ticket's, according to the word of its cell.
 #[inline(always)]
 pub(crate) fn is_round_of(cell: u64, ticket: u64) -> bool
     ensures yes { result ≡ true → rounds_of cell ≡ (ticket / 4 + 1) % 1073741824 }
@@ -117,7 +117,7 @@ pub(crate) fn is_round_of(cell: u64, ticket: u64) -> bool
     cell / ROUND == (ticket / CELLS + 1) % ROUNDS
 }
 
-/// Whether the ticket's request is withdrawn, by the word of its cell.
+/// Whether the ticket's request is withdrawn, according to the word of its cell.
 #[inline(always)]
 pub(crate) fn is_withdrawn(cell: u64, ticket: u64) -> bool
     ensures withdrawn { result ≡ true → bit_at cell (bit_of ticket) ≡ 1 }
@@ -126,7 +126,7 @@ pub(crate) fn is_withdrawn(cell: u64, ticket: u64) -> bool
     (cell >> (ticket / CELLS % 16)) % 2 == 1
 }
 
-/// The number of sleepers that a cell's word counts.
+/// The number of sleepers that the word of a cell counts.
 #[inline(always)]
 pub(crate) fn sleepers(cell: u64) -> u64
     ensures { result ≡ count_of cell }
@@ -142,7 +142,7 @@ pub(crate) fn state(lock_word: u64) -> u64
     lock_word / HELD % 4
 }
 
-/// Whether the lock is shut.
+/// Whether the lock is shut, according to the lock word.
 #[inline(always)]
 pub(crate) fn is_shut(lock_word: u64) -> bool
     ensures shut { result ≡ true → shut_of lock_word ≡ 1 }

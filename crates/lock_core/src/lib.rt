@@ -1,5 +1,7 @@
-//! The core of a ticket lock for any number of threads, in strict order or with barging: its invariant, and its atomic
-//! steps. No call waits.
+//! The core of a ticket lock for any number of threads, which is strict or lets threads barge.
+//!
+//! The crate has the atomic steps of the lock, the contract of each step, and the invariant that all steps keep. No
+//! call waits: a caller spins, parks and wakes by its own means. `fair_lock` and `qolb_locks` call these functions.
 #![tactic(auto)]
 
 mod barging;

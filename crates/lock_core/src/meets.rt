@@ -1,7 +1,7 @@
 //! The theorems about two callers of a lock.
 //!
-//! A clause speaks of the seat of one caller. A theorem about two callers is therefore a function that is lent both seats
-//! and ensures that the two cannot meet. No program calls these functions; the proof of a caller may.
+//! A clause speaks of the seat of one caller. A theorem about two callers is therefore a function that borrows both
+//! seats and ensures that the two cannot meet. No program calls these functions, but the proof of a caller may.
 ghost use Rattle.std.specs.Prelude.{◌≡◌, ◌<◌, ◌≤◌, []};
 ghost use Rattle.lock_core.specs.Layout.{HasLockWords, IsLockTable};
 ghost use Rattle.lock_core.specs.Views.{view_of, InTime, NeverInTime, LoadGrows, KeepsValue, IsSeatOf, IsIdle, IsOutside, HasTurn, HasTurnAwake, IsNotServed, KnowsShut, LeftQuietly, ServedOpen, SleepsAtLockWord};
@@ -10,8 +10,8 @@ ghost use Rattle.lock_core.specs.Meets.{Served, IsWaiting, IsWaitingOpen, IsWait
 use crate::invariant::{SharedTable, SharedValue, TicketSeat, ValueSeat};
 use crate::plays::{Learn, LearnEnded, Meet, Tell, TellOrder};
 
-/// Exclusion: no two callers are served at one time. In a strict lock the caller at its turn is served; in a barging
-/// lock the caller inside.
+/// Exclusion: no two callers are served at the same time. In a strict lock the caller at its turn is served; in a
+/// barging lock, the caller inside.
 pub fn never_two(table: &SharedTable, seat: &mut TicketSeat, other: TicketSeat)
     requires table { IsLockTable table.now.table_id }
     requires seat { IsSeatOf table.now.table_id table.now.key seat.old }
@@ -24,7 +24,7 @@ pub fn never_two(table: &SharedTable, seat: &mut TicketSeat, other: TicketSeat)
     table.load::<Meet>(seat, 0);
 }
 
-/// No two callers are at their turn by a ticket: a barging lock has at most one queue head.
+/// No two callers are at their turn by a ticket. A barging lock therefore has at most one queue head.
 pub fn never_two_heads(table: &SharedTable, seat: &mut TicketSeat, other: TicketSeat)
     requires table { IsLockTable table.now.table_id }
     requires seat { IsSeatOf table.now.table_id table.now.key seat.old }
@@ -37,7 +37,7 @@ pub fn never_two_heads(table: &SharedTable, seat: &mut TicketSeat, other: Ticket
     table.load::<Meet>(seat, 0);
 }
 
-/// Order: nobody is at its turn by a ticket while a caller with a smaller ticket waits.
+/// Order: no caller is at its turn by a ticket while another caller waits with a smaller ticket.
 pub fn first_come(table: &SharedTable, seat: &mut TicketSeat, other: TicketSeat)
     requires table { IsLockTable table.now.table_id }
     requires seat { IsSeatOf table.now.table_id table.now.key seat.old }
@@ -51,8 +51,8 @@ pub fn first_come(table: &SharedTable, seat: &mut TicketSeat, other: TicketSeat)
     table.load::<Meet>(seat, 0);
 }
 
-/// No lost wake-up: no caller granted a ticket and was told that nobody sleeps for it, while another has announced its
-/// sleep for that ticket.
+/// No lost wake-up: if one caller has announced its sleep for a ticket, no other caller granted that ticket and was
+/// told that nobody sleeps for it.
 pub fn no_lost_wake(table: &SharedTable, seat: &mut TicketSeat, other: TicketSeat)
     requires table { IsLockTable table.now.table_id }
     requires seat { IsSeatOf table.now.table_id table.now.key seat.old }
@@ -65,8 +65,8 @@ pub fn no_lost_wake(table: &SharedTable, seat: &mut TicketSeat, other: TicketSea
     table.load::<Meet>(seat, 0);
 }
 
-/// No lost wake-up at the lock word: no caller left it and was told that no queue head sleeps, while a queue head had
-/// announced its sleep when that caller was inside.
+/// No lost wake-up at the lock word: if a queue head had announced its sleep while a caller was inside, that caller did
+/// not leave the lock word with the answer that no queue head sleeps.
 pub fn no_lost_wake_at_lock_word(table: &SharedTable, seat: &mut TicketSeat, other: TicketSeat)
     requires table { IsLockTable table.now.table_id }
     requires seat { IsSeatOf table.now.table_id table.now.key seat.old }
@@ -80,7 +80,7 @@ pub fn no_lost_wake_at_lock_word(table: &SharedTable, seat: &mut TicketSeat, oth
     table.load::<Meet>(seat, 0);
 }
 
-/// After a shut nobody is served, told that the lock is open, until it is reopened.
+/// After the lock was shut, no caller is served and told that the lock is open until the lock is reopened.
 pub fn none_served_after_shut(table: &SharedTable, seat: &mut TicketSeat, other: TicketSeat)
     requires table { IsLockTable table.now.table_id }
     requires seat { IsSeatOf table.now.table_id table.now.key seat.old }
@@ -107,8 +107,8 @@ pub fn none_left_at_reopening(table: &SharedTable, seat: &mut TicketSeat, other:
     table.load::<Meet>(seat, 0);
 }
 
-/// While a caller is served, told that the lock is open, nobody waits with a ticket that was drawn in this epoch while the
-/// lock was shut.
+/// While a caller is served and told that the lock is open, no caller waits with a ticket that was drawn in this epoch
+/// while the lock was shut.
 pub fn drawn_while_open(table: &SharedTable, seat: &mut TicketSeat, other: TicketSeat)
     requires table { IsLockTable table.now.table_id }
     requires seat { IsSeatOf table.now.table_id table.now.key seat.old }
@@ -122,7 +122,8 @@ pub fn drawn_while_open(table: &SharedTable, seat: &mut TicketSeat, other: Ticke
     table.load::<Meet>(seat, 0);
 }
 
-/// No two acquisitions of newcomers have the same place between two queue heads: so there are at most `max_newcomers`.
+/// No two acquisitions by newcomers have the same place between two queue heads. Therefore at most `max_newcomers` of
+/// them come between two queue heads.
 pub fn places_differ(table: &SharedTable, seat: &mut TicketSeat, other: TicketSeat)
     requires table { IsLockTable table.now.table_id }
     requires seat { IsSeatOf table.now.table_id table.now.key seat.old }
@@ -135,7 +136,8 @@ pub fn places_differ(table: &SharedTable, seat: &mut TicketSeat, other: TicketSe
     table.load::<Meet>(seat, 0);
 }
 
-/// Returns a seat for another caller, which knows what this one knows of ended requests, acquisitions and closing.
+/// Returns a seat for another caller. That caller knows what this one knows of ended requests, acquisitions and
+/// closing.
 pub fn tell(table: &SharedTable, seat: &mut TicketSeat) -> TicketSeat
     requires table { IsLockTable table.now.table_id }
     requires seat { IsSeatOf table.now.table_id table.now.key seat.old }
@@ -147,7 +149,8 @@ pub fn tell(table: &SharedTable, seat: &mut TicketSeat) -> TicketSeat
     table.split_seat::<Tell>(seat)
 }
 
-/// Before its request a caller learns what another one knows: then its request is behind that one's last turn.
+/// Before its request, a caller learns what another caller knows. The request is then behind the other caller's last
+/// turn.
 pub fn learn(table: &SharedTable, seat: &mut TicketSeat, other: TicketSeat)
     requires table { IsLockTable table.now.table_id }
     requires seat { IsSeatOf table.now.table_id table.now.key seat.old }
@@ -164,7 +167,7 @@ pub fn learn(table: &SharedTable, seat: &mut TicketSeat, other: TicketSeat)
 
 /// Order: each request that another caller knows to have ended is before the request of a caller at its turn. One load.
 ///
-/// So turns end in the order of tickets. The caller at its turn may call it.
+/// Turns therefore end in the order of tickets. A caller at its turn may call this function.
 pub fn learn_order<T>(table: &SharedValue<T>, seat: &mut ValueSeat<T>, other: ValueSeat<T>)
     requires table { HasLockWords table.now.table_id }
     requires seat { IsSeatOf table.now.table_id table.now.key seat.old }

@@ -1,4 +1,4 @@
-//! A lock is opened, and callers come.
+//! Opening: a lock is made, and each caller gets a seat.
 ghost use Rattle.std.specs.Prelude.{◌≡◌, ◌≢◌, ◌≤◌, IfOk, IfErr, length};
 ghost use Rattle.lock_core.specs.Layout.{max_barging_limit, HasLockWords, IsLockTable, IsValueTable};
 ghost use Rattle.lock_core.specs.Views.{view_of, IsSeatOf, IsOutside};
@@ -11,14 +11,14 @@ use atomic_table::Refused;
 use std::alloc::Global;
 use thiserror::Error;
 
-/// The order in which a lock serves its callers.
+/// Whether a lock is strict or lets threads barge.
 #[derive(Clone, Copy, Debug, PartialEq, Eq)]
 pub enum LockKind {
-    /// Strict: in the order of tickets.
+    /// A strict lock serves its callers in the order of their tickets.
     Strict,
-    /// With barging: threads without a ticket may overtake the queue. The number is the barging limit, from
-    /// `MIN_BARGING_LIMIT` to `MAX_BARGING_LIMIT`: the most acquisitions from one queue head's to the next, the head's
-    /// own among them.
+    /// In a barging lock, threads without a ticket may overtake the queue. The number is the barging limit, from
+    /// `MIN_BARGING_LIMIT` to `MAX_BARGING_LIMIT`: the most acquisitions from one queue head's to the next, including
+    /// the head's own.
     Barging(u16),
 }
 
@@ -54,7 +54,7 @@ const FIRST_WORDS: [u64; 21] = [
     0, 0, 0, 0, 0, 0, 0, 0, 0, 0, 0, 0, 0, 0, 0, 0, 0, ROUND, 0, 0, 0,
 ];
 
-/// Refuses a barging limit of less than two, as opening does.
+/// Refuses a barging limit of less than two, as `open` does.
 pub fn check_kind(kind: LockKind) -> Result<(), OpenError>
     ensures long { IfOk result (λ _. HasValidLimit kind) }
     ensures err { IfErr result (λ e. (e ≢ OpenError.Memory) × IsOpenErrorOf kind e) }
@@ -67,8 +67,8 @@ pub fn check_kind(kind: LockKind) -> Result<(), OpenError>
     Ok(())
 }
 
-/// Opens a lock: allocates one block of 168 bytes, its words. The error names a barging limit of less than two, or that
-/// memory is short. Nothing is kept then.
+/// Opens a lock, and allocates its words in one block of 168 bytes. The call fails if the barging limit is less than
+/// two or if memory is short, and then it keeps nothing.
 pub fn open(alloc: Global, kind: LockKind) -> Result<TicketTable, OpenError>
     ensures table { IfOk result (λ lock. IsLockTable lock.shared.table_id) }
     ensures kind { IfOk result (λ lock. lock.shared.key ≡ barging_limit_of kind) }
@@ -82,15 +82,16 @@ pub fn open(alloc: Global, kind: LockKind) -> Result<TicketTable, OpenError>
     }
 }
 
-/// Why a lock was not opened, with the values.
+/// Why a lock was not opened, with the values that the caller handed in.
 #[derive(Drop)]
 pub struct OpenValueError<T> {
     pub error: OpenError,
     pub values: Vec<T>,
 }
 
-/// Opens a lock with the one value in `values`: allocates two blocks, for the words and the value. The error names a
-/// barging limit of less than two, or that memory is short, and has the value. Nothing is kept then.
+/// Opens a lock with the one value in `values`, and allocates two blocks, for the words and for the value. The call
+/// fails if the barging limit is less than two or if memory is short. Then it keeps nothing, and the error returns the
+/// value.
 pub fn open_value<T>(
     alloc: Global,
     kind: LockKind,
@@ -115,7 +116,7 @@ pub fn open_value<T>(
     }
 }
 
-/// Returns a seat for a new caller: one load, of a word that is never written.
+/// Returns a seat for a new caller. One load, of a word that is never written.
 #[inline(always)]
 pub fn new_seat<T>(table: &SharedValue<T>) -> ValueSeat<T>
     requires table { HasLockWords table.now.table_id }

@@ -1,4 +1,5 @@
-//! The kinds of atomic steps, and what each tells its caller.
+//! The kinds of atomic steps, and what each kind tells its caller. The name of a kind is a type argument of the
+//! operation on the table.
 ghost use Rattle.lock_core.specs.Views as views;
 ghost use Rattle.lock_core.specs.Slots as slots;
 ghost use Rattle.lock_core.specs.Steps as steps;
@@ -7,7 +8,7 @@ ghost use Rattle.lock_core.specs.Meets as meets;
 use crate::view::View;
 use atomic_table::{Join, Play, Split};
 
-/// A new caller comes.
+/// A new caller gets its seat.
 pub(crate) struct Come;
 
 impl<T> Play<T, View> for Come {
@@ -63,7 +64,7 @@ impl<T> Play<T, View> for AnnounceSleep {
     ghost then = { slots.with_slot (steps.noting steps.exchanged_word steps.announces_sleep) };
 }
 
-/// A waiter sets its bit.
+/// A waiter marks its request as withdrawn in its cell.
 pub(crate) struct SetWithdrawn;
 
 impl<T> Play<T, View> for SetWithdrawn {
@@ -77,7 +78,7 @@ impl<T> Play<T, View> for Grant {
     ghost then = { slots.with_slot (steps.noting steps.added_word steps.grants) };
 }
 
-/// The caller that has the turn of a withdrawn request clears its bit.
+/// The caller that has the turn of a withdrawn request clears its mark.
 pub(crate) struct ClearWithdrawn;
 
 impl<T> Play<T, View> for ClearWithdrawn {
@@ -187,7 +188,7 @@ impl Join<View> for LearnEnded {
     ghost spent = { views.initial_view 0 };
 }
 
-/// These requests are before its own.
+/// A caller at its turn is told that the requests that it knows to have ended are before its own.
 pub(crate) struct TellOrder;
 
 impl<T> Play<T, View> for TellOrder {

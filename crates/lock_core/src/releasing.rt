@@ -1,4 +1,4 @@
-//! A turn of the queue is released, and the lock word is left.
+//! Releases: the caller at its turn grants the next ticket, and the caller that holds the lock word leaves it.
 ghost use Rattle.std.specs.Prelude.{◌≡◌, ◌+◌, ◌%◌, ◌^◌, ◌≤◌, true, false, ◌≢◌, ◌/◌, ◌<◌};
 ghost use Rattle.lock_core.specs.Layout.{max_passed, HasLockWords, cell_at, count_of, lock_word_at, state_of, asleep_of};
 ghost use Rattle.lock_core.specs.Views.{view_of, InTime, InTimeFrom, LoadGrows, IsSeatOf, IsIdle, IsAtTurn, IsPassing, HasTurnOf, HasGrantedNext, HasNextTicket, HasEnded, IsNotServed, SameRequest, SameNewcomersSeen, SameOvertaking, GrantedAfter, GrantedToNobodyAsleep, SameTurn, IsInside, IsOutside, LeftQuietly, SameNewcomer, SameKnown, LeavesSameTake, SameDoor};
@@ -15,23 +15,26 @@ use crate::plays::{ClearWithdrawn, Grant, Leave, ReadLockWord};
 /// What `release` did.
 #[derive(Clone, Copy, Debug, PartialEq, Eq)]
 pub enum ReleaseResult {
-    /// The next ticket is granted. `sleepers` were counted at its cell: the caller must wake them.
+    /// The next ticket is granted. Its cell counted `sleepers` sleepers, which the caller must wake.
     Granted { sleepers: u64 },
-    /// It passed `MAX_PASSED` withdrawn requests, and its caller still has the turn: it must be called again.
+    /// The release passed `MAX_PASSED` withdrawn requests, and its caller still has the turn. The caller must call
+    /// `release` again.
     Unfinished,
 }
 
 /// What `leave_lock_word` did.
 #[derive(Clone, Copy, Debug, PartialEq, Eq)]
 pub enum LeaveResult {
-    /// The caller is outside. If the queue head is asleep at the lock word, the caller must wake it.
+    /// The caller does not hold the lock word any more. If the queue head is asleep at the lock word, the caller must
+    /// wake it.
     Outside { head_asleep: bool },
-    /// The lock word is this one, and the caller is still inside: it must call again.
+    /// The caller still holds the lock word, which has this value. The caller must call again.
     Changed { lock_word: u64 },
 }
 
-/// Ends the turn, and grants the next ticket. `true`: that request is withdrawn, so the caller has its turn and must
-/// clear its bit. The second answer is the number of sleepers that its cell counted.
+/// Ends the turn, and grants the next ticket. If the first answer is `true`, the request of that ticket is withdrawn:
+/// the caller then has its turn and must clear its mark. The second answer is the number of sleepers that the ticket's
+/// cell counted.
 #[inline(always)]
 fn grant<T>(table: &SharedValue<T>, seat: &mut ValueSeat<T>, ticket: u64) -> (bool, u64)
     requires table { HasLockWords table.now.table_id }
@@ -55,7 +58,7 @@ fn grant<T>(table: &SharedValue<T>, seat: &mut ValueSeat<T>, ticket: u64) -> (bo
     (is_withdrawn(cell, next), sleepers(cell))
 }
 
-/// Clears the bit of a withdrawn request whose turn the caller has.
+/// Clears the mark of a withdrawn request whose turn the caller has.
 #[inline(always)]
 pub(crate) fn clear_withdrawn<T>(table: &SharedValue<T>, seat: &mut ValueSeat<T>, ticket: u64)
     requires table { HasLockWords table.now.table_id }
@@ -72,10 +75,10 @@ pub(crate) fn clear_withdrawn<T>(table: &SharedValue<T>, seat: &mut ValueSeat<T>
     table.fetch_sub::<ClearWithdrawn>(seat, cell_word(ticket), bit(ticket));
 }
 
-/// Ends the turn of `ticket`, passes withdrawn requests, and grants the first ticket that is not withdrawn: two atomic
-/// steps for each request that it passes, at most `MAX_PASSED`, and one for the grant. The grant is the last access to
-/// the lock's memory. Afterwards `ticket` is the last one whose turn has ended, or, if the release is unfinished, the
-/// one whose turn the caller has. A queue head that is inside stays inside.
+/// Ends the turn of `ticket`, passes withdrawn requests, and grants the first ticket that is not withdrawn. The call
+/// takes two atomic steps for each request that it passes, at most `MAX_PASSED`, and one step for the grant. The grant
+/// is the last access to the lock's memory. Afterwards `ticket` is the last ticket whose turn has ended; if the release
+/// is unfinished, it is the ticket whose turn the caller has. A queue head that holds the lock word still holds it.
 pub fn release<T>(
     table: &SharedValue<T>,
     seat: &mut ValueSeat<T>,
@@ -113,8 +116,8 @@ pub fn release<T>(
     ReleaseResult::Unfinished
 }
 
-/// Frees the lock word for any thread, by one compare-and-swap that succeeds if the word is `expected`. Returns the word
-/// that the step found.
+/// Frees the lock word for any thread, by one compare-and-swap that succeeds if the word is `expected`. Returns the
+/// value that the step found.
 #[inline(always)]
 fn leave_free<T>(table: &SharedValue<T>, seat: &mut ValueSeat<T>, expected: u64) -> u64
     requires table { HasLockWords table.now.table_id }
@@ -140,8 +143,8 @@ fn leave_free<T>(table: &SharedValue<T>, seat: &mut ValueSeat<T>, expected: u64)
     table.compare_exchange::<Leave>(seat, LOCK_WORD, expected, free)
 }
 
-/// Reserves the lock word for the queue head, by one compare-and-swap that succeeds if the word is `expected`. Returns the
-/// word that the step found.
+/// Reserves the lock word for the queue head, by one compare-and-swap that succeeds if the word is `expected`. Returns
+/// the value that the step found.
 #[inline(always)]
 fn leave_reserved<T>(table: &SharedValue<T>, seat: &mut ValueSeat<T>, expected: u64) -> u64
     requires table { HasLockWords table.now.table_id }
@@ -166,9 +169,9 @@ fn leave_reserved<T>(table: &SharedValue<T>, seat: &mut ValueSeat<T>, expected: 
     table.compare_exchange::<Leave>(seat, LOCK_WORD, expected, reserved)
 }
 
-/// Leaves the lock word, if it is `expected`. The word is left reserved for the queue head if a handoff is requested, or
-/// if as many threads were inside as `barging_limit` allows; else free. One atomic step, which is the last access to the
-/// lock's memory.
+/// Leaves the lock word if its value is `expected`. The call reserves the word for the queue head if a handoff is
+/// requested, or if as many threads have held the word as `barging_limit` allows; otherwise it frees the word. One
+/// atomic step, which is the last access to the lock's memory.
 #[inline(always)]
 pub fn leave_lock_word_if<T>(
     table: &SharedValue<T>,
@@ -213,7 +216,7 @@ pub fn leave_lock_word_if<T>(
     }
 }
 
-/// Leaves the lock word as `leave_lock_word_if` does, whatever it is: two atomic steps.
+/// Leaves the lock word as `leave_lock_word_if` does, whatever value the word has. Two atomic steps.
 #[inline(always)]
 pub fn leave_lock_word<T>(
     table: &SharedValue<T>,

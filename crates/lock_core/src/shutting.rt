@@ -1,4 +1,5 @@
-//! A lock is shut by the caller that is served, and reopened by a caller at its turn with nobody behind it.
+//! Closing: the caller that is served shuts the lock, and a caller at its turn reopens it if no request is behind its
+//! own.
 ghost use Rattle.std.specs.Prelude.{◌≡◌, ◌≢◌, ◌+◌, ◌%◌, ◌^◌, ◌≤◌, true, false};
 ghost use Rattle.lock_core.specs.Layout.{HasLockWords, tail_at};
 ghost use Rattle.lock_core.specs.Views.{view_of, InTime, InTimeFrom, LoadGrows, IsSeatOf, IsAtTurn, HasTurnOf, Kept, KnowsShut, ServedOpen, ServedShut, SameKnown, SameNewcomersSeen, SameSleepAtLockWord, IsLaterEpoch, KeepsValue};
@@ -8,8 +9,8 @@ use crate::invariant::{SharedValue, ValueSeat};
 use crate::layout::{LOCK_WORD, SHUT, TAIL, is_shut};
 use crate::plays::{CheckOpen, ReadTail, Reopen, Shut};
 
-/// Returns, for the caller at its turn in a strict lock, whether the lock is open: then the caller is served. One atomic
-/// step. If the lock is shut, the caller passes its turn on by `release`, or reopens the lock.
+/// Returns, to the caller at its turn in a strict lock, whether the lock is open. If it is open, the caller is served.
+/// One atomic step. If the lock is shut, the caller passes its turn on by `release`, or reopens the lock.
 #[inline(always)]
 pub fn check_open<T>(table: &SharedValue<T>, seat: &mut ValueSeat<T>, ticket: u64) -> bool
     requires table { HasLockWords table.now.table_id }
@@ -30,7 +31,7 @@ pub fn check_open<T>(table: &SharedValue<T>, seat: &mut ValueSeat<T>, ticket: u6
     !is_shut(table.load::<CheckOpen>(seat, LOCK_WORD))
 }
 
-/// Shuts the lock for the caller that is served: one atomic step. From then on each caller at its turn is told that the
+/// Shuts the lock for the caller that is served. One atomic step. From then on each caller at its turn is told that the
 /// lock is shut, and no thread barges.
 #[inline(always)]
 pub fn shut<T>(table: &SharedValue<T>, seat: &mut ValueSeat<T>)
@@ -51,8 +52,9 @@ pub fn shut<T>(table: &SharedValue<T>, seat: &mut ValueSeat<T>)
     table.fetch_add::<Shut>(seat, LOCK_WORD, SHUT);
 }
 
-/// Reopens the lock for a caller at its turn that was told that the lock is shut, if nobody drew a ticket after it: two
-/// atomic steps. Then the caller is served. `false`: somebody drew a ticket after it, one atomic step.
+/// Reopens the lock for a caller at its turn that was told that the lock is shut, if no caller drew a ticket after it.
+/// The caller is then served. Two atomic steps. `false` means that another caller drew a ticket after it; this takes
+/// one atomic step.
 #[inline(always)]
 pub fn reopen<T>(table: &SharedValue<T>, seat: &mut ValueSeat<T>, ticket: u64) -> bool
     requires table { HasLockWords table.now.table_id }

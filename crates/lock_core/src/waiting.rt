@@ -1,4 +1,4 @@
-//! A waiter polls, and announces and retracts its sleep.
+//! Waiting: a waiter polls its cell, announces that it is about to sleep, and retracts the announcement.
 ghost use Rattle.std.specs.Prelude.{◌≡◌, ◌<◌, ◌⊎◌};
 ghost use Rattle.lock_core.specs.Layout.{max_sleepers, HasLockWords, cell_at, count_of, to_go};
 ghost use Rattle.lock_core.specs.Views.{view_of, InTime, InTimeFrom, LoadGrows, IsSeatOf, IsQueued, IsQueuedWithin, IsAsleep, IsAtTurn, IsOvertakenInBounds, SameRequest, SameTurn};
@@ -9,21 +9,21 @@ use crate::invariant::{SharedValue, ValueSeat};
 use crate::layout::{MAX_SLEEPERS, SLEEPER, cell_word, rounds_to_go, sleepers};
 use crate::plays::{AnnounceSleep, Look};
 
-/// What `announce_sleep` did.
+/// What `announce_sleep` found and did.
 #[derive(Clone, Copy, Debug, PartialEq, Eq)]
 pub enum SleepResult {
     /// The waiter is at its turn, and is not counted.
     AtTurn,
-    /// The waiter is counted, and has `rounds` to go. It may sleep while the upper 32 bits of its cell are those of
-    /// `cell`.
+    /// The waiter is counted, and has `rounds` rounds to go. It may sleep while the upper 32 bits of its cell are those
+    /// of `cell`.
     Asleep { rounds: u64, cell: u64 },
-    /// The waiter is not counted, because its cell counts `MAX_SLEEPERS`. It has `rounds` to go.
+    /// The waiter is not counted, because its cell already counts `MAX_SLEEPERS`. The waiter has `rounds` rounds to go.
     Full { rounds: u64 },
-    /// The waiter is not counted, because its cell changed at that moment. It has `rounds` to go.
+    /// The waiter is not counted, because its cell changed at that moment. The waiter has `rounds` rounds to go.
     Changed { rounds: u64 },
 }
 
-/// Returns how many rounds are to be granted until the ticket's own is, 0 at its turn: one atomic step.
+/// Returns how many rounds must be granted before the ticket is at its turn, which is 0 at its turn. One atomic step.
 #[inline(always)]
 pub fn poll<T>(table: &SharedValue<T>, seat: &mut ValueSeat<T>, ticket: u64) -> u64
     requires table { HasLockWords table.now.table_id }
@@ -43,8 +43,8 @@ pub fn poll<T>(table: &SharedValue<T>, seat: &mut ValueSeat<T>, ticket: u64) -> 
     rounds_to_go(cell, ticket)
 }
 
-/// Counts the waiter as a sleeper of its cell, unless it is at its turn: at most two atomic steps. Then the thread that
-/// grants its ticket is told of a sleeper.
+/// Counts the waiter as a sleeper of its cell, unless it is at its turn. At most two atomic steps. The thread that
+/// grants its ticket is then told of a sleeper.
 #[inline(always)]
 pub fn announce_sleep<T>(
     table: &SharedValue<T>,
@@ -98,7 +98,7 @@ pub fn announce_sleep<T>(
     }
 }
 
-/// Takes the waiter's count back after a sleep: one atomic step. Answers as `poll`.
+/// Takes the waiter's count back after a sleep. One atomic step. Returns the same as `poll`.
 #[inline(always)]
 pub fn retract_sleep<T>(table: &SharedValue<T>, seat: &mut ValueSeat<T>, ticket: u64) -> u64
     requires table { HasLockWords table.now.table_id }

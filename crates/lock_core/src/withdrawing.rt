@@ -1,4 +1,4 @@
-//! A waiter withdraws its request.
+//! Withdrawal: a waiter gives up its request.
 ghost use Rattle.std.specs.Prelude.{◌≡◌, ◌<◌, ◌≤◌, true, false};
 ghost use Rattle.lock_core.specs.Layout.{withdrawal_window, HasLockWords};
 ghost use Rattle.lock_core.specs.Views.{view_of, InTime, InTimeFrom, LoadGrows, IsSeatOf, IsIdle, IsQueuedWithin, IsAtTurn, IsOvertakenInBounds, SameRequest, SameTurn};
@@ -9,8 +9,8 @@ use crate::layout::{bit, cell_word, is_round_of};
 use crate::plays::SetWithdrawn;
 use crate::releasing::clear_withdrawn;
 
-/// Withdraws a request that was found within the window of withdrawal: one atomic step, which is the last access to the
-/// lock's memory. `false`: the ticket had been granted, which takes two atomic steps.
+/// Withdraws a request that was found within the window of withdrawal. One atomic step, which is the last access to the
+/// lock's memory. `false` means that the ticket had already been granted; this takes two atomic steps.
 #[inline(always)]
 pub fn withdraw<T>(
     table: &SharedValue<T>,

@@ -9,15 +9,15 @@ use Rattle.qolb_script.specs.declared.command.Command.TheVariants.{Write}
 use Rattle.qolb_script.specs.declared.reply_text.Said.{Said}
 use Rattle.qolb_script.specs.declared.reply_text.Said.TheVariants as said
 use Rattle.qolb_script.specs.Commands.{node_of}
-use Rattle.qolb_shapes.specs.declared.bar.Stand.{Stand}
-use Rattle.qolb_shapes.specs.declared.bar.Stand.TheVariants as stand
-use Rattle.qolb_shapes.specs.declared.event.Event.{Event}
-use Rattle.qolb_shapes.specs.declared.svg.TheConstants.{NAMED_EVERY}
+use Rattle.qolb_draw.specs.declared.bar.Stand.{Stand}
+use Rattle.qolb_draw.specs.declared.bar.Stand.TheVariants as stand
+use Rattle.qolb_draw.specs.declared.event.Event.{Event}
+use Rattle.qolb_draw.specs.declared.svg.TheConstants.{NAMED_EVERY}
 use Rattle.qolb_draw.specs.Laws.{BarsCoverMarks, kind_over, kinds_over, shown_as}
 use Rattle.qolb_draw.specs.LineRuns.{Step, callers, event_of, mark_at, steps_on}
-use Rattle.qolb_shapes.specs.Shapes.{Arrow, Call, Lane, Name, Number, Shape, is_same, name_count, stand_of}
+use Rattle.qolb_draw.specs.Shapes.{Arrow, Call, Lane, Name, Number, Shape, is_same, name_count, stand_of}
 use Rattle.qolb_draw.specs.Timelines.{arrow_of, bar_of, bars_from, bytes_of, column_shapes, columns_of, names_of, no_event, row_of, row_shapes, stands_of}
-use Rattle.qolb_shapes.proofs.Bars.{is_over, over, not_yet, no_more}
+use Rattle.qolb_draw.proofs.Bars.{is_over, over, not_yet, no_more}
 
 -- one bar
 same_if : (b : Bool) (xs : List Stand) → cond b xs xs ≡ xs

@@ -15,15 +15,16 @@ use Rattle.qolb_script.specs.declared.command.Command.{Command}
 use Rattle.qolb_script.specs.Commands.{node_of, line_of}
 use Rattle.qolb_script.specs.Script.{Script}
 use Rattle.qolb_script.specs.Reply.{config_of, after_command}
-use Rattle.qolb_shapes.specs.declared.event.Event.{Event}
-use Rattle.qolb_shapes.specs.declared.symbol.Change.{Change}
-use Rattle.qolb_shapes.specs.declared.symbol.Symbol.{Symbol}
-use Rattle.qolb_shapes.specs.declared.symbol.Symbol.TheVariants as symbol
-use Rattle.qolb_draw.specs.Changes.{change_of}
-use Rattle.qolb_shapes.specs.Marks.{mark_of}
+use Rattle.qolb_draw.specs.declared.event.Event.{Event}
+use Rattle.qolb_draw.specs.declared.symbol.Change.{Change}
+use Rattle.qolb_draw.specs.declared.symbol.Symbol.{Symbol}
+use Rattle.qolb_model.specs.declared.answer.PortState.{PortState}
+use Rattle.qolb_model.specs.declared.answer.PortState.TheVariants as port
+use Rattle.qolb_draw.specs.LineRuns.{change_of}
+use Rattle.qolb_draw.specs.Marks.{mark_of}
 use Rattle.qolb_draw.specs.LineRuns.{Step, LineRun, run_start, run_step, steps_on, mark_at, event_of}
-use Rattle.qolb_draw.specs.Following.{Follows, Rests}
-use Rattle.qolb_draw.proofs.Resting.{column_is_by, opened_rests}
+use Rattle.qolb_draw.specs.Following.{Follows, HasStates}
+use Rattle.qolb_draw.proofs.States.{column_is_by, opened_states}
 use Rattle.qolb_draw.proofs.Outs.{length-marks_of}
 use Rattle.qolb_draw.specs.Grids.{IsGrid, marks_of, column_out_of, column_by}
 
@@ -31,13 +32,13 @@ use Rattle.qolb_draw.specs.Grids.{IsGrid, marks_of, column_out_of, column_by}
 abbrev pub run_after : Script → ℕ → ℕ → LineRun
 run_after script number i = fold (run_step number) (run_start (config_of script)) (take i script.commands)
 
-pub record Stands (script : Script) (number i done : ℕ) (line : PlainView) (waiting : List ℕ) (resting : List Symbol) (closed : Bool) (rows : ℕ) (numbers callers : List ℕ) (events : List Event) (marks : List Symbol) : Type 0 where
+pub record Stands (script : Script) (number i done : ℕ) (line : PlainView) (waiting : List ℕ) (states : List PortState) (closed : Bool) (rows : ℕ) (numbers callers : List ℕ) (events : List Event) (marks : List Symbol) : Type 0 where
   pub done_are : done ≡ (run_after script number i).done
   pub counted : done ≡ i
   pub few : length numbers ≤ i
   pub nodes_are : line.nodes ≡ script.nodes
   pub follows : Follows line waiting (run_after script number i).now
-  pub rests : Rests line resting closed
+  pub has : HasStates line states closed
   pub grid : IsGrid script.nodes (run_after script number i).steps rows numbers callers events marks
 
 -- one command more
@@ -71,10 +72,10 @@ grid_more nodes steps step rows numbers numbers' callers callers' events events'
 }
 
 -- a command on another line
-pub command_skipped : (script : Script) (number i done done' : ℕ) (line : PlainView) (waiting : List ℕ) (resting : List Symbol) (closed : Bool) (rows : ℕ) (numbers callers : List ℕ) (events : List Event) (marks : List Symbol) (c d : Command)
-    → Stands script number i done line waiting resting closed rows numbers callers events marks → i < length script.commands → c ≡ get_or script.commands i d → line_of c ≢ number → done' ≡ done + 1
-    → Stands script number (i + 1) done' line waiting resting closed rows numbers callers events marks
-command_skipped script number i done done' line waiting resting closed rows numbers callers events marks c d st lt is other next =
+pub command_skipped : (script : Script) (number i done done' : ℕ) (line : PlainView) (waiting : List ℕ) (states : List PortState) (closed : Bool) (rows : ℕ) (numbers callers : List ℕ) (events : List Event) (marks : List Symbol) (c d : Command)
+    → Stands script number i done line waiting states closed rows numbers callers events marks → i < length script.commands → c ≡ get_or script.commands i d → line_of c ≢ number → done' ≡ done + 1
+    → Stands script number (i + 1) done' line waiting states closed rows numbers callers events marks
+command_skipped script number i done done' line waiting states closed rows numbers callers events marks c d st lt is other next =
     let r : LineRun = run_after script number i in
     let test : (line_of c == number) ≡ false = grind (arith, nat_tests) in
     let then : run_after script number (i + 1) ≡ record r { done = r.done + 1 } = run_more script number i d lt ∙ ap (run_step number r) (sym is)
@@ -85,17 +86,17 @@ command_skipped script number i done done' line waiting resting closed rows numb
       few = let few = st.few in omega arith;
       nodes_are = st.nodes_are;
       follows = subst (λ (x : LineRun). Follows line waiting x.now) (sym then) st.follows;
-      rests = st.rests;
+      has = st.has;
       grid = subst (λ (x : LineRun). IsGrid script.nodes x.steps rows numbers callers events marks) (sym then) st.grid;
     }
 
 -- a command on this line
-pub command_drawn : (script : Script) (number i done done' : ℕ) (line line' : PlainView) (waiting waiting' : List ℕ) (resting resting' : List Symbol) (closed closed' : Bool) (rows rows' : ℕ) (numbers numbers' callers callers' : List ℕ) (events events' : List Event) (marks marks' : List Symbol) (event : Event) (c d : Command)
-    → Stands script number i done line waiting resting closed rows numbers callers events marks → i < length script.commands → c ≡ get_or script.commands i d → line_of c ≡ number → done' ≡ done + 1
-    → event.number ≡ done' → event.command ≡ c → ((s : OwnerState) → Follows line waiting s → event.change ≡ change_of s c) → ((s : OwnerState) → Follows line waiting s → Follows line' waiting' (after_command s c)) → ((s : OwnerState) → Follows line waiting s → Rests line resting closed → Rests line' resting' closed') → line'.nodes ≡ line.nodes
-    → rows' ≡ rows → numbers' ≡ numbers ++ event.number ∷ [] → callers' ≡ callers ++ event.change.node ∷ [] → events' ≡ events ++ event ∷ [] → marks' ≡ marks ++ drop 1 (column_by event.change resting')
-    → Stands script number (i + 1) done' line' waiting' resting' closed' rows' numbers' callers' events' marks'
-command_drawn script number i done done' line line' waiting waiting' resting resting' closed closed' rows rows' numbers numbers' callers callers' events events' marks marks' event c d st lt is its next same_number same_command changes follows' rests' same_nodes same_rows n k ev m =
+pub command_drawn : (script : Script) (number i done done' : ℕ) (line line' : PlainView) (waiting waiting' : List ℕ) (states states' : List PortState) (closed closed' : Bool) (rows rows' : ℕ) (numbers numbers' callers callers' : List ℕ) (events events' : List Event) (marks marks' : List Symbol) (event : Event) (c d : Command)
+    → Stands script number i done line waiting states closed rows numbers callers events marks → i < length script.commands → c ≡ get_or script.commands i d → line_of c ≡ number → done' ≡ done + 1
+    → event.number ≡ done' → event.command ≡ c → ((s : OwnerState) → Follows line waiting s → event.change ≡ change_of s c) → ((s : OwnerState) → Follows line waiting s → Follows line' waiting' (after_command s c)) → ((s : OwnerState) → Follows line waiting s → HasStates line states closed → HasStates line' states' closed') → line'.nodes ≡ line.nodes
+    → rows' ≡ rows → numbers' ≡ numbers ++ event.number ∷ [] → callers' ≡ callers ++ event.change.node ∷ [] → events' ≡ events ++ event ∷ [] → marks' ≡ marks ++ column_by event.change states'
+    → Stands script number (i + 1) done' line' waiting' states' closed' rows' numbers' callers' events' marks'
+command_drawn script number i done done' line line' waiting waiting' states states' closed closed' rows rows' numbers numbers' callers callers' events events' marks marks' event c d st lt is its next same_number same_command changes follows' has' same_nodes same_rows n k ev m =
     let r : LineRun = run_after script number i in
     let step : Step = record { number = r.done + 1; command = c; before = r.now } in
     let test : (line_of c == number) ≡ true = grind (arith, nat_tests) in
@@ -105,13 +106,13 @@ command_drawn script number i done done' line line' waiting waiting' resting res
     let counted : event.number ≡ r.done + 1 = same_number ∙ next ∙ ap (λ x. x + 1) st.done_are in
     let same : event ≡ event_of step = same_event event (r.done + 1) c (change_of r.now c) counted same_command changed in
     let followed : Follows line' waiting' (after_command r.now c) = follows' r.now st.follows in
-    let rested : Rests line' resting' closed' = rests' r.now st.follows st.rests in
+    let rested : HasStates line' states' closed' = has' r.now st.follows st.has in
     let rows_are : rows ≡ line'.nodes = st.grid.rows_are ∙ sym (same_nodes ∙ st.nodes_are) in
-    let column : drop 1 (column_by event.change resting') ≡ map (mark_at step) (range_with_len 1 script.nodes) =
-    column_is_by line' event.change resting' closed' rows rested rows_are ∙ column_is line' (after_command r.now c) event.change rows followed.agrees ∙ ap (λ (ch : Change). map (λ n. mark_of ch (state_of (after_command r.now c) n) n) (range_with_len 1 rows)) changed
+    let column : column_by event.change states' ≡ map (mark_at step) (range_with_len 1 script.nodes) =
+    column_is_by line' event.change states' closed' rows rested rows_are ∙ column_is line' (after_command r.now c) event.change rows followed.agrees ∙ ap (λ (ch : Change). map (λ n. mark_of ch (state_of (after_command r.now c) n) n) (range_with_len 1 rows)) changed
     ∙ ap (λ h. map (mark_at step) (range_with_len 1 h)) st.grid.rows_are in
     let more : IsGrid script.nodes (r.steps ++ step ∷ []) rows numbers' callers' events' marks' =
-    grid_more script.nodes r.steps step rows numbers numbers' callers callers' events events' marks marks' (drop 1 (column_by event.change resting')) st.grid
+    grid_more script.nodes r.steps step rows numbers numbers' callers callers' events events' marks marks' (column_by event.change states') st.grid
     (n ∙ ap (λ x. numbers ++ x ∷ []) counted) (k ∙ ap (λ (ch : Change). callers ++ ch.node ∷ []) changed) (ev ∙ ap (λ (x : Event). events ++ x ∷ []) same) column m in
     record {
       done_are = next ∙ ap (λ x. x + 1) st.done_are ∙ sym (ap (λ (x : LineRun). x.done) then);
@@ -119,27 +120,27 @@ command_drawn script number i done done' line line' waiting waiting' resting res
       few = let few = st.few in let long : length numbers' ≡ length numbers + 1 = ap length n ∙ length-append numbers (event.number ∷ []) in omega arith;
       nodes_are = same_nodes ∙ st.nodes_are;
       follows = subst (λ (x : LineRun). Follows line' waiting' x.now) (sym then) followed;
-      rests = rested;
+      has = rested;
       grid = subst (λ (x : LineRun). IsGrid script.nodes x.steps rows' numbers' callers' events' marks') (sym then) (subst (λ (h : ℕ). IsGrid script.nodes (r.steps ++ step ∷ []) h numbers' callers' events' marks') (sym same_rows) more);
     }
 
 -- no command
-pub none_drawn : (script : Script) (number : ℕ) (line : PlainView) (waiting : List ℕ) (resting : List Symbol) (closed : Bool) (rows : ℕ) (numbers callers : List ℕ) (events : List Event) (marks : List Symbol) → Agrees line (opened (config_of script)) → waiting ≡ [] → resting ≡ replicate (rows + 1) symbol.Idle → closed ≡ false → rows ≡ script.nodes → numbers ≡ [] → callers ≡ [] → events ≡ [] → marks ≡ []
-    → Stands script number 0 0 line waiting resting closed rows numbers callers events marks
-none_drawn script number line waiting resting closed rows numbers callers events marks a w rest opens r n k e m = record {
+pub none_drawn : (script : Script) (number : ℕ) (line : PlainView) (waiting : List ℕ) (states : List PortState) (closed : Bool) (rows : ℕ) (numbers callers : List ℕ) (events : List Event) (marks : List Symbol) → Agrees line (opened (config_of script)) → waiting ≡ [] → states ≡ replicate (rows + 1) port.Idle → closed ≡ false → rows ≡ script.nodes → numbers ≡ [] → callers ≡ [] → events ≡ [] → marks ≡ []
+    → Stands script number 0 0 line waiting states closed rows numbers callers events marks
+none_drawn script number line waiting states closed rows numbers callers events marks a w rest opens r n k e m = record {
   done_are = refl;
   counted = refl;
   few = let none : length numbers ≡ 0 = ap length n in omega arith;
   nodes_are = a.nodes;
   follows = record { agrees = a; waiting_are = w };
-  rests = opened_rests line rows resting closed a.waiting a.closed (r ∙ sym a.nodes) rest opens;
+  has = opened_states line rows states closed a.waiting a.closed (r ∙ sym a.nodes) rest opens;
   grid = record { rows_are = r; numbers_are = n; callers_are = k; events_are = e; marks_are = m };
 }
 
 -- all commands
-pub all_drawn : (script : Script) (number i done : ℕ) (line : PlainView) (waiting : List ℕ) (resting : List Symbol) (closed : Bool) (rows : ℕ) (numbers callers : List ℕ) (events : List Event) (marks : List Symbol) → Stands script number i done line waiting resting closed rows numbers callers events marks
+pub all_drawn : (script : Script) (number i done : ℕ) (line : PlainView) (waiting : List ℕ) (states : List PortState) (closed : Bool) (rows : ℕ) (numbers callers : List ℕ) (events : List Event) (marks : List Symbol) → Stands script number i done line waiting states closed rows numbers callers events marks
     → length script.commands ≤ i → IsGrid script.nodes (steps_on number script) rows numbers callers events marks
-all_drawn script number i done line waiting resting closed rows numbers callers events marks st end =
+all_drawn script number i done line waiting states closed rows numbers callers events marks st end =
     subst (λ (cs : List Command). IsGrid script.nodes (fold (run_step number) (run_start (config_of script)) cs).steps rows numbers callers events marks) (take_all i script.commands end) st.grid
 
 pub grid_size : (nodes : ℕ) (steps : List Step) (rows : ℕ) (numbers callers : List ℕ) (events : List Event) (marks : List Symbol) → IsGrid nodes steps rows numbers callers events marks → length marks ≡ length numbers * rows

@@ -3,12 +3,12 @@ use Rattle.std.proofs.Common.{◌≡◌, ℕ, ◌+◌, ◌*◌, ◌≤◌, max, 
 use Rattle.std.specs.Prelude.{codes}
 use Rattle.std.specs.List.{flat_map, range_with_len}
 use Rattle.qolb_script.specs.Script.{Script}
-use Rattle.qolb_draw.specs.Svg.{columns_on, line_svg, rows_on, svg_of, top_of, widest}
-use Rattle.qolb_shapes.specs.Svg.{line_begin, svg_head, texts}
-use Rattle.qolb_shapes.specs.declared.svg.TheConstants.{LEGEND, TAIL}
+use Rattle.qolb_draw.specs.Timelines.{columns_on, line_svg, rows_on, svg_of, top_of, widest}
+use Rattle.qolb_draw.specs.Svg.{line_begin, svg_head, texts}
+use Rattle.qolb_draw.specs.declared.svg.TheConstants.{LEGEND, TAIL}
 use Rattle.qolb_draw.specs.Timelines.{timeline_of}
 use Rattle.qolb_draw.proofs.Outs.{top_more, widest_more}
-use Rattle.qolb_shapes.proofs.Rows.{piece_pushed}
+use Rattle.qolb_draw.proofs.Pushing.{piece_pushed}
 
 -- the texts of some lines, the height below them, and the width of the widest
 pub record HasLines (script : Script) (number : ℕ) (lines : List ℕ) (top width : ℕ) : Type 0 where

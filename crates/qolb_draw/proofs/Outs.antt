@@ -12,19 +12,19 @@ use Rattle.qolb_script.specs.declared.command.Command.TheVariants.{Enq}
 use Rattle.qolb_script.specs.Commands.{node_of}
 use Rattle.qolb_script.specs.Script.{Script}
 use Rattle.qolb_script.specs.Reply.{no_line}
-use Rattle.qolb_shapes.specs.declared.event.Event.{Event}
-use Rattle.qolb_shapes.specs.declared.symbol.Symbol.{Symbol}
-use Rattle.qolb_shapes.specs.declared.symbol.Symbol.TheVariants as symbol
+use Rattle.qolb_draw.specs.declared.event.Event.{Event}
+use Rattle.qolb_draw.specs.declared.symbol.Symbol.{Symbol}
+use Rattle.qolb_draw.specs.declared.symbol.Symbol.TheVariants as symbol
 use Rattle.qolb_draw.specs.declared.text.TheConstants.{COLUMNS}
 use Rattle.qolb_draw.specs.LineRuns.{Step, event_of, mark_at, steps_on, callers}
 use Rattle.qolb_draw.specs.Pictures.{letter_of, label_of, label_room, row_text, block_text, block_at, block_count, blocks_text, line_text}
-use Rattle.qolb_shapes.specs.Heads.{heads_text}
+use Rattle.qolb_draw.specs.Heads.{heads_text}
 use Rattle.qolb_draw.specs.Grids.{IsGrid, numbers_of, nodes_of, marks_of, mark_out_of, row_out_of, block_out_of, blocks_out_of, shown_out_of, line_out_of, stands_out_of, row_shapes_out_of, shapes_out_of, line_svg_out_of}
-use Rattle.qolb_draw.specs.Svg.{columns_on, rows_on, top_of, widest}
-use Rattle.qolb_shapes.specs.Svg.{height_of, line_begin, texts, width_of}
+use Rattle.qolb_draw.specs.Timelines.{columns_on, rows_on, top_of, widest}
+use Rattle.qolb_draw.specs.Svg.{height_of, line_begin, texts, width_of}
 use Rattle.qolb_draw.specs.Timelines.{columns_of, row_shapes, stands_of, timeline_of}
-use Rattle.qolb_shapes.specs.Shapes.{stand_of}
-use Rattle.qolb_shapes.proofs.Rows.{range_more}
+use Rattle.qolb_draw.specs.Shapes.{stand_of}
+use Rattle.qolb_draw.proofs.Pushing.{range_more}
 
 -- a step for places that have none
 abbrev pub no_step : Step

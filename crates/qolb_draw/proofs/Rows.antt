@@ -5,7 +5,7 @@ use Rattle.std.proofs.lemmas.List.Elements.{filter-append}
 use Rattle.std.proofs.lemmas.Nat.{rows}
 use Rattle.std.proofs.lemmas.Grind.{common_steps}
 use Rattle.qolb_draw.specs.Grids.{shown_out_of}
-use Rattle.qolb_shapes.proofs.Rows.{range_more}
+use Rattle.qolb_draw.proofs.Pushing.{range_more}
 
 -- one node more
 pub shown_more : (n : ℕ) (called : List ℕ) → shown_out_of (n + 1) called ≡ shown_out_of n called ++ cond (list_any (λ m. m == n + 1) called) ((n + 1) ∷ []) []

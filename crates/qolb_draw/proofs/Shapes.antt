@@ -1,8 +1,6 @@
 -- Lemmas on the shapes of a timeline, and on their texts.
-use Rattle.std.proofs.Common.{◌≡◌, ℕ, suc, ◌+◌, ◌-◌, ◌*◌, ◌<◌, ◌≤◌, cond, Bool, true, false, List, [], ◌∷◌, ◌++◌, map, not, refl, sym, ap, ◌∙◌, subst, arith, append_assoc, append-nil, eqb-true, ne_eqb, ◌==◌, Option, Some}
-use Rattle.std.specs.Prelude.{codes}
+use Rattle.std.proofs.Common.{◌≡◌, ℕ, suc, ◌+◌, ◌-◌, ◌*◌, ◌<◌, ◌≤◌, cond, Bool, true, false, List, [], ◌∷◌, ◌++◌, map, not, refl, sym, ap, ◌∙◌, subst, arith, append_assoc, append-nil, ne_eqb, ◌==◌, Option, Some}
 use Rattle.std.specs.List.{flat_map, range_with_len}
-use Rattle.std.proofs.lemmas.Bool.Decides.{nat_tests}
 use Rattle.std.proofs.lemmas.Grind.{flat_map-append}
 use Rattle.line_lanes.specs.declared.line.Line64.{Line64}
 use Rattle.line_lanes.specs.declared.line.Mask.{Mask}
@@ -10,13 +8,12 @@ use Rattle.qolb_script.specs.declared.command.Command.{Command}
 use Rattle.qolb_script.specs.declared.command.Command.TheVariants.{Write}
 use Rattle.qolb_script.specs.declared.reply_text.Said.{Said}
 use Rattle.qolb_script.specs.declared.reply_text.Said.TheVariants as said
-use Rattle.qolb_shapes.specs.declared.bar.Stand.{Stand}
-use Rattle.qolb_shapes.specs.declared.bar.Stand.TheVariants as stand
-use Rattle.qolb_shapes.specs.declared.symbol.Symbol.{Symbol}
+use Rattle.qolb_draw.specs.declared.bar.Stand.{Stand}
+use Rattle.qolb_draw.specs.declared.bar.Stand.TheVariants as stand
+use Rattle.qolb_draw.specs.declared.symbol.Symbol.{Symbol}
 use Rattle.qolb_draw.specs.Grids.{mark_out_of, stands_out_of}
-use Rattle.qolb_shapes.specs.declared.svg.TheConstants.{NAMED_EVERY}
-use Rattle.qolb_shapes.specs.Svg.{arrow_text, bytes_text, field, name_end, shape_text, texts, y_of}
-use Rattle.qolb_shapes.specs.Shapes.{Arrow, Bytes, Shape, is_same, places_in, stand_of}
+use Rattle.qolb_draw.specs.Svg.{arrow_text, bytes_text, shape_text, texts}
+use Rattle.qolb_draw.specs.Shapes.{Arrow, Bytes, Shape, is_same, places_in, stand_of}
 use Rattle.qolb_draw.specs.Timelines.{arrow_of, bar_of, bars_from, bytes_of, row_of}
 
 -- the texts of shapes one behind another
@@ -33,16 +30,6 @@ texts-map f (x ∷ xs) = ap (λ t. shape_text (f x) ++ t) (texts-map f xs)
 pub texts-flat_map : (f : ℕ → List Shape) (xs : List ℕ) → texts (flat_map f xs) ≡ flat_map (λ x. texts (f x)) xs
 texts-flat_map f [] = refl
 texts-flat_map f (x ∷ xs) = texts-append (f x) (flat_map f xs) ∙ ap (λ t. texts (f x) ++ t) (texts-flat_map f xs)
-
--- the ends of a node's names
-pub ends_are : (row node count : ℕ) (first further : List ℕ) → first ≡ name_end row 0 node → further ≡ name_end row 1 node → cond (count == 0) first further ≡ name_end row (NAMED_EVERY * count) node
-ends_are row node count first further a b = by (count == 0) refl
-  where
-    by : (t : Bool) → (count == 0) ≡ t → cond t first further ≡ name_end row (NAMED_EVERY * count) node
-    by true e = let same : count ≡ 0 = eqb-true count 0 e in let none : NAMED_EVERY * count ≡ 0 = omega arith in a ∙ ap (λ c. name_end row c node) (sym none)
-    by false e =
-        let some : (NAMED_EVERY * count == 0) ≡ false = grind (arith, nat_tests) in
-        b ∙ ap (λ t. field (codes "' y='") (cond t (y_of row + 4) (y_of row + 19)) ++ field (codes "'>node ") node ++ codes "</text>\n") (sym some)
 
 -- the states of a node from a column on, and from the next
 pub stands_next : (nodes : ℕ) (marks : List Symbol) (n column end : ℕ) → column < end

@@ -32,11 +32,11 @@ use Rattle.qolb_script.specs.declared.reply_text.Said.{Said}
 use Rattle.qolb_script.specs.declared.reply_text.Said.TheVariants as said
 use Rattle.qolb_script.specs.Commands.{node_of}
 use Rattle.qolb_script.specs.Reply.{is_queued, is_holding, said_of, after_command}
-use Rattle.qolb_shapes.specs.declared.symbol.Change.{Change}
-use Rattle.qolb_draw.specs.Changes.{waiting_nodes}
+use Rattle.qolb_draw.specs.declared.symbol.Change.{Change}
+use Rattle.qolb_draw.specs.LineRuns.{waiting_nodes}
 use Rattle.qolb_draw.specs.Following as following
 use Rattle.qolb_draw.specs.Following.{has_asked, after_ended, Follows}
-use Rattle.qolb_shapes.proofs.Bars.{or_none}
+use Rattle.qolb_draw.proofs.Bars.{or_none}
 
 -- these requests were made, and some more have ended
 pub record Grew (old new : Queue) (asked : List Request) : Type 0 where

@@ -20,17 +20,17 @@ use Rattle.qolb_script.specs.declared.reply_text.Said.TheVariants as said
 use Rattle.qolb_script.specs.Commands.{line_of, node_of}
 use Rattle.qolb_script.specs.Reply.{after_command, said_of, config_of}
 use Rattle.qolb_script.specs.Script.{IsInRange, Script}
-use Rattle.qolb_shapes.specs.declared.bar.Stand.{Stand}
-use Rattle.qolb_shapes.specs.declared.bar.Stand.TheVariants as stand
-use Rattle.qolb_shapes.specs.declared.event.Event.{Event}
-use Rattle.qolb_shapes.specs.declared.svg.TheConstants.{NAMED_EVERY}
+use Rattle.qolb_draw.specs.declared.bar.Stand.{Stand}
+use Rattle.qolb_draw.specs.declared.bar.Stand.TheVariants as stand
+use Rattle.qolb_draw.specs.declared.event.Event.{Event}
+use Rattle.qolb_draw.specs.declared.svg.TheConstants.{NAMED_EVERY}
 use Rattle.qolb_draw.specs.Following.{has_asked}
 use Rattle.qolb_draw.specs.Laws.{IsWithin, ShapesLieWithin, foot_of, right_of}
 use Rattle.qolb_draw.specs.LineRuns.{LineRun, Step, callers, event_of, run_of, run_start, run_step, steps_on}
-use Rattle.qolb_draw.specs.Changes.{turn_node, waiting_nodes}
-use Rattle.qolb_draw.specs.Svg.{top_of, widest}
-use Rattle.qolb_shapes.specs.Svg.{height_of, name_y, width_of, y_of}
-use Rattle.qolb_shapes.specs.Shapes.{Arrow, Bar, Bytes, Call, Lane, Name, Number, Shape, is_same, name_count, places_in}
+use Rattle.qolb_draw.specs.LineRuns.{turn_node, waiting_nodes}
+use Rattle.qolb_draw.specs.Timelines.{top_of, widest}
+use Rattle.qolb_draw.specs.Svg.{height_of, name_y, width_of, y_of}
+use Rattle.qolb_draw.specs.Shapes.{Arrow, Bar, Bytes, Call, Lane, Name, Number, Shape, is_same, name_count, places_in}
 use Rattle.qolb_draw.specs.Timelines.{arrow_of, bar_of, bars_from, bytes_of, column_shapes, columns_of, names_of, no_event, row_of, row_shapes, stands_of, timeline_of}
 use Rattle.qolb_draw.proofs.Outs.{no_step, top_more, widest_more}
 use Rattle.qolb_draw.proofs.SameRuns.{run_by, stepped}

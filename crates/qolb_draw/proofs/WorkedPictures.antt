@@ -1,7 +1,7 @@
 -- Worked pictures: the pictures of small scripts by definition, by computation.
 use Rattle.std.specs.Prelude.{◌≡◌, ◌++◌, codes, refl, Ok, Err}
 use Rattle.qolb_script.specs.declared.error.ScriptError.TheVariants.{BadLine}
-use Rattle.qolb_shapes.specs.declared.form.Form.TheVariants.{Text}
+use Rattle.qolb_draw.specs.declared.form.Form.TheVariants.{Text}
 use Rattle.qolb_draw.specs.Pictures.{picture_to, legend}
 
 -- three nodes, of which each hands the line over to the next
@@ -19,9 +19,18 @@ two_lines : picture_to Text (codes "nodes 3 lines 2\nenq 1 0\nenq 3 1\n\ndeq 3 1
     ≡ Ok (codes "line 0\n\n         14\nnode   1 H.\n\nline 1\n\n         23\nnode   3 H.\n\n" ++ legend)
 two_lines = refl
 
--- commands that are misuse
-misused : picture_to Text (codes "nodes 2 lines 1\npoll 1 0\nenq 1 0\nenq 2 0\ndeq 2 0\n") ≡ Ok (codes "line 0\n\n         1234\nnode   1 !HHH\nnode   2 ..w!\n\n" ++ legend)
+-- commands that are misuse of a node that has no request, holds, waits, and is at its turn
+misused : picture_to Text (codes "nodes 2 lines 1\npoll 1 0\nenq 1 0\nenq 1 0\nenq 2 0\ndeq 2 0\ndeq 1 0\nshow 2 0\npoll 2 0\n")
+    ≡ Ok (codes "line 0\n\n         12345678\nnode   1 !H!HH>..\nnode   2 ...w!<!H\n\n" ++ legend)
 misused = refl
+
+-- a node that withdraws at its turn holds the line
+held : picture_to Text (codes "nodes 2 lines 1\nenq 1 0\nenq 2 0\ndeq 1 0\nout 2 0\ndeq 2 0\n") ≡ Ok (codes "line 0\n\n         12345\nnode   1 HH>..\nnode   2 .w<H.\n\n" ++ legend)
+held = refl
+
+-- the last turn of a lease closes the line
+leased : picture_to Text (codes "nodes 2 lines 1 lease 1\nenq 1 0\nenq 2 0\ndeq 1 0\npoll 2 0\nenq 1 0\n") ≡ Ok (codes "line 0\n\n         12345\nnode   1 HH>-c\nnode   2 .w<c-\n\n" ++ legend)
+leased = refl
 
 -- no command
 no_commands : picture_to Text (codes "nodes 2 lines 1\n") ≡ Ok (codes "line 0\n\n" ++ legend)

@@ -3,16 +3,12 @@ use Rattle.std.specs.Prelude.{◌≡◌, ◌≢◌, ◌<◌, ◌+◌, ◌==◌, 
 use Rattle.qolb_model.specs.declared.answer.PortState.{PortState}
 use Rattle.qolb_model.specs.declared.answer.PortState.TheVariants as port
 use Rattle.qolb_model.specs.declared.answer.Enq.TheVariants as enq
-use Rattle.qolb_model.specs.declared.answer.Poll.TheVariants as poll
 use Rattle.qolb_model.specs.Plain.{PlainView, node_state, Agrees}
 use Rattle.qolb_model.specs.OneOwner.{OwnerState}
 use Rattle.qolb_script.specs.declared.reply_text.Said.{Said}
 use Rattle.qolb_script.specs.declared.reply_text.Said.TheVariants as said
 use Rattle.std.specs.List.{list_any, slice_index_or}
-use Rattle.qolb_shapes.specs.declared.symbol.Symbol.{Symbol}
-use Rattle.qolb_shapes.specs.declared.symbol.Symbol.TheVariants as symbol
-use Rattle.qolb_shapes.specs.Marks.{at_rest}
-use Rattle.qolb_draw.specs.Changes.{waiting_nodes}
+use Rattle.qolb_draw.specs.LineRuns.{waiting_nodes}
 
 -- answers to a node that has made a request
 abbrev pub has_asked : Said → Bool
@@ -20,15 +16,6 @@ has_asked (said.Enq enq.Granted) = true
 has_asked (said.Enq enq.Queued) = true
 has_asked (said.Enq enq.Closed) = true
 has_asked what = false
-
--- answers to a node that is in the state in which it was before its command
-abbrev pub has_stayed : Said → Bool
-has_stayed said.Misuse = true
-has_stayed said.Written = true
-has_stayed (said.Bytes line) = true
-has_stayed (said.Enq enq.Busy) = true
-has_stayed (said.Poll poll.Waiting) = true
-has_stayed what = false
 
 -- a node in this state has a request without an end
 abbrev pub is_open : PortState → Bool
@@ -55,38 +42,37 @@ pub record Follows (line : PlainView) (waiting : List ℕ) (s : OwnerState) : Ty
   pub agrees : Agrees line s
   pub waiting_are : waiting ≡ waiting_nodes s
 
--- the marks at rest of a line's nodes, by their numbers
-abbrev pub AreAtRest : PlainView → List Symbol → Type 0
-AreAtRest line resting = (n : ℕ) → n < length resting → slice_index_or resting n symbol.Idle ≡ at_rest (node_state line n)
+-- these are the states of the line's nodes, by their numbers
+abbrev pub AreStates : PlainView → List PortState → Type 0
+AreStates line states = (n : ℕ) → n < length states → slice_index_or states n port.Idle ≡ node_state line n
 
 -- all that is kept of a line is as the line has it
-pub record Rests (line : PlainView) (resting : List Symbol) (closed : Bool) : Type 0 where
-  pub size : length resting ≡ line.nodes + 1
-  pub are : AreAtRest line resting
+pub record HasStates (line : PlainView) (states : List PortState) (closed : Bool) : Type 0 where
+  pub size : length states ≡ line.nodes + 1
+  pub are : AreStates line states
   pub closed_is : closed ≡ line.closed
 
 -- the node is among these
 abbrev pub is_among : ℕ → List ℕ → Bool
 is_among n nodes = list_any (λ m. m == n) nodes
 
--- The nodes at the front of those that waited were passed. Each mark is as the line has it, or was left as it was: that of a node which
+-- The nodes at the front of those that waited were passed. Each state is as the line has it, or was left as it was: that of a node which
 -- waits still if it waited.
-pub record ArePassed (line : PlainView) (waited waiting : List ℕ) (old new : List Symbol) : Type 0 where
+pub record ArePassed (line : PlainView) (waited waiting : List ℕ) (old new : List PortState) : Type 0 where
   pub size : length new ≡ length old
-  pub marks : (n : ℕ) → n < length old → (slice_index_or new n symbol.Idle ≡ at_rest (node_state line n))
-      ⊎ ((slice_index_or new n symbol.Idle ≡ slice_index_or old n symbol.Idle) × (is_among n waiting ≡ is_among n waited))
+  pub states : (n : ℕ) → n < length old → (slice_index_or new n port.Idle ≡ node_state line n)
+      ⊎ ((slice_index_or new n port.Idle ≡ slice_index_or old n port.Idle) × (is_among n waiting ≡ is_among n waited))
 
--- Each mark is as the line has it, or was left as it was: that of another node than this one, or of this one if its state has stayed, if
--- not all were looked at.
-pub record AreLookedAt (line : PlainView) (node : ℕ) (stayed all : Bool) (old new : List Symbol) : Type 0 where
+-- Each state is as the line has it, or was left as it was: that of another node than this one, if not all were looked at.
+pub record AreLookedAt (line : PlainView) (node : ℕ) (all : Bool) (old new : List PortState) : Type 0 where
   pub size : length new ≡ length old
-  pub marks : (n : ℕ) → n < length old → (slice_index_or new n symbol.Idle ≡ at_rest (node_state line n))
-      ⊎ ((slice_index_or new n symbol.Idle ≡ slice_index_or old n symbol.Idle) × ((n ≢ node) ⊎ (stayed ≡ true)) × (all ≡ false))
+  pub states : (n : ℕ) → n < length old → (slice_index_or new n port.Idle ≡ node_state line n)
+      ⊎ ((slice_index_or new n port.Idle ≡ slice_index_or old n port.Idle) × (n ≢ node) × (all ≡ false))
 
--- the mark of this node was set, if there is one
-pub record IsKept (node : ℕ) (mark : Symbol) (old new : List Symbol) : Type 0 where
+-- the state of this node was set, if there is one
+pub record IsKept (node : ℕ) (state : PortState) (old new : List PortState) : Type 0 where
   pub size : length new ≡ length old
-  pub marks : (n : ℕ) → n < length old → slice_index_or new n symbol.Idle ≡ (if n == node then mark else slice_index_or old n symbol.Idle)
+  pub states : (n : ℕ) → n < length old → slice_index_or new n port.Idle ≡ (if n == node then state else slice_index_or old n port.Idle)
 
 -- a node in this state has no request, and the line is closed
 abbrev pub is_shut : PortState → Bool

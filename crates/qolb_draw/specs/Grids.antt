@@ -1,22 +1,24 @@
 -- The marks of a line, command by command, and the texts of its picture. (Of this project.)
-use Rattle.std.specs.Prelude.{◌≡◌, ℕ, ◌+◌, ◌-◌, ◌*◌, ◌==◌, ◌<◌, if◌then◌else◌, Option, min, List, [], ◌∷◌, ◌++◌, length, map, filter, flat_map, take, drop, codes}
+use Rattle.std.specs.Prelude.{◌≡◌, ℕ, ◌+◌, ◌-◌, ◌*◌, ◌==◌, min, List, [], ◌∷◌, ◌++◌, length, map, filter, flat_map, take, drop, codes}
 use Rattle.std.specs.List.{list_any, range_with_len, slice_index_or}
+use Rattle.qolb_model.specs.declared.answer.PortState.{PortState}
+use Rattle.qolb_model.specs.declared.answer.PortState.TheVariants as port
 use Rattle.qolb_model.specs.Plain.{PlainView, node_state}
 use Rattle.qolb_script.specs.Commands.{node_of}
-use Rattle.qolb_shapes.specs.declared.symbol.Symbol.{Symbol}
-use Rattle.qolb_shapes.specs.declared.symbol.Symbol.TheVariants as symbol
-use Rattle.qolb_shapes.specs.declared.symbol.Change.{Change}
-use Rattle.qolb_shapes.specs.Marks.{is_node, mark_of, mark_by}
+use Rattle.qolb_draw.specs.declared.symbol.Symbol.{Symbol}
+use Rattle.qolb_draw.specs.declared.symbol.Symbol.TheVariants as symbol
+use Rattle.qolb_draw.specs.declared.symbol.Change.{Change}
+use Rattle.qolb_draw.specs.Marks.{mark_of}
 use Rattle.qolb_draw.specs.declared.text.TheConstants.{COLUMNS}
 use Rattle.qolb_draw.specs.LineRuns.{Step, mark_at, event_of}
-use Rattle.qolb_shapes.specs.declared.event.Event.{Event}
-use Rattle.qolb_shapes.specs.declared.bar.Stand.{Stand}
-use Rattle.qolb_shapes.specs.declared.bar.Stand.TheVariants as stand
-use Rattle.qolb_shapes.specs.Svg.{line_begin, texts}
-use Rattle.qolb_shapes.specs.Shapes.{Shape, stand_of}
+use Rattle.qolb_draw.specs.declared.event.Event.{Event}
+use Rattle.qolb_draw.specs.declared.bar.Stand.{Stand}
+use Rattle.qolb_draw.specs.declared.bar.Stand.TheVariants as stand
+use Rattle.qolb_draw.specs.Svg.{line_begin, texts}
+use Rattle.qolb_draw.specs.Shapes.{Shape, stand_of}
 use Rattle.qolb_draw.specs.Timelines.{bars_from, columns_of, row_shapes}
 use Rattle.qolb_draw.specs.Pictures.{letter_of, label_of, label_room, block_count}
-use Rattle.qolb_shapes.specs.Heads.{heads_text}
+use Rattle.qolb_draw.specs.Heads.{heads_text}
 
 -- the marks of the nodes after each step, and the steps' numbers and nodes
 abbrev pub marks_of : ℕ → List Step → List Symbol
@@ -40,14 +42,9 @@ pub record IsGrid (nodes : ℕ) (steps : List Step) (rows : ℕ) (numbers caller
 abbrev pub column_out_of : PlainView → Change → ℕ → List Symbol
 column_out_of line change nodes = map (λ n. mark_of change (node_state line n) n) (range_with_len 1 nodes)
 
--- the marks after a command with this change, by the numbers of nodes that had these marks at rest
-abbrev pub column_by : Change → List Symbol → List Symbol
-column_by change resting = map (λ n. mark_by change (slice_index_or resting n symbol.Idle) n) (range_with_len 0 (length resting))
-
--- of these marks that of one node was set, if there is such a node
-abbrev pub IsMarkedAt : Change → List Symbol → Option ℕ → List Symbol → List Symbol → Type 0
-IsMarkedAt change resting node old new =
-    (length new ≡ length old) × ((n : ℕ) → n < length old → slice_index_or new n symbol.Idle ≡ (if is_node node n then mark_by change (slice_index_or resting n symbol.Idle) n else slice_index_or old n symbol.Idle))
+-- the marks of all nodes after a command with this change, by their states: the first of these is no node's
+abbrev pub column_by : Change → List PortState → List Symbol
+column_by change states = map (λ n. mark_of change (slice_index_or states n port.Idle) n) (range_with_len 1 (length states - 1))
 
 -- the mark of a node after command k of these
 abbrev pub mark_out_of : ℕ → List Symbol → ℕ → ℕ → Symbol

@@ -4,12 +4,12 @@ use Rattle.std.specs.List.{All, list_any}
 use Rattle.qolb_script.specs.Commands.{node_of}
 use Rattle.qolb_script.specs.Script.{IsInRange, Script}
 use Rattle.qolb_script.specs.Reply.{replay_of, line_at}
-use Rattle.qolb_shapes.specs.declared.bar.Stand.{Stand}
-use Rattle.qolb_shapes.specs.declared.bar.Stand.TheVariants as stand
+use Rattle.qolb_draw.specs.declared.bar.Stand.{Stand}
+use Rattle.qolb_draw.specs.declared.bar.Stand.TheVariants as stand
 use Rattle.qolb_draw.specs.LineRuns.{Step, mark_at, run_of, steps_on}
-use Rattle.qolb_shapes.specs.Svg.{name_y, x_of, y_of}
-use Rattle.qolb_draw.specs.Svg.{top_of, widest}
-use Rattle.qolb_shapes.specs.Shapes.{Shape, Lane, Bar, Name, Number, Arrow, Bytes, Call, stand_of}
+use Rattle.qolb_draw.specs.Svg.{name_y, x_of, y_of}
+use Rattle.qolb_draw.specs.Timelines.{top_of, widest}
+use Rattle.qolb_draw.specs.Shapes.{Shape, Lane, Bar, Name, Number, Arrow, Bytes, Call, stand_of}
 use Rattle.qolb_draw.specs.Timelines.{timeline_of}
 
 -- the commands on a line leave it as all commands of the script do; so after each command the line is drawn in its state in the replay

@@ -1,16 +1,35 @@
 -- The commands of a script on one line, in order. (Of this project.)
-use Rattle.std.specs.Prelude.{ℕ, ◌+◌, ◌==◌, if◌then◌else◌, List, [], ◌∷◌, ◌++◌, filter, fold}
+use Rattle.std.specs.Prelude.{ℕ, ◌+◌, ◌==◌, if◌then◌else◌, List, [], ◌∷◌, ◌++◌, map, filter, fold, Option, slice_get}
 use Rattle.std.specs.List.{list_any, range_with_len}
 use Rattle.qolb_model.specs.declared.config.LineConfig.{LineConfig}
 use Rattle.qolb_model.specs.OneOwner.{OwnerState, opened, state_of}
 use Rattle.qolb_script.specs.declared.command.Command.{Command}
 use Rattle.qolb_script.specs.Commands.{node_of, line_of}
 use Rattle.qolb_script.specs.Script.{Script}
-use Rattle.qolb_script.specs.Reply.{config_of, after_command}
-use Rattle.qolb_shapes.specs.declared.event.Event.{Event}
-use Rattle.qolb_shapes.specs.declared.symbol.Symbol.{Symbol}
-use Rattle.qolb_draw.specs.Changes.{change_of}
-use Rattle.qolb_shapes.specs.Marks.{mark_of}
+use Rattle.qolb_model.specs.Histories.{open_of}
+use Rattle.qolb_script.specs.Reply.{config_of, said_of, after_command, is_told}
+use Rattle.qolb_draw.specs.declared.event.Event.{Event}
+use Rattle.qolb_draw.specs.declared.symbol.Change.{Change}
+use Rattle.qolb_draw.specs.declared.symbol.Symbol.{Symbol}
+use Rattle.qolb_draw.specs.Marks.{mark_of}
+
+-- the nodes whose requests have no end yet, oldest first; and the first of these, which is at its turn
+abbrev pub waiting_nodes : OwnerState → List ℕ
+waiting_nodes s = map (λ r. r.node) (open_of s.queue.order s.queue.ends)
+
+abbrev pub turn_node : OwnerState → Option ℕ
+turn_node s = slice_get (waiting_nodes s) 0
+
+-- the change of a command: the answer to its node, whether the node is told that the line is closed, and the node at its turn before
+-- and after
+abbrev pub change_of : OwnerState → Command → Change
+change_of s c = record {
+  node = node_of c;
+  said = said_of s c;
+  told = is_told (said_of s c);
+  before = turn_node s;
+  after = turn_node (after_command s c);
+}
 
 -- a command on the line, with its number and the line's state before it. Numbers count from 1 in the script
 pub record Step : Type 0 where

@@ -5,14 +5,14 @@ use Rattle.std.specs.List.{range_with_len}
 use Rattle.qolb_replay.specs.declared.input.TheConstants.{MAX_BYTES}
 use Rattle.qolb_script.specs.declared.error.ScriptError.{ScriptError}
 use Rattle.qolb_script.specs.Script.{Script, script_of}
-use Rattle.qolb_shapes.specs.declared.form.Form.{Form}
-use Rattle.qolb_shapes.specs.declared.form.Form.TheVariants as form
-use Rattle.qolb_shapes.specs.declared.symbol.Symbol.{Symbol}
-use Rattle.qolb_shapes.specs.declared.symbol.Symbol.TheVariants as symbol
+use Rattle.qolb_draw.specs.declared.form.Form.{Form}
+use Rattle.qolb_draw.specs.declared.form.Form.TheVariants as form
+use Rattle.qolb_draw.specs.declared.symbol.Symbol.{Symbol}
+use Rattle.qolb_draw.specs.declared.symbol.Symbol.TheVariants as symbol
 use Rattle.qolb_draw.specs.declared.text.TheConstants.{COLUMNS}
-use Rattle.qolb_draw.specs.Svg.{svg_of}
+use Rattle.qolb_draw.specs.Timelines.{svg_of}
 use Rattle.qolb_draw.specs.LineRuns.{Step, mark_at, steps_on, callers}
-use Rattle.qolb_shapes.specs.Heads.{digit_at, heads_text}
+use Rattle.qolb_draw.specs.Heads.{digit_at, heads_text}
 
 -- the letter of each mark
 abbrev pub letter_of : Symbol → ℕ

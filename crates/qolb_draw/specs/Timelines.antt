@@ -1,17 +1,18 @@
 -- The shapes of a line's timeline, and their places. (Of this project.)
-use Rattle.std.specs.Prelude.{ℕ, ◌+◌, ◌*◌, ◌==◌, nat_lt, false, if◌then◌else◌, List, [], ◌∷◌, ◌++◌, length, map, flat_map, count_by, Option, Some, None}
+use Rattle.std.specs.Prelude.{ℕ, ◌+◌, ◌*◌, ◌==◌, nat_lt, max, false, if◌then◌else◌, List, [], ◌∷◌, ◌++◌, length, map, fold, flat_map, sum_by, count_by, codes, Option, Some, None}
 use Rattle.std.specs.List.{range_with_len, slice_index_or}
 use Rattle.qolb_script.specs.declared.command.Command.{Command}
 use Rattle.qolb_script.specs.declared.command.Command.TheVariants.{Enq, Write}
 use Rattle.qolb_script.specs.declared.reply_text.Said.{Said}
 use Rattle.qolb_script.specs.declared.reply_text.Said.TheVariants as said
 use Rattle.qolb_script.specs.Script.{Script}
-use Rattle.qolb_shapes.specs.declared.bar.Stand.{Stand}
-use Rattle.qolb_shapes.specs.declared.bar.Stand.TheVariants as stand
-use Rattle.qolb_shapes.specs.declared.event.Event.{Event}
+use Rattle.qolb_draw.specs.declared.bar.Stand.{Stand}
+use Rattle.qolb_draw.specs.declared.bar.Stand.TheVariants as stand
+use Rattle.qolb_draw.specs.declared.event.Event.{Event}
 use Rattle.qolb_draw.specs.LineRuns.{Step, event_of, mark_at, steps_on, callers}
-use Rattle.qolb_shapes.specs.declared.svg.TheConstants.{NAMED_EVERY}
-use Rattle.qolb_shapes.specs.Shapes.{Shape, Lane, Bar, Name, Number, Arrow, Bytes, Call, stand_of, is_same, places_in, name_count}
+use Rattle.qolb_draw.specs.declared.svg.TheConstants.{LEGEND, NAMED_EVERY, TAIL}
+use Rattle.qolb_draw.specs.Svg.{texts, height_of, width_of, line_begin, svg_head}
+use Rattle.qolb_draw.specs.Shapes.{Shape, Lane, Bar, Name, Number, Arrow, Bytes, Call, stand_of, is_same, places_in, name_count}
 
 -- the row of a node: the number of shown nodes before it
 abbrev pub row_of : List ℕ → ℕ → ℕ
@@ -77,3 +78,24 @@ shapes_of nodes steps =
 -- the shapes of a line of a schedule
 abbrev pub timeline_of : Script → ℕ → List Shape
 timeline_of script line = shapes_of script.nodes (steps_on line script)
+
+-- how many nodes call on a line; how many commands are on it
+abbrev pub rows_on : Script → ℕ → ℕ
+rows_on script line = length (callers script.nodes (steps_on line script))
+
+abbrev pub columns_on : Script → ℕ → ℕ
+columns_on script line = length (steps_on line script)
+
+-- the top of a line: the lines are one below another, under the legend
+abbrev pub top_of : Script → ℕ → ℕ
+top_of script line = 64 + sum_by (λ k. height_of (rows_on script k)) (range_with_len 0 line)
+
+-- the width of the widest of these lines, or of the legend
+abbrev pub widest : Script → ℕ → ℕ
+widest script lines = fold (λ width k. max width (width_of (columns_on script k))) 640 (range_with_len 0 lines)
+
+abbrev pub line_svg : Script → ℕ → List ℕ
+line_svg script line = line_begin (top_of script line) line ++ texts (timeline_of script line) ++ codes "</g>\n"
+
+abbrev pub svg_of : Script → List ℕ
+svg_of script = svg_head (widest script script.lines) (top_of script script.lines) ++ LEGEND.now ++ flat_map (line_svg script) (range_with_len 0 script.lines) ++ TAIL.now

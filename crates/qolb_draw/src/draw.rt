@@ -2,14 +2,15 @@
 ghost use Rattle.std.specs.Prelude.{◌≡◌, Ok, IfOk, IfErr, max};
 ghost use Rattle.qolb_replay.specs.Outcome.{HasNoReply};
 ghost use Rattle.qolb_draw.specs.Pictures.{picture_of, picture_to, in_form};
-ghost use Rattle.qolb_draw.specs.Svg.{svg_of};
+ghost use Rattle.qolb_draw.specs.Timelines.{svg_of};
 
+use crate::form::Form;
 use crate::grid::draw_line;
+use crate::svg;
 use crate::text::{LEGEND, push_line};
 use crate::timeline::push_timeline;
 use qolb_replay::ReplayError;
 use qolb_script::{Schedule, read_schedule};
-use qolb_shapes::{Form, svg};
 use std::alloc::{AllocError, Allocator};
 
 /// Returns the picture of a schedule in this form. The states are those of a replay by plain lines.

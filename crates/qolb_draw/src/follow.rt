@@ -1,24 +1,24 @@
 //! A plain line that also records what each command changes.
 ghost use Rattle.std.specs.Prelude.{◌≡◌, ◌⊎◌, length, option_copied};
-ghost use Rattle.qolb_shapes.specs.Marks.{at_rest};
 ghost use Rattle.qolb_script.specs.Reply as reply;
 ghost use Rattle.qolb_draw.specs.Following as spec;
 
+use crate::symbol::Change;
 use link_core::Told;
 use qolb_model::{Enq, Out, PlainLine, Poll, PortState};
 use qolb_replay::ReplayLine;
 use qolb_script::{Command, Said};
-use qolb_shapes::{Change, Symbol};
 use std::alloc::{AllocError, Allocator};
 
-/// A plain line, with what a picture shows of it: to ask the line for each node's state after each command would take long.
+/// A plain line, with the order of its open requests, which a plain line does not show, and with the state of each node: to ask the line
+/// for each state after each command would take long, because the line searches its waiting nodes for each.
 #[derive(Drop)]
 pub struct TracedLine<A: Allocator> {
     pub line: PlainLine,
     /// The nodes whose requests have no end yet, oldest first.
     pub waiting: Vec<u64, A>,
-    /// The mark of each node at rest, by the node's number.
-    pub resting: Vec<Symbol, A>,
+    /// The state of each node, by the node's number.
+    pub states: Vec<PortState, A>,
     /// `true` if the line is closed.
     pub closed: bool,
 }
@@ -29,22 +29,22 @@ impl<A: Allocator + Copy> TracedLine<A> {
     ghost use Rattle.qolb_model.specs.OneOwner.{OwnerState};
     ghost use Rattle.qolb_script.specs.Commands.{node_of};
     ghost use Rattle.qolb_script.specs.Reply.{after_command};
-    ghost use Rattle.qolb_draw.specs.Changes.{change_of};
-    ghost use Rattle.qolb_draw.specs.Following.{Follows, Rests};
+    ghost use Rattle.qolb_draw.specs.LineRuns.{change_of};
+    ghost use Rattle.qolb_draw.specs.Following.{Follows, HasStates};
 
     /// Wraps a line that was just opened for this number of nodes.
     pub fn new(alloc: A, line: PlainLine, nodes: u64) -> Result<TracedLine<A>, AllocError>
         requires { nodes ≤ MAX_NODES }
         ensures line { IfOk result (λ traced. traced.line ≡ line) }
         ensures waiting { IfOk result (λ traced. traced.waiting.items ≡ []) }
-        ensures resting { IfOk result (λ traced.
-            traced.resting.items ≡ replicate (nodes + 1) Symbol.Idle) }
+        ensures states { IfOk result (λ traced.
+            traced.states.items ≡ replicate (nodes + 1) PortState.Idle) }
         ensures closed { IfOk result (λ traced. traced.closed ≡ false) }
     {
         Ok(TracedLine {
             line,
             waiting: Vec::new(alloc),
-            resting: vec![in alloc; Symbol::Idle; nodes as usize + 1]?,
+            states: vec![in alloc; PortState::Idle; nodes as usize + 1]?,
             closed: false,
         })
     }
@@ -58,10 +58,10 @@ impl<A: Allocator + Copy> TracedLine<A> {
         ensures follows { IfOk result (λ change. (s : OwnerState)
             → Follows self.old.line self.old.waiting.items s
             → Follows self.new.line self.new.waiting.items (after_command s command.now)) }
-        ensures rests { IfOk result (λ change. (s : OwnerState)
+        ensures states { IfOk result (λ change. (s : OwnerState)
             → Follows self.old.line self.old.waiting.items s
-            → Rests self.old.line self.old.resting.items self.old.closed
-            → Rests self.new.line self.new.resting.items self.new.closed) }
+            → HasStates self.old.line self.old.states.items self.old.closed
+            → HasStates self.new.line self.new.states.items self.new.closed) }
         ensures nodes { self.new.line.nodes ≡ self.old.line.nodes }
     {
         let before = self.waiting.first().copied();
@@ -69,17 +69,11 @@ impl<A: Allocator + Copy> TracedLine<A> {
         if has_asked(&said) {
             self.waiting.push(command.node())?;
         }
-        let closed = pass(
-            &mut self.waiting,
-            &mut self.resting,
-            &self.line,
-            self.closed,
-        );
+        let closed = pass(&mut self.waiting, &mut self.states, &self.line, self.closed);
         look(
-            &mut self.resting,
+            &mut self.states,
             &self.line,
             command.node(),
-            has_stayed(&said),
             differs(self.closed, closed),
         );
         self.closed = closed;
@@ -103,20 +97,6 @@ fn has_asked(said: &Said) -> bool
     }
 }
 
-/// Returns `true` if a node with this answer is in the state in which it was before its command.
-fn has_stayed(said: &Said) -> bool
-    ensures { result ≡ spec.has_stayed said.now }
-{
-    matches!(
-        *said,
-        Said::Misuse
-            | Said::Written
-            | Said::Bytes(_)
-            | Said::Enq(Enq::Busy)
-            | Said::Poll(Poll::Waiting)
-    )
-}
-
 /// Returns `true` if this answer says that the line is closed.
 fn is_told(said: &Said) -> bool
     ensures { result ≡ reply.is_told said.now }
@@ -130,63 +110,56 @@ fn is_told(said: &Said) -> bool
     )
 }
 
-/// Removes the nodes at the front whose requests have ended, and keeps their marks. Returns whether the line is closed now.
+/// Removes the nodes at the front whose requests have ended, and keeps their states. Returns whether the line is closed now.
 fn pass<A: Allocator>(
     waiting: &mut Vec<u64, A>,
-    resting: &mut Vec<Symbol, A>,
+    states: &mut Vec<PortState, A>,
     line: &PlainLine,
     was_closed: bool,
 ) -> bool
     ensures waiting { waiting.new.items ≡ spec.after_ended line.now waiting.old.items }
-    ensures resting { spec.ArePassed line.now waiting.old.items waiting.new.items
-        resting.old.items resting.new.items }
+    ensures states { spec.ArePassed line.now waiting.old.items waiting.new.items
+        states.old.items states.new.items }
     ensures closed { (result ≡ line.now.closed)
         ⊎ ((result ≡ was_closed) × (waiting.new.items ≡ waiting.old.items)) }
 {
     let mut closed = was_closed;
     while let Some(state) = state_ended(waiting.first(), line) {
         let node = waiting.remove(0);
-        keep(resting, node, state);
+        keep(states, node, state);
         closed = is_shut(state);
     }
     closed
 }
 
-/// Keeps the mark at rest of this node, which made a command, unless its state has stayed. Keeps those of all nodes, if the line was closed
-/// by that.
-fn look<A: Allocator>(
-    resting: &mut Vec<Symbol, A>,
-    line: &PlainLine,
-    node: u64,
-    stayed: bool,
-    all: bool,
-)
-    ensures { spec.AreLookedAt line.now node stayed all resting.old.items resting.new.items }
+/// Keeps the state of this node, which made a command; and those of all nodes, if the line was closed by that.
+fn look<A: Allocator>(states: &mut Vec<PortState, A>, line: &PlainLine, node: u64, all: bool)
+    ensures { spec.AreLookedAt line.now node all states.old.items states.new.items }
 {
     if all {
-        look_at_all(resting, line);
-    } else if !stayed {
-        keep(resting, node, line.state(node));
+        look_at_all(states, line);
+    } else {
+        keep(states, node, line.state(node));
     }
 }
 
-/// Keeps the marks at rest of all nodes.
-fn look_at_all<A: Allocator>(resting: &mut Vec<Symbol, A>, line: &PlainLine)
-    ensures size { length resting.new.items ≡ length resting.old.items }
-    ensures marks { spec.AreAtRest line.now resting.new.items }
+/// Keeps the states of all nodes.
+fn look_at_all<A: Allocator>(states: &mut Vec<PortState, A>, line: &PlainLine)
+    ensures size { length states.new.items ≡ length states.old.items }
+    ensures states { spec.AreStates line.now states.new.items }
 {
-    for node in 0..resting.len() {
-        resting[node] = Symbol::at_rest(line.state(node as u64));
+    for node in 0..states.len() {
+        states[node] = line.state(node as u64);
     }
 }
 
-/// Keeps the mark at rest of a node in this state.
-fn keep<A: Allocator>(resting: &mut Vec<Symbol, A>, node: u64, state: PortState)
-    ensures { spec.IsKept node (at_rest state) resting.old.items resting.new.items }
+/// Keeps the state of a node.
+fn keep<A: Allocator>(states: &mut Vec<PortState, A>, node: u64, state: PortState)
+    ensures { spec.IsKept node state states.old.items states.new.items }
 {
     let place = node as usize;
-    if place < resting.len() {
-        resting[place] = Symbol::at_rest(state);
+    if place < states.len() {
+        states[place] = state;
     }
 }
 

@@ -1,19 +1,17 @@
 //! The marks of a line, command by command.
-ghost use Rattle.std.specs.Prelude.{◌≡◌, ◌<◌, ◌≤◌, ◌*◌, ◌∷◌, [], ◌++◌, ◌+◌, length, drop, IfOk, OnOk};
+ghost use Rattle.std.specs.Prelude.{◌≡◌, ◌<◌, ◌≤◌, ◌*◌, ◌∷◌, [], ◌++◌, length, IfOk, OnOk};
 ghost use Rattle.qolb_model.specs.declared.config.TheConstants.{MAX_NODES};
 ghost use Rattle.qolb_script.specs.declared.schedule.TheConstants.{MAX_COMMANDS};
 ghost use Rattle.qolb_draw.specs.LineRuns.{steps_on};
-ghost use Rattle.qolb_draw.specs.Grids.{IsGrid, IsMarkedAt, column_by};
+ghost use Rattle.qolb_draw.specs.Grids.{IsGrid, column_by};
 
+use crate::event::Event;
 use crate::follow::TracedLine;
+use crate::symbol::{Change, Symbol};
 use line_lanes::Line64;
-use qolb_model::{LineConfig, MAX_NODES, PlainLine};
+use qolb_model::{LineConfig, PlainLine, PortState};
 use qolb_script::Schedule;
-use qolb_shapes::{Change, Event, Symbol};
 use std::alloc::{AllocError, Allocator};
-
-/// The capacity for the marks of all nodes by their numbers, which begin with 1.
-const ROOM: usize = MAX_NODES as usize + 1;
 
 /// The marks of a line's nodes after each command on it.
 #[derive(Drop)]
@@ -47,9 +45,8 @@ impl<A: Allocator + Copy> Grid<A> {
         }
     }
 
-    /// Adds the command of this event, after which the nodes have these marks at rest.
-    fn push(&mut self, event: &Event, resting: &[Symbol]) -> Result<(), AllocError>
-        requires { length resting.now ≤ MAX_NODES + 1 }
+    /// Adds the command of this event, after which the nodes are in these states.
+    fn push(&mut self, event: &Event, states: &[PortState]) -> Result<(), AllocError>
         ensures nodes { self.new.nodes ≡ self.old.nodes }
         ensures numbers { OnOk result (self.new.numbers.items
             ≡ self.old.numbers.items ++ event.now.number ∷ []) }
@@ -58,50 +55,28 @@ impl<A: Allocator + Copy> Grid<A> {
         ensures events { OnOk result (self.new.events.items
             ≡ self.old.events.items ++ event.now ∷ []) }
         ensures marks { OnOk result (self.new.marks.items
-            ≡ self.old.marks.items ++ drop 1 (column_by event.now.change resting.now)) }
+            ≡ self.old.marks.items ++ column_by event.now.change states.now) }
     {
         self.numbers.push(event.number)?;
         self.callers.push(event.change.node)?;
         self.events.push(*event)?;
-        push_column(&mut self.marks, &event.change, resting)?;
+        push_column(&mut self.marks, &event.change, states)?;
         Ok(())
     }
 }
 
-/// Appends the marks of all nodes after a command.
+/// Appends the marks of all nodes after a command with this change, by their states, of which the first is no node's.
 fn push_column<A: Allocator>(
     marks: &mut Vec<Symbol, A>,
     change: &Change,
-    resting: &[Symbol],
+    states: &[PortState],
 ) -> Result<(), AllocError>
-    requires { length resting.now ≤ MAX_NODES + 1 }
-    ensures { OnOk result (marks.new.items ≡ marks.old.items
-        ++ drop 1 (column_by change.now resting.now)) }
+    ensures { OnOk result (marks.new.items ≡ marks.old.items ++ column_by change.now states.now) }
 {
-    let mut room = [Symbol::Idle; ROOM];
-    let column = &mut room[..resting.len()];
-    column.copy_from_slice(resting);
-    mark_at(column, change, resting, Some(change.node));
-    mark_at(column, change, resting, change.before);
-    mark_at(column, change, resting, change.after);
-    if let Some((_, nodes)) = column.split_first() {
-        marks.extend_from_slice(nodes)?;
+    for node in 1..states.len() {
+        marks.push(change.mark(states[node], node as u64))?;
     }
     Ok(())
-}
-
-/// Sets the mark of a node after a command, if there is such a node. A command changes no mark at rest but those of its own node and of the
-/// nodes at their turn before and after.
-fn mark_at(column: &mut [Symbol], change: &Change, resting: &[Symbol], node: Option<u64>)
-    requires { length column.old ≡ length resting.now }
-    ensures { IsMarkedAt change.now resting.now node column.old column.new }
-{
-    if let Some(node) = node {
-        let place = node as usize;
-        if place < column.len() {
-            column[place] = change.mark(resting[place], node);
-        }
-    }
 }
 
 /// Does the commands on this line, and keeps the marks of its nodes after each.
@@ -139,7 +114,7 @@ pub fn draw_line<A: Allocator + Copy>(
                 command: *command,
                 change,
             };
-            grid.push(&event, &line.resting)?;
+            grid.push(&event, &line.states)?;
         }
     }
     Ok(grid)

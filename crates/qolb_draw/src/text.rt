@@ -8,8 +8,9 @@ ghost use Rattle.qolb_draw.specs.Pictures as spec;
 ghost use Rattle.qolb_draw.specs.Grids.{mark_out_of, row_out_of, block_out_of, blocks_out_of, shown_out_of, line_out_of};
 
 use crate::grid::Grid;
+use crate::heads::{digit_at, push_heads};
+use crate::symbol::Symbol;
 use qolb_model::MAX_NODES;
-use qolb_shapes::{Symbol, digit_at, push_heads};
 use std::alloc::{AllocError, Allocator};
 
 /// The largest number of commands of a block.

@@ -3,18 +3,20 @@ ghost use Rattle.std.specs.Prelude.{◌≡◌, ◌++◌, ◌≤◌, ◌<◌, ◌
 ghost use Rattle.std.specs.List.{range_with_len, slice_index_or};
 ghost use Rattle.qolb_model.specs.declared.config.TheConstants.{MAX_NODES};
 ghost use Rattle.qolb_script.specs.declared.schedule.TheConstants.{MAX_COMMANDS, MAX_LINES};
-ghost use Rattle.qolb_shapes.specs.Svg.{texts};
+ghost use Rattle.qolb_draw.specs.Svg.{texts};
 ghost use Rattle.qolb_draw.specs.Grids.{row_shapes_out_of, bars_out_of, shown_out_of, line_svg_out_of};
 ghost use Rattle.qolb_draw.specs.Timelines as spec;
 
+use crate::bar::Stand;
+use crate::call::places;
+use crate::event::Event;
 use crate::grid::Grid;
+use crate::svg::{
+    Scale, push_arrow, push_bar, push_bytes, push_call, push_lane, push_line_begin, push_names,
+    push_number,
+};
 use crate::text::shown;
 use qolb_script::{Command, Said};
-use qolb_shapes::svg::{
-    NAMED_EVERY, push_arrow, push_bar, push_bytes, push_call, push_lane, push_line_begin,
-    push_name, push_name_end, push_number,
-};
-use qolb_shapes::{Event, Stand, places};
 use std::alloc::{AllocError, Allocator};
 
 /// Returns the row of a node: the number of shown nodes before it.
@@ -81,39 +83,8 @@ fn push_bars<A: Allocator>(
     Ok(())
 }
 
-/// Returns the first of two ends of a name for the first one, and else the other.
-fn end_of_name<'a>(first: &'a [u8], further: &'a [u8], count: usize) -> &'a [u8]
-    ensures { result.now ≡ (if count == 0 then first.now else further.now) }
-{
-    if count == 0 { first } else { further }
-}
-
-/// Appends the name of a node, repeated.
-fn push_names<A: Allocator + Copy>(
-    alloc: A,
-    svg: &mut Vec<u8, A>,
-    row: u8,
-    columns: usize,
-    node: u64,
-) -> Result<(), AllocError>
-    requires { columns ≤ MAX_COMMANDS }
-    ensures { OnOk result (svg.new.items ≡ svg.old.items
-        ++ texts (spec.names_of row columns node)) }
-{
-    let mut first = Vec::new(alloc);
-    push_name_end(&mut first, row, 0, node)?;
-    let mut further = Vec::new(alloc);
-    push_name_end(&mut further, row, 1, node)?;
-    for count in 0..(columns + (NAMED_EVERY - 1)) / NAMED_EVERY {
-        let end = end_of_name(&first, &further, count);
-        push_name(svg, (NAMED_EVERY * count) as u32, end)?;
-    }
-    Ok(())
-}
-
 /// Appends the row of a node.
-fn push_row<A: Allocator + Copy>(
-    alloc: A,
+fn push_row<A: Allocator>(
     svg: &mut Vec<u8, A>,
     grid: &Grid<A>,
     shown: &[u64],
@@ -130,9 +101,9 @@ fn push_row<A: Allocator + Copy>(
 {
     let row = row_of(shown, node);
     let columns = grid.numbers.len();
-    push_lane(svg, row, columns as u32)?;
+    push_lane(svg, Scale::Schedule, row, columns as u32)?;
     push_bars(svg, grid, row, node)?;
-    push_names(alloc, svg, row, columns, node)?;
+    push_names(svg, Scale::Schedule, row, columns, node)?;
     Ok(())
 }
 
@@ -198,7 +169,7 @@ fn push_column<A: Allocator + Copy>(
     ensures { OnOk result (svg.new.items ≡ svg.old.items
         ++ texts (spec.column_shapes shown.now column event.now)) }
 {
-    push_number(svg, column, event.number)?;
+    push_number(svg, Scale::Schedule, column, event.number)?;
     push_handoff(svg, shown, column, event)?;
     push_written(alloc, svg, shown, column, event)?;
     push_call(alloc, svg, row_of(shown, event.change.node), column, event)?;
@@ -206,8 +177,7 @@ fn push_column<A: Allocator + Copy>(
 }
 
 /// Appends the rows of these nodes.
-fn push_rows<A: Allocator + Copy>(
-    alloc: A,
+fn push_rows<A: Allocator>(
     svg: &mut Vec<u8, A>,
     grid: &Grid<A>,
     shown: &[u64],
@@ -222,7 +192,7 @@ fn push_rows<A: Allocator + Copy>(
         (length grid.now.numbers.items) n)) shown.now) }
 {
     for node in shown {
-        push_row(alloc, svg, grid, shown, *node)?;
+        push_row(svg, grid, shown, *node)?;
     }
     Ok(())
 }
@@ -269,7 +239,7 @@ pub fn push_timeline<A: Allocator + Copy>(
 {
     let nodes = shown(alloc, grid)?;
     push_line_begin(svg, top, number)?;
-    push_rows(alloc, svg, grid, &nodes)?;
+    push_rows(svg, grid, &nodes)?;
     push_columns(alloc, svg, &grid.events, &nodes)?;
     svg.extend_from_slice(b"</g>\n")?;
     Ok(nodes.len() as u64)

@@ -3,23 +3,20 @@ use Rattle.std.proofs.Common.{◌≡◌, ℕ, suc, ◌==◌, ◌&&◌, true, fal
 use Rattle.std.specs.List.{range_with_len}
 use Rattle.std.proofs.lemmas.List.{drop_more, take_more, take_all, length-take-le}
 use Rattle.std.proofs.lemmas.Grind.{flat_map-append}
-use Rattle.qolb_model.specs.OneOwner.{OwnerState, opened}
+use Rattle.qolb_model.specs.OneOwner.{OwnerState, opened, state_of}
 use Rattle.qolb_model.specs.Plain.{PlainView, Agrees}
 use Rattle.link_core.specs.declared.event.Event.{Event}
 use Rattle.link_core.specs.declared.state.State.{State}
 use Rattle.link_core.specs.State.{first}
 use Rattle.link_core.specs.State as state
-use Rattle.link_core.specs.Steps.{node_of}
-use Rattle.link_core.specs.Steps.{Step, IsRefused}
+use Rattle.link_core.specs.Steps.{node_of, Step, IsRefused}
 use Rattle.link_core.specs.declared.told.Told.{Told}
 use Rattle.link_core.specs.declared.told.NotEnabled.{NotEnabled}
 use Rattle.qolb_model.specs.declared.answer.PortState.{PortState}
-use Rattle.qolb_model.specs.OneOwner.{state_of}
 use Rattle.qolb_script.specs.Commands as commands
-use Rattle.qolb_script.specs.Reply.{said_of}
-use Rattle.qolb_shapes.specs.Marks.{is_misuse}
+use Rattle.qolb_script.specs.Reply.{said_of, config_of}
+use Rattle.qolb_words.specs.Words.{is_misuse}
 use Rattle.qolb_script.specs.declared.command.Command.{Command}
-use Rattle.qolb_script.specs.Reply.{config_of}
 use Rattle.qolb_script.specs.Script.{Script}
 use Rattle.qolb_script.specs.StepScript.{StepScript}
 use Rattle.qolb_replay.specs.StepRuns.{line_of}

@@ -1,3 +1,2 @@
-pub mod Reasons
+pub mod Complaints
 pub mod Notes
-pub mod Laws

@@ -24,10 +24,7 @@ use Rattle.qolb_script.specs.Reply.{is_allowed, said_of, after_command, config_o
 use Rattle.qolb_script.specs.Script.{Script, script_of}
 use Rattle.qolb_script.specs.StepScript.{StepScript, steps_of}
 use Rattle.qolb_replay.specs.StepRuns as runs
-use Rattle.qolb_shapes.specs.Marks.{is_misuse}
-use Rattle.qolb_shapes.specs.Points.{point_words}
-use Rattle.qolb_shapes.specs.Svg.{field}
-use Rattle.qolb_shapes.specs.Verbs.{step_verb, verb_of}
+use Rattle.qolb_words.specs.Words.{is_misuse, point_words, field, step_verb, verb_of}
 
 -- some words, one behind the other
 abbrev pub listed : List (List ℕ) → List ℕ

@@ -1,5 +1,5 @@
 //! The words that are near others: what a word of another subcommand or of a library of locks means here.
-use crate::reason::Allowed;
+use qolb_script::Allowed;
 
 /// More bytes than any word has that is near another.
 const MAX_WORD: usize = 20;

@@ -4,15 +4,14 @@ ghost use Rattle.qolb_model.specs.OneOwner.{OwnerState, opened};
 ghost use Rattle.qolb_model.specs.Plain.{Agrees};
 ghost use Rattle.qolb_script.specs.Commands.{node_of};
 ghost use Rattle.qolb_script.specs.Reply.{config_of};
-ghost use Rattle.qolb_shapes.specs.Marks.{is_misuse};
+ghost use Rattle.qolb_words.specs.Words.{is_misuse};
 ghost use Rattle.qolb_explain.specs.Notes as spec;
 
 use line_lanes::Line64;
 use qolb_model::{LineConfig, PlainLine, PortState};
 use qolb_replay::ReplayLine;
 use qolb_script::{Command, Said, Schedule, ScriptError, read_schedule};
-use qolb_shapes::svg::push_field;
-use qolb_shapes::verb;
+use qolb_words::{push_field, verb};
 use std::alloc::{AllocError, Global};
 
 /// Returns a line of text for each command of a schedule that is misuse, by the lines of the schedule: the node's state, and which commands

@@ -9,8 +9,7 @@ use line_lanes::Line64;
 use link_core::{Core, Event, NotEnabled, Point, Told};
 use qolb_model::LineConfig;
 use qolb_script::{ScriptError, Steps, read_steps};
-use qolb_shapes::svg::push_field;
-use qolb_shapes::{push_point, step_verb};
+use qolb_words::{push_field, push_point, step_verb};
 use std::alloc::{AllocError, Global};
 
 /// Returns a line of text for each event of a step script that is refused: the node's point, and which events it allows. Empty if the

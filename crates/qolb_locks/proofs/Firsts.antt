@@ -1,10 +1,10 @@
--- The steps of a ticket's first call.
+-- The atomic steps of a ticket's first call, which makes its seat.
 use Rattle.std.proofs.Common.{◌≡◌, ℕ, ◌+◌, [], ◌∷◌, sym, ap, ◌∙◌, arith}
 use Rattle.lock_core.specs.declared.view.View.{View}
 use Rattle.qolb_locks.specs.declared.ticket.Ticket.{Ticket}
 use Rattle.qolb_locks.specs.Calls.{StepsFirst, StepsUpTo}
 
--- a new seat's steps, and then the call's
+-- the steps that make a new seat, followed by the steps of the call
 pub first_then : (k m : ℕ) (mid now : Ticket) → StepsFirst k mid → StepsUpTo m mid now → StepsFirst (k + m) now
 first_then k m mid now first later =
     let one : first.0 ∷ [] ≡ later.0 ∷ [] = sym first.1 ∙ later.2 in

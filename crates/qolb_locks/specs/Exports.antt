@@ -1,4 +1,4 @@
--- What an export of a lock's call says of the lock that it is called with. (Of this project.)
+-- What an export promises of the lock that C calls it with. The definitions are this project's own.
 use Rattle.std.specs.Prelude.{◌≡◌, ℕ, Option, Some}
 use Rattle.qolb_locks.specs.declared.answer.Answer.{Answer}
 use Rattle.qolb_locks.specs.declared.answer.Answer.TheVariants as answer
@@ -20,10 +20,10 @@ number_of answer.Asleep = 17
 number_of answer.Full = 18
 number_of answer.Unfinished = 19
 
--- of the lock that the reference is to
+-- the claim holds of the lock that the reference refers to
 abbrev pub Of : Option Lock → (Lock → Type 0) → Type 0
 Of lock P = (l : Lock) × (lock ≡ Some l) × P l
 
--- the number returned is that of an answer, and of the lock and this answer it is so
+-- the number returned is that of an answer, and the claim holds of the lock and this answer
 abbrev pub Answers : Option Lock → ℕ → (Lock → Answer → Type 0) → Type 0
 Answers lock n P = (l : Lock) × (a : Answer) × (lock ≡ Some l) × (n ≡ number_of a) × P l a

@@ -1,4 +1,4 @@
--- What a ticket has, and what it knows of its lock. (Of this project.)
+-- What a ticket has, and what it knows of its lock. The definitions are this project's own.
 use Rattle.std.specs.Prelude.{◌≡◌, ◌≢◌, ℕ, ◌==◌, if◌then◌else◌, ◌≤◌, [], ◌∷◌}
 use Rattle.lock_core.specs.declared.view.View.{View}
 use Rattle.lock_core.specs.Views.{max_newcomers_of, Timely, IsIdle, IsQueuedWithin, IsAsleep, IsAtTurn, HasTurnOf, IsInside, ServedOpen, ServedShut, KnowsShut}
@@ -21,7 +21,7 @@ number_of state.HeadInsideShut = 8
 number_of state.Inside = 9
 number_of state.InsideShut = 10
 
--- the state of a number; no other number is ever made
+-- the state of a number; no other number occurs
 abbrev pub state_of : ℕ → State
 state_of n =
     if n == 1 then state.Waiting else if n == 2 then state.Asleep else if n == 3 then state.AtTurn
@@ -29,7 +29,7 @@ state_of n =
     else if n == 7 then state.HeadInside else if n == 8 then state.HeadInsideShut
     else if n == 9 then state.Inside else if n == 10 then state.InsideShut else state.Free
 
--- a strict lock; a barging lock
+-- the lock is strict, or it is a barging lock
 abbrev pub IsStrict : Lock → Type 0
 IsStrict lock = lock.barging_limit ≤ 1
 
@@ -50,30 +50,32 @@ Says state.HeadInsideShut number rounds v = HasTurnOf number v × (v.inside ≡ 
 Says state.Inside number rounds v = IsInside v × ServedOpen v
 Says state.InsideShut number rounds v = IsInside v × ServedShut v × KnowsShut v
 
--- the ticket has a seat of this lock, and this is so of its view, if no more load was on the lock than `Timely` allows
+-- the ticket has a seat of this lock, and the claim holds of its view, if the load on the lock never exceeded what
+-- `Timely` allows
 abbrev pub Knows : Lock → Ticket → (View → Type 0) → Type 0
 Knows lock t P = (v : View) × (t.claim.views ≡ v ∷ []) × (t.claim.table_id ≡ lock.table.shared.table_id)
     × (v.max_newcomers ≡ max_newcomers_of lock.table.shared.key) × (Timely v → P v)
 
--- the ticket is of this lock by its label, and in this state by its number; and what that says is so
+-- the ticket belongs to this lock by its label, it is in this state by its number, and what that state says is true
 abbrev pub Is : State → Lock → Ticket → Type 0
 Is state lock t = (t.label ≡ lock.label) × (t.state ≡ number_of state)
 
--- the ticket is of this lock, and in one of the states of these numbers
+-- the ticket belongs to this lock, and its state has one of these numbers
 abbrev pub IsWithin : ℕ → ℕ → Lock → Ticket → Type 0
 IsWithin low high lock t = (t.label ≡ lock.label) × (low ≤ t.state) × (t.state ≤ high)
 
 abbrev pub Has : State → Lock → Ticket → Type 0
 Has state lock t = Is state lock t × Knows lock t (Says state t.number t.rounds)
 
--- What a call requires of a ticket: if it has the lock's label, what its state says is so. A ticket of zeros has no lock's label.
+-- What a call requires of a ticket: if the ticket has the lock's label, what its state says is true. A ticket of zeros
+-- has the label of no lock.
 abbrev pub IsKnown : Lock → Ticket → Type 0
 IsKnown lock t = t.label ≡ lock.label → Knows lock t (Says (state_of t.state) t.number t.rounds)
 
--- it has no request of any lock
+-- the ticket has no request at any lock
 abbrev pub IsFree : Ticket → Type 0
 IsFree t = t.state ≡ 0
 
--- it has no request, and no seat of this lock: its next call that draws or barges is its first at this lock
+-- the ticket has no request, and no seat of this lock: its next call that draws or barges is its first at this lock
 abbrev pub IsNew : Lock → Ticket → Type 0
 IsNew lock t = (t.state ≡ 0) × (t.label ≢ lock.label)

@@ -1,4 +1,4 @@
-//! Barging: a thread takes the lock word without a number of the queue, and overtakes the queue.
+//! Barging: a thread takes the lock word without a number of the queue, and so overtakes the queue.
 //!
 //! A thread that barges is a *newcomer* (`lock_core`).
 ghost use Rattle.qolb_locks.specs.declared.answer.Answer.{Answer};
@@ -13,7 +13,7 @@ use crate::ticket::{State, Ticket};
 use lock_core::BargeResult;
 use lock_core::layout::BARGED;
 
-/// Barges with a ticket of the lock.
+/// Barges with a ticket that has a seat of this lock.
 #[inline(always)]
 fn barge_again(lock: &Lock, ticket: &mut Ticket) -> Answer
     requires barging { IsBarging lock.now }
@@ -40,9 +40,9 @@ fn barge_again(lock: &Lock, ticket: &mut Ticket) -> Answer
     }
 }
 
-/// Barges with a ticket that is not of the lock yet.
+/// Barges with a ticket that has no seat of this lock yet.
 ///
-/// Not inlined, so that the call of a ticket of the lock saves no registers for it.
+/// The function is not inlined, so that the common call saves no registers for it.
 #[inline(never)]
 fn barge_first(lock: &Lock, ticket: &mut Ticket) -> Answer
     requires barging { IsBarging lock.now }
@@ -56,9 +56,9 @@ fn barge_first(lock: &Lock, ticket: &mut Ticket) -> Answer
     barge_again(lock, ticket)
 }
 
-/// Takes the lock word without waiting, if it is as the ticket guesses, free for barging threads, and open.
+/// Takes the lock word without waiting, if the word is as the ticket guesses, free for barging threads, and open.
 ///
-/// Else `Busy`, and the ticket has the word that was found.
+/// Otherwise the answer is `Busy`, and the ticket has the word that the call found.
 #[inline(always)]
 pub fn barge(lock: &Lock, ticket: &mut Ticket) -> Answer
     requires { IsKnown lock.now ticket.old }

@@ -1,4 +1,4 @@
-//! What a ticket owns of its lock.
+//! A claim is what a ticket owns of its lock: a seat of the lock's table.
 ghost use Rattle.std.specs.Prelude.{◌≡◌, ℕ, List, [], ◌∷◌};
 ghost use base.Stored.{coded_list};
 ghost use Rattle.atomic_table.specs.Seated.{TableId, table_id_coded};
@@ -9,7 +9,7 @@ use atomic_table::Badge;
 use lock_core::{TicketSeat, View};
 use std::marker::Model;
 
-/// What the caller knows and owns of the lock. C has no struct without a field.
+/// What the caller knows and owns of the lock. The struct has a byte, because C has no struct without a field.
 #[repr(C)]
 #[derive(Drop)]
 pub struct Claim {
@@ -24,7 +24,7 @@ impl Model for Claim {
 }
 
 impl Claim {
-    /// The claim and the badge exchange what they know. No code.
+    /// Exchanges what the claim and the badge know. The function has no code.
     #[inline(always)]
     fn exchange(&mut self, badge: &mut Badge<View>)
         ensures { (self.new.table_id ≡ badge.old.table_id) × (self.new.id ≡ badge.old.id)
@@ -32,7 +32,7 @@ impl Claim {
             × (badge.new.id ≡ self.old.id) × (badge.new.views ≡ self.old.views) }
     {}
 
-    /// Takes the seat out.
+    /// Takes the seat out of the claim.
     #[inline(always)]
     pub(crate) fn take(&mut self) -> TicketSeat
         requires { (v : View) × (self.old.views ≡ v ∷ []) }
@@ -45,7 +45,7 @@ impl Claim {
         badge.into_seat::<u64>()
     }
 
-    /// Puts a seat in, in the place of any other.
+    /// Puts a seat into the claim, in place of any other.
     #[inline(always)]
     pub(crate) fn put(&mut self, seat: TicketSeat)
         requires { seat.me.1 ≡ [] }

@@ -1,4 +1,4 @@
-//! A ticket requests the lock: it draws a number, which is its place in the order.
+//! Requests: a ticket draws a number, which is its place in the order.
 ghost use Rattle.std.specs.Prelude.{◌≡◌};
 ghost use Rattle.qolb_locks.specs.declared.ticket.State.{State};
 ghost use Rattle.qolb_locks.specs.Calls.{IsMisuse, OnlyRequest, OnlySeat, StepsUpTo, StepsFirst, Learns, IfDrawn, IsBehind, Looks, DrawsAndChecks, Tries, DrawsNear};
@@ -21,7 +21,7 @@ pub(crate) fn take_new_seat(lock: &Lock, ticket: &mut Ticket)
     ticket.label = lock.label;
 }
 
-/// Requests the lock with a ticket of it, and polls once.
+/// Requests the lock with a ticket that has a seat of it, and polls once.
 #[inline(always)]
 fn draw_again(lock: &Lock, ticket: &mut Ticket) -> Answer
     requires { Has State.Free lock.now ticket.old }
@@ -38,9 +38,9 @@ fn draw_again(lock: &Lock, ticket: &mut Ticket) -> Answer
     ticket.settle(rounds)
 }
 
-/// Requests the lock with a ticket that is not of it yet.
+/// Requests the lock with a ticket that has no seat of it yet, and polls once.
 ///
-/// Not inlined, so that the call of a ticket of the lock saves no registers for it.
+/// The function is not inlined, so that the common call saves no registers for it.
 #[inline(never)]
 fn draw_first(lock: &Lock, ticket: &mut Ticket) -> Answer
     requires { IsFree ticket.old }
@@ -76,7 +76,8 @@ pub fn draw(lock: &Lock, ticket: &mut Ticket) -> Answer
     draw_again(lock, ticket)
 }
 
-/// Requests a strict lock with a ticket of it. If the ticket is at its turn at once, checks whether the lock is open.
+/// Requests a strict lock with a ticket that has a seat of it. If the ticket is at its turn at once, checks whether the
+/// lock is open.
 #[inline(always)]
 fn draw_and_check_again(lock: &Lock, ticket: &mut Ticket) -> Answer
     requires strict { IsStrict lock.now }
@@ -99,9 +100,10 @@ fn draw_and_check_again(lock: &Lock, ticket: &mut Ticket) -> Answer
     ticket.tell(open)
 }
 
-/// Requests a strict lock with a ticket that is not of it yet. If the ticket is at its turn at once, checks whether the lock is open.
+/// Requests a strict lock with a ticket that has no seat of it yet. If the ticket is at its turn at once, checks
+/// whether the lock is open.
 ///
-/// Not inlined, so that the call of a ticket of the lock saves no registers for it.
+/// The function is not inlined, so that the common call saves no registers for it.
 #[inline(never)]
 fn draw_and_check_first(lock: &Lock, ticket: &mut Ticket) -> Answer
     requires strict { IsStrict lock.now }
@@ -115,9 +117,10 @@ fn draw_and_check_first(lock: &Lock, ticket: &mut Ticket) -> Answer
     draw_and_check_again(lock, ticket)
 }
 
-/// Requests a strict lock, polls once, and at its turn checks whether the lock is open: `draw` and `check_open` in one call.
+/// Requests a strict lock and polls once, and if the ticket is at its turn, checks whether the lock is open. This is
+/// `draw` and `check_open` in one call.
 ///
-/// `Closed` if the lock is shut: the caller must pass the turn on, by `release`.
+/// The answer is `Closed` if the lock is shut. The caller must then pass the turn on by `release`.
 #[inline(always)]
 pub fn draw_and_check(lock: &Lock, ticket: &mut Ticket) -> Answer
     requires { IsKnown lock.now ticket.old }
@@ -142,7 +145,7 @@ pub fn draw_and_check(lock: &Lock, ticket: &mut Ticket) -> Answer
     draw_and_check_again(lock, ticket)
 }
 
-/// Tries for the lock with a ticket of it.
+/// Tries for the lock with a ticket that has a seat of it.
 #[inline(always)]
 fn try_draw_again(lock: &Lock, ticket: &mut Ticket) -> Answer
     requires { Has State.Free lock.now ticket.old }
@@ -163,9 +166,9 @@ fn try_draw_again(lock: &Lock, ticket: &mut Ticket) -> Answer
     Answer::Granted
 }
 
-/// Tries for the lock with a ticket that is not of it yet.
+/// Tries for the lock with a ticket that has no seat of it yet.
 ///
-/// Not inlined, so that the call of a ticket of the lock saves no registers for it.
+/// The function is not inlined, so that the common call saves no registers for it.
 #[inline(never)]
 fn try_draw_first(lock: &Lock, ticket: &mut Ticket) -> Answer
     requires { IsFree ticket.old }
@@ -178,9 +181,9 @@ fn try_draw_first(lock: &Lock, ticket: &mut Ticket) -> Answer
     try_draw_again(lock, ticket)
 }
 
-/// Requests the lock if nobody has it and nobody waits. The request is behind the ticket's last turn at this lock.
+/// Requests the lock if no caller has it and none waits. The request is behind the ticket's last turn at this lock.
 ///
-/// A call that does not request it leaves nothing behind.
+/// A call that does not request the lock leaves nothing behind.
 #[inline(always)]
 pub fn try_draw(lock: &Lock, ticket: &mut Ticket) -> Answer
     requires { IsKnown lock.now ticket.old }
@@ -202,7 +205,7 @@ pub fn try_draw(lock: &Lock, ticket: &mut Ticket) -> Answer
     try_draw_again(lock, ticket)
 }
 
-/// Requests the lock with a ticket of it, if the request could be withdrawn.
+/// Requests the lock with a ticket that has a seat of it, if the request could be withdrawn.
 #[inline(always)]
 fn draw_near_again(lock: &Lock, ticket: &mut Ticket) -> Answer
     requires { Has State.Free lock.now ticket.old }
@@ -238,9 +241,9 @@ fn draw_near_again(lock: &Lock, ticket: &mut Ticket) -> Answer
     }
 }
 
-/// Requests the lock with a ticket that is not of it yet, if the request could be withdrawn.
+/// Requests the lock with a ticket that has no seat of it yet, if the request could be withdrawn.
 ///
-/// Not inlined, so that the call of a ticket of the lock saves no registers for it.
+/// The function is not inlined, so that the common call saves no registers for it.
 #[inline(never)]
 fn draw_near_first(lock: &Lock, ticket: &mut Ticket) -> Answer
     requires { IsFree ticket.old }
@@ -255,8 +258,8 @@ fn draw_near_first(lock: &Lock, ticket: &mut Ticket) -> Answer
 
 /// Requests the lock if the request could be withdrawn. The request is behind the ticket's last turn at this lock.
 ///
-/// A call that does not request it leaves nothing behind: `Far` if too many requests are before it, and `Busy` if another caller drew a ticket at
-/// that moment.
+/// A call that does not request the lock leaves nothing behind. Its answer is `Far` if too many requests are before the
+/// new one, and `Busy` if another caller drew a ticket at that moment.
 #[inline(always)]
 pub fn draw_near(lock: &Lock, ticket: &mut Ticket) -> Answer
     requires { IsKnown lock.now ticket.old }

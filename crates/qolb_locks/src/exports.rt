@@ -1,6 +1,7 @@
-//! The calls of a lock that many threads share, for C: `c/src/core.h` declares them.
+//! The exports for C of a lock that many threads share. `c/src/core.h` declares them.
 //!
-//! C has a lock by a reference, which it may copy, and a request by a ticket of its own. What C owes for it is in that header.
+//! C has a lock by a reference, which it may copy, and a request by a ticket of its own. That header says what C must
+//! guarantee in return.
 ghost use Rattle.std.specs.Prelude.{◌≡◌, ◌≢◌, true};
 ghost use Rattle.lock_core.specs.Views.{SameRequest};
 ghost use Rattle.qolb_locks.specs.declared.answer.Answer.{Answer};
@@ -22,9 +23,9 @@ fn number(answer: Answer) -> u32
     answer as u32
 }
 
-/// Opens a lock with a barging limit; a limit of at most 1 makes a strict lock.
+/// Opens a lock with a barging limit. A limit of at most 1 makes a strict lock.
 ///
-/// By `label` a ticket of this lock is known from one of another lock.
+/// `label` tells a ticket of this lock from a ticket of another lock.
 #[unsafe(no_mangle)]
 pub extern "C" fn qolb_core_open_proved_(
     alloc: Global,
@@ -38,7 +39,7 @@ pub extern "C" fn qolb_core_open_proved_(
     number(crate::open(alloc, barging_limit, label, out))
 }
 
-/// Requests the lock: draws a ticket, and polls once. Many threads may call with one lock at a time.
+/// Requests the lock: draws a ticket, and polls once. Many threads may call this with one lock at the same time.
 #[unsafe(no_mangle)]
 pub extern "C" fn qolb_core_draw_proved_(lock: &LockRef, ticket: &mut Ticket) -> u32
     requires { Of lock.now.lock (λ l. IsKnown l ticket.old) }
@@ -56,7 +57,7 @@ pub extern "C" fn qolb_core_draw_proved_(lock: &LockRef, ticket: &mut Ticket) ->
     number(crate::draw(lock.get(), ticket))
 }
 
-/// Requests a strict lock, polls once, and at its turn checks whether the lock is open.
+/// Requests a strict lock, polls once, and if the ticket is at its turn, checks whether the lock is open.
 #[unsafe(no_mangle)]
 pub extern "C" fn qolb_core_draw_and_check_proved_(lock: &LockRef, ticket: &mut Ticket) -> u32
     requires { Of lock.now.lock (λ l. IsKnown l ticket.old) }
@@ -98,7 +99,7 @@ pub extern "C" fn qolb_core_draw_near_proved_(lock: &LockRef, ticket: &mut Ticke
     number(crate::draw_near(lock.get(), ticket))
 }
 
-/// Requests the lock if nobody has it and nobody waits. A call that does not request it leaves nothing behind.
+/// Requests the lock if no caller has it and none waits. A call that does not request it leaves nothing behind.
 #[unsafe(no_mangle)]
 pub extern "C" fn qolb_core_try_draw_proved_(lock: &LockRef, ticket: &mut Ticket) -> u32
     requires { Of lock.now.lock (λ l. IsKnown l ticket.old) }
@@ -136,7 +137,7 @@ pub extern "C" fn qolb_core_poll_proved_(lock: &LockRef, ticket: &mut Ticket) ->
 
 /// Counts the waiter as a sleeper of its cell, unless it is at its turn.
 ///
-/// The ticket has the word at which it may sleep then.
+/// The ticket then has the word at which the waiter may sleep.
 #[unsafe(no_mangle)]
 pub extern "C" fn qolb_core_announce_sleep_proved_(lock: &LockRef, ticket: &mut Ticket) -> u32
     requires { Of lock.now.lock (λ l. IsKnown l ticket.old) }
@@ -154,7 +155,7 @@ pub extern "C" fn qolb_core_announce_sleep_proved_(lock: &LockRef, ticket: &mut 
     number(crate::announce_sleep(lock.get(), ticket))
 }
 
-/// Takes the count of a sleeper back.
+/// Takes back the count of a sleeper.
 #[unsafe(no_mangle)]
 pub extern "C" fn qolb_core_retract_sleep_proved_(lock: &LockRef, ticket: &mut Ticket) -> u32
     requires { Of lock.now.lock (λ l. IsKnown l ticket.old) }
@@ -172,7 +173,7 @@ pub extern "C" fn qolb_core_retract_sleep_proved_(lock: &LockRef, ticket: &mut T
     number(crate::retract_sleep(lock.get(), ticket))
 }
 
-/// Withdraws a request that was within the window of withdrawal when it last looked.
+/// Withdraws a request that was within the window of withdrawal when its caller last looked.
 #[unsafe(no_mangle)]
 pub extern "C" fn qolb_core_withdraw_proved_(lock: &LockRef, ticket: &mut Ticket) -> u32
     requires { Of lock.now.lock (λ l. IsKnown l ticket.old) }
@@ -206,7 +207,7 @@ pub extern "C" fn qolb_core_release_proved_(lock: &LockRef, ticket: &mut Ticket)
     number(crate::release(lock.get(), ticket))
 }
 
-/// Checks, for a ticket at its turn in a strict lock, whether the lock is open: only then the caller is served.
+/// Checks, for a ticket at its turn in a strict lock, whether the lock is open. The caller is served only if it is.
 #[unsafe(no_mangle)]
 pub extern "C" fn qolb_core_check_open_proved_(lock: &LockRef, ticket: &mut Ticket) -> u32
     requires { Of lock.now.lock (λ l. IsKnown l ticket.old) }
@@ -222,9 +223,9 @@ pub extern "C" fn qolb_core_check_open_proved_(lock: &LockRef, ticket: &mut Tick
     number(crate::check_open(lock.get(), ticket))
 }
 
-/// Takes the lock word without waiting, if it is as the ticket guesses, free for barging threads, and open.
+/// Takes the lock word without waiting, if the word is as the ticket guesses, free for barging threads, and open.
 ///
-/// Else the ticket has the word that was found.
+/// Otherwise the ticket has the word that the call found.
 #[unsafe(no_mangle)]
 pub extern "C" fn qolb_core_barge_proved_(lock: &LockRef, ticket: &mut Ticket) -> u32
     requires { Of lock.now.lock (λ l. IsKnown l ticket.old) }
@@ -246,7 +247,7 @@ pub extern "C" fn qolb_core_barge_proved_(lock: &LockRef, ticket: &mut Ticket) -
 
 /// Takes the lock word for the queue head, if the word is free.
 ///
-/// Then the queue head is inside, and must release its turn of the queue.
+/// The queue head is then inside, and must release its turn of the queue.
 #[unsafe(no_mangle)]
 pub extern "C" fn qolb_core_take_lock_word_proved_(lock: &LockRef, ticket: &mut Ticket) -> u32
     requires { Of lock.now.lock (λ l. IsKnown l ticket.old) }
@@ -264,9 +265,9 @@ pub extern "C" fn qolb_core_take_lock_word_proved_(lock: &LockRef, ticket: &mut 
     number(crate::take_lock_word(lock.get(), ticket))
 }
 
-/// Leaves the lock word, if it is as the ticket guesses.
+/// Leaves the lock word, if the word is as the ticket guesses.
 ///
-/// Else the ticket has the word that was found, and the call must be made again.
+/// Otherwise the ticket has the word that the call found, and the caller must call again.
 #[unsafe(no_mangle)]
 pub extern "C" fn qolb_core_leave_lock_word_proved_(lock: &LockRef, ticket: &mut Ticket) -> u32
     requires { Of lock.now.lock (λ l. IsKnown l ticket.old) }
@@ -282,7 +283,7 @@ pub extern "C" fn qolb_core_leave_lock_word_proved_(lock: &LockRef, ticket: &mut
     number(crate::leave_lock_word(lock.get(), ticket))
 }
 
-/// Requests for the queue head that the thread inside leaves the lock word for the queue head alone.
+/// Requests for the queue head that the thread inside leave the lock word for the queue head alone.
 #[unsafe(no_mangle)]
 pub extern "C" fn qolb_core_request_handoff_proved_(lock: &LockRef, ticket: &mut Ticket) -> u32
     requires { Of lock.now.lock (λ l. IsKnown l ticket.old) }
@@ -298,9 +299,9 @@ pub extern "C" fn qolb_core_request_handoff_proved_(lock: &LockRef, ticket: &mut
     number(crate::request_handoff(lock.get(), ticket))
 }
 
-/// Notes in the lock word that the queue head sleeps there, while the word is held.
+/// Notes in the lock word that the queue head sleeps there, if the word is held.
 ///
-/// The ticket has the word at which it may sleep then.
+/// The ticket then has the word at which the queue head may sleep.
 #[unsafe(no_mangle)]
 pub extern "C" fn qolb_core_announce_head_sleep_proved_(lock: &LockRef, ticket: &mut Ticket) -> u32
     requires { Of lock.now.lock (λ l. IsKnown l ticket.old) }
@@ -316,7 +317,7 @@ pub extern "C" fn qolb_core_announce_head_sleep_proved_(lock: &LockRef, ticket: 
     number(crate::announce_head_sleep(lock.get(), ticket))
 }
 
-/// Shuts the lock, for a ticket that is served.
+/// Shuts the lock for a ticket that is served.
 #[unsafe(no_mangle)]
 pub extern "C" fn qolb_core_shut_proved_(lock: &LockRef, ticket: &mut Ticket) -> u32
     requires { Of lock.now.lock (λ l. IsKnown l ticket.old) }
@@ -332,7 +333,8 @@ pub extern "C" fn qolb_core_shut_proved_(lock: &LockRef, ticket: &mut Ticket) ->
     number(crate::shut(lock.get(), ticket))
 }
 
-/// Reopens the lock, for a ticket whose caller was told at its turn that the lock is shut, if nobody drew a ticket after it.
+/// Reopens the lock for a ticket whose caller was told at its turn that the lock is shut, if no caller drew a ticket
+/// after it.
 #[unsafe(no_mangle)]
 pub extern "C" fn qolb_core_reopen_proved_(lock: &LockRef, ticket: &mut Ticket) -> u32
     requires { Of lock.now.lock (λ l. IsKnown l ticket.old) }

@@ -1,4 +1,4 @@
-//! The queue head takes the lock word, and announces its sleep there.
+//! The queue head takes the lock word, requests a handoff, and announces its sleep there.
 ghost use Rattle.lock_core.specs.Views.{SameRequest};
 ghost use Rattle.qolb_locks.specs.declared.answer.Answer.{Answer};
 ghost use Rattle.qolb_locks.specs.declared.ticket.State.{State};
@@ -11,10 +11,11 @@ use crate::ticket::{State, Ticket};
 use lock_core::layout::{HELD, SHUT};
 use lock_core::{HeadSleepResult, TakeResult};
 
-/// Takes the lock word for the queue head, if the word is free. Then the queue head is inside, and must release its turn of the queue.
+/// Takes the lock word for the queue head, if the word is free. The queue head is then inside, and must release its
+/// turn of the queue.
 ///
-/// `Closed` if it is inside and the lock is shut. `Waiting` if the lock word is held, or changed at that moment: the ticket has the word that was
-/// found.
+/// The answer is `Closed` if the queue head is inside and the lock is shut. It is `Waiting` if the lock word is held or
+/// changed at that moment; the ticket then has the word that the call found.
 #[inline(always)]
 pub fn take_lock_word(lock: &Lock, ticket: &mut Ticket) -> Answer
     requires { IsKnown lock.now ticket.old }
@@ -49,9 +50,9 @@ pub fn take_lock_word(lock: &Lock, ticket: &mut Ticket) -> Answer
     }
 }
 
-/// Requests for the queue head that the thread inside leaves the lock word for the queue head alone.
+/// Requests for the queue head that the thread inside leave the lock word for the queue head alone.
 ///
-/// `Busy` if the lock word changed at that moment.
+/// The answer is `Busy` if the lock word changed at that moment.
 pub fn request_handoff(lock: &Lock, ticket: &mut Ticket) -> Answer
     requires { IsKnown lock.now ticket.old }
     ensures known { IsKnown lock.now ticket.new }
@@ -74,9 +75,10 @@ pub fn request_handoff(lock: &Lock, ticket: &mut Ticket) -> Answer
     }
 }
 
-/// Notes in the lock word that the queue head sleeps there, while the word is held. The ticket has the word at which it may sleep then.
+/// Notes in the lock word that the queue head sleeps there, if the word is held. The ticket then has the word at which
+/// its thread may sleep.
 ///
-/// `Waiting` if the lock word is not held, or changed at that moment.
+/// The answer is `Waiting` if the lock word is not held, or changed at that moment.
 pub fn announce_head_sleep(lock: &Lock, ticket: &mut Ticket) -> Answer
     requires { IsKnown lock.now ticket.old }
     ensures known { IsKnown lock.now ticket.new }

@@ -1,6 +1,7 @@
-//! What C knows of a lock's core beside its calls: sizes, numbers of words, bits and limits.
+//! What C must know of a lock's core beside its calls: sizes, numbers of words, bits and limits.
 //!
-//! `tools/snapshot` writes them, with these comments, to `c/proved/qolb_layout.h`. The blocks that a call allocates are not here: it measures those.
+//! `tools/snapshot` writes these numbers, with their comments, to `c/proved/qolb_layout.h`. The sizes of the blocks
+//! that a call allocates are not here, because `tools/snapshot` measures them.
 ghost use Rattle.std.specs.Prelude.{◌≡◌};
 
 use crate::MAX_OPEN_WITH_TIMEOUT;

@@ -1,7 +1,8 @@
-//! Locks behind handles for C: a static library. What a caller has of a lock is a reference to it, and a ticket.
+//! Locks of `lock_core` behind handles for C, as a static library. A caller has a reference to the lock, and a ticket of
+//! its own.
 //!
-//! A call first checks the ticket's state. If that does not allow the call, the answer is `Misuse` and nothing changes. Each call is made of a
-//! fixed number of atomic steps, and none waits.
+//! Each call first checks the state of the ticket. If that state does not allow the call, the answer is `Misuse` and
+//! nothing changes. Each call takes a bounded number of atomic steps, and none waits.
 #![tactic(auto)]
 
 mod answer;
@@ -21,10 +22,10 @@ mod ticket;
 mod waiting;
 mod withdrawing;
 
-/// The most requests that are open when a call with a timeout, or a task, draws a ticket.
+/// The most requests that may be open when a call with a timeout, or a task, draws a ticket.
 ///
-/// C abandons the ticket of such a call if the window of withdrawal does not reach it, and one release passes all abandoned tickets: this is the
-/// number of them that a release passes in some 2 ms.
+/// C abandons the ticket of such a call if the window of withdrawal does not reach it, and one release has to pass all
+/// abandoned tickets. A release passes this number of them in some 2 ms.
 pub const MAX_OPEN_WITH_TIMEOUT: u64 = 12_288;
 
 pub use answer::Answer;

@@ -1,10 +1,10 @@
-//! A lock, as its callers share it.
+//! The type of a lock, as its callers share it.
 ghost use Rattle.std.specs.Prelude.{◌≡◌};
 ghost use Rattle.lock_core.specs.Layout.{IsLockTable};
 
 use lock_core::TicketTable;
 
-/// A lock, its barging limit, and the label by which a ticket is known to be of it.
+/// A lock, its barging limit, and the label by which the lock recognizes its own tickets.
 #[derive(Drop)]
 pub struct Lock {
     pub table: TicketTable,
@@ -15,7 +15,7 @@ pub struct Lock {
 }
 
 impl Lock {
-    /// Returns the lock of this table.
+    /// Returns the lock that has this table.
     pub fn new(table: TicketTable, barging_limit: u64, label: u64) -> Lock
         requires sized { IsLockTable table.shared.table_id }
         requires bound { table.shared.key ≡ barging_limit }

@@ -1,4 +1,4 @@
-//! A reference to a lock, which C may copy and share. The lock is never freed.
+//! A reference to a lock, which C may copy and share between threads. The lock that it refers to is never freed.
 ghost use Rattle.std.specs.Prelude.{◌≡◌};
 ghost use Rattle.std.specs.declared.option.Option.{Option};
 ghost use Rattle.std.specs.declared.option.Option.TheVariants.{None, Some};
@@ -8,7 +8,7 @@ ghost use Rattle.qolb_locks.specs.Shared.{lock_coded, refers};
 use crate::lock::Lock;
 use std::marker::Model;
 
-/// A lock that C refers to.
+/// A reference to a lock, as C has it.
 #[repr(C)]
 #[derive(Drop)]
 pub struct LockRef {

@@ -1,7 +1,7 @@
 //! The theorems about two tickets of one lock.
 //!
-//! Each function says that two such tickets cannot meet: in the seat that has what both callers know, there was too much load on the lock.
-//! No program calls these functions; a proof about callers may.
+//! Each function says that two such tickets can meet only if more requests were open at the lock than its proofs allow.
+//! No program calls these functions, but a proof about callers may.
 ghost use Rattle.std.specs.Prelude.{◌≡◌, ◌<◌, ◌≤◌};
 ghost use Rattle.lock_core.specs.Meets.{IsWaiting, IsWaitingOpen, IsWaitingShut, IsStillAsleep, GrantedToNobodyAsleepAt, HadPlaceOf};
 ghost use Rattle.lock_core.specs.Views.{Timely, NeverInTime, HasTurn, KnowsShut, LeftQuietly, ServedOpen, SleepsAtLockWord};
@@ -13,7 +13,7 @@ use crate::lock::Lock;
 use crate::ticket::Ticket;
 use lock_core::TicketSeat;
 
-/// No two tickets are served at one time, by their states.
+/// No two tickets are served at the same time, according to their states.
 pub fn never_two(lock: &Lock, ticket: &mut Ticket, other: &mut Ticket) -> TicketSeat
     requires known { IsKnown lock.now ticket.old × IsKnown lock.now other.old }
     requires one { IsInService lock.now ticket.old }
@@ -25,7 +25,8 @@ pub fn never_two(lock: &Lock, ticket: &mut Ticket, other: &mut Ticket) -> Ticket
     seat
 }
 
-/// No two tickets have a turn of the queue at one time, by their states: a barging lock has at most one queue head.
+/// No two tickets have a turn of the queue at the same time, according to their states. A barging lock therefore has at
+/// most one queue head.
 pub fn never_two_at_turn(lock: &Lock, ticket: &mut Ticket, other: &mut Ticket) -> TicketSeat
     requires known { IsKnown lock.now ticket.old × IsKnown lock.now other.old }
     requires one { IsWithin 3 8 lock.now ticket.old }
@@ -37,7 +38,7 @@ pub fn never_two_at_turn(lock: &Lock, ticket: &mut Ticket, other: &mut Ticket) -
     seat
 }
 
-/// No ticket has a turn of the queue while one with a smaller number waits.
+/// No ticket has a turn of the queue while a ticket with a smaller number waits.
 pub fn first_come(lock: &Lock, ticket: &mut Ticket, other: &mut Ticket) -> TicketSeat
     requires { Both lock.now ticket.old other.old (λ v w. (Timely v → IsWaiting v) × (Timely w →
         HasTurn w) × (v.ticket < w.ticket)) }
@@ -48,7 +49,7 @@ pub fn first_come(lock: &Lock, ticket: &mut Ticket, other: &mut Ticket) -> Ticke
     seat
 }
 
-/// Where a release tells of no sleeper, no ticket that it granted has announced its sleep.
+/// If a release says that nobody sleeps, no caller had announced its sleep for the ticket that the release granted.
 pub fn no_lost_wake(lock: &Lock, ticket: &mut Ticket, other: &mut Ticket) -> TicketSeat
     requires { Both lock.now ticket.old other.old (λ v w. (Timely v →
         GrantedToNobodyAsleepAt w.ticket v) × (Timely w → IsStillAsleep w)) }
@@ -59,7 +60,7 @@ pub fn no_lost_wake(lock: &Lock, ticket: &mut Ticket, other: &mut Ticket) -> Tic
     seat
 }
 
-/// Where a leave tells of no queue head that sleeps, no queue head noted its sleep while that caller was inside.
+/// If a leave says that no queue head sleeps, no queue head had noted its sleep while the leaving caller was inside.
 pub fn no_lost_wake_at_lock_word(lock: &Lock, ticket: &mut Ticket, other: &mut Ticket) -> TicketSeat
     requires { Both lock.now ticket.old other.old (λ v w. (Timely v → LeftQuietly v) × (Timely w →
         SleepsAtLockWord w) × (Timely w → w.slept_in_take ≡ v.last_take)) }
@@ -70,7 +71,7 @@ pub fn no_lost_wake_at_lock_word(lock: &Lock, ticket: &mut Ticket, other: &mut T
     seat
 }
 
-/// No ticket is served, told that the lock is open, after the lock was shut and until it is reopened.
+/// After the lock was shut, no ticket is served and told that the lock is open until the lock is reopened.
 pub fn none_served_after_shut(lock: &Lock, ticket: &mut Ticket, other: &mut Ticket) -> TicketSeat
     requires { Both lock.now ticket.old other.old (λ v w. (Timely v → KnowsShut v) × (Timely w →
         ServedOpen w) × (Timely w → w.epoch ≤ v.epoch)) }
@@ -81,7 +82,7 @@ pub fn none_served_after_shut(lock: &Lock, ticket: &mut Ticket, other: &mut Tick
     seat
 }
 
-/// No ticket waits whose number was drawn while the lock was open, before the lock was shut and reopened.
+/// Once the lock was shut and reopened, no ticket waits with a number that was drawn while the lock was open before.
 pub fn none_left_at_reopening(lock: &Lock, ticket: &mut Ticket, other: &mut Ticket) -> TicketSeat
     requires { Both lock.now ticket.old other.old (λ v w. (Timely w → IsWaitingOpen w) × (Timely w
         → w.drawn_in_epoch < v.epoch)) }
@@ -92,7 +93,8 @@ pub fn none_left_at_reopening(lock: &Lock, ticket: &mut Ticket, other: &mut Tick
     seat
 }
 
-/// No ticket waits whose number was drawn while the lock was shut, while another is served open in that epoch.
+/// While one ticket is served with the lock open, no other ticket waits with a number that was drawn in that epoch
+/// while the lock was shut.
 pub fn drawn_while_open(lock: &Lock, ticket: &mut Ticket, other: &mut Ticket) -> TicketSeat
     requires { Both lock.now ticket.old other.old (λ v w. (Timely v → ServedOpen v) × (Timely w →
         IsWaitingShut w) × (Timely w → w.drawn_in_epoch ≡ v.epoch)) }
@@ -103,7 +105,7 @@ pub fn drawn_while_open(lock: &Lock, ticket: &mut Ticket, other: &mut Ticket) ->
     seat
 }
 
-/// No two acquisitions of newcomers have the same place between two queue heads.
+/// No two acquisitions by newcomers have the same place between two queue heads.
 pub fn places_differ(lock: &Lock, ticket: &mut Ticket, other: &mut Ticket) -> TicketSeat
     requires { Both lock.now ticket.old other.old (λ v w. (Timely v → HadPlaceOf v v)
         × (Timely w → HadPlaceOf v w)) }

@@ -1,4 +1,4 @@
-//! A lock is opened.
+//! Opening: a lock is made for C.
 ghost use Rattle.std.specs.Prelude.{◌≡◌, ◌≢◌, ◌≤◌, max};
 ghost use Rattle.lock_core.specs.Answers.{barging_limit_of};
 ghost use Rattle.lock_core.specs.Layout.{max_barging_limit};
@@ -27,7 +27,8 @@ fn kind_of(barging_limit: u64) -> LockKind
 
 /// Opens a lock with a barging limit. A limit below `MIN_BARGING_LIMIT` makes a strict lock. The lock is never freed.
 ///
-/// By the label a ticket of this lock is known from one of another: it is not 0, and given to no other lock.
+/// The label tells a ticket of this lock from a ticket of another lock. It must not be 0, and no other lock may have
+/// it.
 pub fn open(alloc: Global, barging_limit: u64, label: u64, out: &mut LockRef) -> Answer
     ensures does { Opens barging_limit label out.new.lock result }
     ensures unchanged { result ≢ Answer.Done → out.new ≡ out.old }

@@ -1,4 +1,4 @@
-//! A turn of the queue is released, and the lock word is left.
+//! Releases: the ticket at its turn grants the next number, and the ticket that holds the lock word leaves it.
 ghost use Rattle.std.specs.Prelude.{◌≡◌, ◌+◌, ◌%◌, ◌^◌, true, false};
 ghost use Rattle.lock_core.specs.Layout.{max_passed};
 ghost use Rattle.lock_core.specs.Views.{HasEnded, HasTurnOf, IsIdle};
@@ -52,9 +52,10 @@ fn release_turn(lock: &Lock, ticket: &mut Ticket) -> bool
     }
 }
 
-/// Ends a turn of the queue: passes withdrawn requests, and grants the next ticket. A queue head that is inside stays inside.
+/// Ends a turn of the queue: passes withdrawn requests, and grants the next ticket. A queue head that is inside stays
+/// inside.
 ///
-/// `Unfinished` if it has passed `MAX_PASSED` requests, and must be called again.
+/// The answer is `Unfinished` if the call has passed `MAX_PASSED` requests. The caller must then call again.
 #[inline(always)]
 pub fn release(lock: &Lock, ticket: &mut Ticket) -> Answer
     requires { IsKnown lock.now ticket.old }
@@ -76,7 +77,7 @@ pub fn release(lock: &Lock, ticket: &mut Ticket) -> Answer
     release_inside(lock, ticket)
 }
 
-/// Ends the turn of the queue of a queue head that is inside.
+/// Ends the turn of the queue for a queue head that is inside.
 #[inline(always)]
 fn release_inside(lock: &Lock, ticket: &mut Ticket) -> Answer
     requires { IsKnown lock.now ticket.old }
@@ -104,10 +105,10 @@ fn release_inside(lock: &Lock, ticket: &mut Ticket) -> Answer
     Answer::Misuse
 }
 
-/// Leaves the lock word, if it is as the ticket guesses. The word is left for the queue head alone if the queue head requested so, or if as many
-/// threads were inside as the barging limit allows.
+/// Leaves the lock word, if it is as the ticket guesses. The call leaves the word to the queue head alone if the queue
+/// head has requested that, or if as many threads were inside as the barging limit allows.
 ///
-/// `Busy` if the word is another one, which the ticket has then: the call must be made again.
+/// The answer is `Busy` if the word has another value. The ticket then has that value, and the caller must call again.
 #[inline(always)]
 pub fn leave_lock_word(lock: &Lock, ticket: &mut Ticket) -> Answer
     requires { IsKnown lock.now ticket.old }

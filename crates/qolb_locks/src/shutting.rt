@@ -1,4 +1,4 @@
-//! A lock is shut, and reopened.
+//! Closing: a ticket shuts the lock, looks whether it is open, and reopens it.
 ghost use Rattle.std.specs.Prelude.{◌≡◌, ◌≢◌, ◌+◌, ◌-◌, ◌%◌, ◌^◌, true, false};
 ghost use Rattle.lock_core.specs.Views.{HasTurnOf, ServedOpen, ServedShut};
 ghost use Rattle.qolb_locks.specs.declared.ticket.State.{State};
@@ -12,8 +12,8 @@ use crate::lock::Lock;
 use crate::ticket::{State, Ticket};
 use lock_core::layout::SHUT;
 
-/// Checks, for a ticket at its turn in a strict lock, whether the lock is open: only then the caller is served. If the lock is shut, the caller must
-/// pass the turn on, by `release`.
+/// Checks, for a ticket at its turn in a strict lock, whether the lock is open. The caller is served only if it is. If
+/// the lock is shut, the caller must pass the turn on by `release`.
 #[inline(always)]
 pub fn check_open(lock: &Lock, ticket: &mut Ticket) -> Answer
     requires { IsKnown lock.now ticket.old }
@@ -32,7 +32,7 @@ pub fn check_open(lock: &Lock, ticket: &mut Ticket) -> Answer
     ticket.tell(open)
 }
 
-/// Shuts the lock, for a ticket that is served.
+/// Shuts the lock for a ticket that is served.
 #[inline(always)]
 fn shut_served(lock: &Lock, ticket: &mut Ticket)
     requires { Knows lock.now ticket.old ServedOpen }
@@ -56,7 +56,8 @@ fn shut_served(lock: &Lock, ticket: &mut Ticket)
     ticket.claim.put(seat);
 }
 
-/// Shuts the lock, for a ticket that is served. From then on each caller is told of it at its turn, and no thread barges.
+/// Shuts the lock for a ticket that is served. From then on each caller is told at its turn that the lock is shut, and
+/// no thread barges.
 pub fn shut(lock: &Lock, ticket: &mut Ticket) -> Answer
     requires { IsKnown lock.now ticket.old }
     ensures known { IsKnown lock.now ticket.new }
@@ -83,8 +84,8 @@ pub fn shut(lock: &Lock, ticket: &mut Ticket) -> Answer
     Answer::Misuse
 }
 
-/// Reopens the lock, for a ticket with a turn of the queue whose caller was told that the lock is shut, if nobody drew a ticket after it. Returns
-/// whether it did.
+/// Reopens the lock for a ticket with a turn of the queue whose caller was told that the lock is shut, if no caller
+/// drew a ticket after it. Returns whether the lock is reopened.
 #[inline(always)]
 fn reopen_shut(lock: &Lock, ticket: &mut Ticket) -> bool
     requires turn { Knows lock.now ticket.old (λ v. HasTurnOf ticket.old.number v × ServedShut v) }
@@ -118,9 +119,10 @@ fn reopen_shut(lock: &Lock, ticket: &mut Ticket) -> bool
     open
 }
 
-/// Reopens the lock, for a ticket whose caller was told at its turn that the lock is shut, if nobody drew a ticket after it.
+/// Reopens the lock for a ticket whose caller was told at its turn that the lock is shut, if no caller drew a ticket
+/// after it.
 ///
-/// Then the caller is served. `Busy` if somebody did: the lock stays shut.
+/// The caller is then served. If another caller drew a ticket, the answer is `Busy`, and the lock stays shut.
 pub fn reopen(lock: &Lock, ticket: &mut Ticket) -> Answer
     requires { IsKnown lock.now ticket.old }
     ensures known { IsKnown lock.now ticket.new }

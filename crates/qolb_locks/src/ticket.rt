@@ -1,4 +1,4 @@
-//! A caller's request, as C holds it.
+//! A ticket: the request of one caller, in memory that C holds.
 ghost use Rattle.std.specs.Prelude.{◌≡◌, ◌<◌, ◌≤◌, true, false};
 ghost use Rattle.qolb_locks.specs.declared.answer.Answer.{Answer};
 ghost use Rattle.qolb_locks.specs.Calls.{IsHead};
@@ -32,35 +32,35 @@ pub enum State {
     HeadInsideShut = 8,
     /// The caller has the lock word of an open lock, and no turn of the queue: it barged, or has released its turn.
     Inside = 9,
-    /// The same of a lock that is shut.
+    /// The caller has the lock word of a lock that is shut, and no turn of the queue.
     InsideShut = 10,
 }
 
-/// A request, or none.
+/// The request of one caller, if it has any.
 #[repr(C)]
 #[derive(Drop)]
 pub struct Ticket {
-    /// The ticket's number; after a release, the last one whose turn ended.
+    /// The ticket's number. After a release, it is the last number whose turn ended.
     pub number: u64,
-    /// While it waits: the rounds that were still to be granted when it last looked.
+    /// While the request waits: how many rounds it had to go when the caller last looked.
     pub rounds: u64,
-    /// What the lock word is, as far as the caller knows: a guess for the next call.
+    /// The value of the lock word, as far as the caller knows. The next call takes it as a guess.
     pub lock_word: u64,
-    /// After a sleep is announced: the cell's word.
+    /// After the caller announced a sleep: the word of its cell.
     pub word: u64,
-    /// After a release: the number of sleepers that were counted at the granted ticket's cell.
+    /// After a release: the number of sleepers that the cell of the granted ticket counted.
     pub sleepers: u64,
-    /// The label of its lock; 0 if it has none.
+    /// The label of the ticket's lock, or 0 if the ticket has no lock.
     pub label: u64,
     /// The number of its `State`.
     pub state: u32,
-    /// After a leave: whether the queue head sleeps at the lock word.
+    /// After the caller left the lock word: whether the queue head sleeps there.
     pub head_sleeps: bool,
     pub claim: Claim,
 }
 
 impl Ticket {
-    /// Returns whether the ticket is of this lock, and in this state.
+    /// Returns whether the ticket belongs to this lock and is in this state.
     #[inline(always)]
     pub(crate) fn has(&self, state: State, lock: &Lock) -> bool
         requires { IsKnown lock.now self.now }
@@ -70,7 +70,8 @@ impl Ticket {
         self.state == state as u32 && self.label == lock.label
     }
 
-    /// Returns whether the ticket is of this lock and at its turn, whether or not its caller was told of the lock word.
+    /// Returns whether the ticket belongs to this lock and is at its turn, whether or not its caller was told of the
+    /// lock word.
     #[inline(always)]
     pub(crate) fn is_at_turn(&self, lock: &Lock) -> bool
         requires { IsKnown lock.now self.now }
@@ -83,7 +84,7 @@ impl Ticket {
             && self.state <= State::ServedShut as u32
     }
 
-    /// Returns whether the ticket is that of the queue head of this lock, which is a barging lock.
+    /// Returns whether the ticket is that of the queue head of this lock, which must be a barging lock.
     #[inline(always)]
     pub(crate) fn is_head(&self, lock: &Lock) -> bool
         requires { IsKnown lock.now self.now }
@@ -94,7 +95,7 @@ impl Ticket {
         lock.barging_limit >= 2 && self.has(State::AtTurn, lock)
     }
 
-    /// Returns whether the ticket is of this lock and has a turn of the queue, but not the lock word.
+    /// Returns whether the ticket belongs to this lock and has a turn of the queue, but not the lock word.
     #[inline(always)]
     pub(crate) fn has_turn_outside(&self, lock: &Lock) -> bool
         requires { IsKnown lock.now self.now }
@@ -107,7 +108,7 @@ impl Ticket {
             && self.state <= State::Ending as u32
     }
 
-    /// Returns whether the ticket is of this lock and has the lock word alone.
+    /// Returns whether the ticket belongs to this lock and has the lock word, but no turn of the queue.
     #[inline(always)]
     pub(crate) fn is_inside(&self, lock: &Lock) -> bool
         requires { IsKnown lock.now self.now }
@@ -120,7 +121,7 @@ impl Ticket {
             && self.state <= State::InsideShut as u32
     }
 
-    /// Notes how many rounds the request is from its turn, and returns the answer of that.
+    /// Notes how many rounds the request has to go, and returns the answer that this means.
     #[inline(always)]
     pub(crate) fn settle(&mut self, rounds: u64) -> Answer
         ensures granted { rounds ≡ 0 → (result ≡ Answer.Granted)
@@ -138,7 +139,7 @@ impl Ticket {
         Answer::Waiting
     }
 
-    /// Notes whether the lock was found open at the ticket's turn, and returns the answer of that.
+    /// Notes whether the lock was found open at the ticket's turn, and returns the answer that this means.
     #[inline(always)]
     pub(crate) fn tell(&mut self, is_open: bool) -> Answer
         ensures open { is_open ≡ true → (result ≡ Answer.Granted)

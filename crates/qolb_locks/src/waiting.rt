@@ -1,4 +1,4 @@
-//! A waiter polls, and announces and retracts its sleep.
+//! Waiting: a ticket polls, announces that its thread is about to sleep, and retracts the announcement.
 ghost use Rattle.lock_core.specs.Views.{SameRequest};
 ghost use Rattle.qolb_locks.specs.declared.ticket.State.{State};
 ghost use Rattle.qolb_locks.specs.Calls.{IsMisuse, OnlyRounds, OnlySleep, StepsUpTo, Learns, Looks, AnnouncesSleep};
@@ -30,9 +30,11 @@ pub fn poll(lock: &Lock, ticket: &mut Ticket) -> Answer
     ticket.settle(rounds)
 }
 
-/// Counts the waiter as a sleeper of its cell, unless it is at its turn. The ticket has the word at which it may sleep then.
+/// Counts the waiter as a sleeper of its cell, unless it is at its turn. The ticket then has the word at which the
+/// waiter may sleep.
 ///
-/// `Waiting` if the cell changed at that moment, and `Full` if it counts no more sleepers: then it is not counted.
+/// The waiter is not counted if the cell changed at that moment, for which the answer is `Waiting`, or if the cell can
+/// count no more sleepers, for which it is `Full`.
 #[inline(always)]
 pub fn announce_sleep(lock: &Lock, ticket: &mut Ticket) -> Answer
     requires { IsKnown lock.now ticket.old }
@@ -73,7 +75,7 @@ pub fn announce_sleep(lock: &Lock, ticket: &mut Ticket) -> Answer
     }
 }
 
-/// Takes the count of a sleeper back.
+/// Takes back the count of a sleeper.
 #[inline(always)]
 pub fn retract_sleep(lock: &Lock, ticket: &mut Ticket) -> Answer
     requires { IsKnown lock.now ticket.old }

@@ -1,4 +1,4 @@
-//! A waiter withdraws its request.
+//! Withdrawal: a ticket gives up its request.
 ghost use Rattle.lock_core.specs.Views.{SameRequest};
 ghost use Rattle.qolb_locks.specs.declared.ticket.State.{State};
 ghost use Rattle.qolb_locks.specs.Calls.{IsMisuse, OnlyState, StepsUpTo, Learns, IfGranted, Withdraws};
@@ -9,9 +9,9 @@ use crate::lock::Lock;
 use crate::ticket::{State, Ticket};
 use lock_core::layout::WITHDRAWAL_WINDOW;
 
-/// Withdraws a request that was within the window of withdrawal when it last looked.
+/// Withdraws a request that was within the window of withdrawal when its caller last looked.
 ///
-/// `Far` if it was beyond the window, and `Granted` if it is at its turn.
+/// The answer is `Far` if the request was beyond the window, and `Granted` if it is at its turn.
 #[inline(always)]
 pub fn withdraw(lock: &Lock, ticket: &mut Ticket) -> Answer
     requires { IsKnown lock.now ticket.old }

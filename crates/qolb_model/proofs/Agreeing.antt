@@ -1,4 +1,4 @@
--- Laws of views and of their one history.
+-- Lemmas about views and the one history that they are true of.
 use Rattle.std.proofs.Common.{◌≡◌, ℕ, zero, suc, ◌+◌, ◌≤◌, ◌⊎◌, inl, inr, true, false, List, [], ◌∷◌, length, map, Option, Some, None, option_map, slice_get, refl, ap, sym, ◌∙◌, subst, arith}
 use Rattle.std.specs.List.{All}
 use Rattle.std.proofs.lemmas.List.{length-map}
@@ -62,7 +62,7 @@ history_of_some views part h inside = record {
   agreed = λ v w at_v at_w. h.agreed v w (inside v at_v) (inside w at_w);
 }
 
--- so of any two
+-- therefore of any two
 pub history_of_two : (views : List View) (v w : View) → OneHistory views → IsAmong views v → IsAmong views w → OneHistory (v ∷ w ∷ [])
 history_of_two views v w h at_v at_w = history_of_some views (v ∷ w ∷ []) h (λ x at. elim (among_two v w x at) [
   | inl e ↦ subst (λ y. IsAmong views y) (sym e) at_v

@@ -1,4 +1,4 @@
--- What each answer of a call says of its port, as the whole of what the call promises.
+-- Each answer of a call gives the whole of what the call promises of its port.
 use Rattle.std.proofs.Common.{◌≡◌, ℕ, List, inl, inr, refl}
 use Rattle.qolb_model.specs.declared.answer.Enq.{Enq}
 use Rattle.qolb_model.specs.declared.answer.Enq.TheVariants as enq

@@ -1,4 +1,4 @@
--- What each call of a plain line answers, the moves that it makes, and the state that it leaves.
+-- Each call of a plain line: its answer, the moves that it makes, and the state that it leaves.
 use Rattle.std.proofs.Common.{◌≡◌, ℕ, ◌≤◌, Bool, true, false, not, ◌&&◌, if◌then◌else◌, List, [], ◌∷◌, ◌++◌, map, refl, ap, sym, ◌∙◌, subst}
 use Rattle.std.specs.List.{list_any}
 use Rattle.qolb_model.specs.declared.answer.Poll.{Poll}
@@ -25,7 +25,7 @@ module _ (line : PlainView) (s : OwnerState) (node : ℕ) (a : Agrees line s) (m
   rolled : is_rolled s.queue node ≡ true
   rolled = ap (λ b. b && has s.queue.marked (last_of node s.queue.order)) stands ∙ when_rolled line s a node may stands
 
-  -- so it is busy, and nothing changes
+  -- therefore it is busy, and nothing changes
   pub busy-answer : enq.Busy ≡ enq_answer s node
   busy-answer = ap (λ b. if b then enq.Busy else as_enq (poll_answer (after_ask s node) node)) (sym rolled)
 
@@ -111,7 +111,7 @@ module _ (line : PlainView) (s : OwnerState) (node : ℕ) (a : Agrees line s) (w
   at_turn : is_first s.queue node ≡ true
   at_turn = sym (oldest-is_first line s a node) ∙ first
 
-  -- so giving up is a look
+  -- therefore giving up is a look
   pub gives_up-moves : Runs s.config s.queue (out_moves s node) (after_out s node).queue
   gives_up-moves =
       subst (λ b. Runs s.config s.queue (if b then poll_moves (poll_answer s node) s else mark_last s node) (if b then after_poll (poll_answer s node) s else after_moves (mark_last s node) s).queue) (sym at_turn)
@@ -127,7 +127,7 @@ module _ (line : PlainView) (s : OwnerState) (node : ℕ) (a : Agrees line s) (w
   behind_one : is_first s.queue node ≡ false
   behind_one = sym (oldest-is_first line s a node) ∙ later
 
-  -- so giving up is a mark
+  -- therefore giving up is a mark
   pub marks-moves : Runs s.config s.queue (out_moves s node) (after_out s node).queue
   marks-moves =
       let h = when_queued line s a node waits in

@@ -1,5 +1,5 @@
--- A port's call on a line whose other ports know its whole history: what it answers is what the state of one owner has, and what
--- the port then knows is the state that this leaves.
+-- A port's call on a line whose other ports know its whole history. The answer is the one that the state of one owner
+-- gives, and what the port knows afterwards is the state that the call leaves.
 use Rattle.std.proofs.Common.{◌≡◌, ◌≢◌, ℕ, ◌≤◌, ◌==◌, ◌⊎◌, inl, inr, Bool, true, false, ◌&&◌, ◌||◌, if◌then◌else◌, List, [], ◌∷◌, ◌++◌, length, Some, slice_get, refl, ap, sym, ◌∙◌, subst, arith}
 use Rattle.std.specs.Option.{option_map_or}
 use Rattle.std.proofs.Math.Bool.{or-false}
@@ -107,7 +107,7 @@ module _ (s : OwnerState) (n : ℕ) (a : View) (reached : IsReached s) (f : Foll
       let k = reached.nodes_known p r at in
       same_test (has a.marked r) (has s.queue.marked r) ((f.others r.node k.0 k.1 ne).marks r stands refl) (f.marked r stands)
 
-  -- so of all, if that of the port's own is right
+  -- therefore of all, if that of the port's own is right
   all_marks : (has a.marked (last_of n s.queue.order) ≡ has s.queue.marked (last_of n s.queue.order)) → (r : Request) → Has (open_of s.queue.order s.queue.ends) r → has a.marked r ≡ has s.queue.marked r
   all_marks own_mark r stands = elim (cases_eq r.node n) [
     | inl e ↦ (let (p, le, at) = place_open s.queue.order s.queue.ends r stands in subst (λ x. has a.marked x ≡ has s.queue.marked x) (sym (last_mine p r le at e)) own_mark)

@@ -1,4 +1,5 @@
--- The answers of a line whose ports all meet after each call: each is that of the state of one owner, whose history they know.
+-- The answers of a line whose ports all meet after each call. Each answer is the one that the state of one owner gives,
+-- and the ports know the history of that state.
 use Rattle.std.proofs.Common.{◌≡◌, ◌≢◌, ℕ, ◌+◌, ◌≤◌, inl, inr, Bool, true, false, ◌&&◌, if◌then◌else◌, List, [], ◌∷◌, ◌++◌, length, map, set, replicate, option_map, Some, slice_get, refl, ap, sym, ◌∙◌, subst, arith, append_assoc, length-append}
 use Rattle.std.specs.Option.{option_map_or}
 use Rattle.std.proofs.lemmas.Bool.{cases_lt, cases_eq}

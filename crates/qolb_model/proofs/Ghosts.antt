@@ -1,4 +1,4 @@
--- What a value with no bytes owns: nothing.
+-- A value without bytes owns nothing.
 use Rattle.std.proofs.Common.{List, [], ◌∷◌, refl}
 use seplogic.Ra.Ura.{Ura}
 use mir.Val.{Val, vstruct, vnil}

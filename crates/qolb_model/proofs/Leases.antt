@@ -1,4 +1,4 @@
--- Laws of leases.
+-- Lemmas about leases.
 use Rattle.std.proofs.Common.{◌≡◌, ℕ, zero, suc, ◌+◌, ◌-◌, ◌<◌, ◌≤◌, inl, inr, Bool, true, false, ◌||◌, cond, List, [], ◌∷◌, ◌++◌, length, take, Option, Some, None, refl, ap, sym, ◌∙◌, subst, arith}
 use Rattle.std.proofs.Math.Bool.{or-true}
 use Rattle.std.proofs.lemmas.Bool.{eq-eqb, ne_eqb, cases_eq, cases_lt}
@@ -29,7 +29,7 @@ pub turns_left-none : (lease : Option ℕ) → lease ≡ turns_left lease []
 turns_left-none None = refl
 turns_left-none (Some turns) = let all : turns ≡ turns - 0 = omega arith in ap Some all
 
--- so they use no turn, and one that is told uses none
+-- therefore they use no turn, and one that is told uses none
 pub turns_left-same : (lease : Option ℕ) (xs ys : List End) → served ys ≡ 0 → turns_left lease (xs ++ ys) ≡ turns_left lease xs
 turns_left-same None xs ys e = refl
 turns_left-same (Some turns) xs ys e = let same : served (xs ++ ys) ≡ served xs = served-append xs ys ∙ omega (arith, e) in ap (λ n. Some (turns - n)) same
@@ -85,7 +85,7 @@ lease_bounds turns order ends some legal = subst (IsWithin turns) (take_all (len
         let (e, at) = element_at ends p (omega (arith, le)) in
         subst (IsWithin turns) (sym (take_with ends p e at)) (within_push turns (take p ends) e (up_to p (omega (arith, le))) (legal.closing p e at))
 
--- so an open line has a turn left
+-- therefore an open line has a turn left
 pub open_has_turns : (lease : Option ℕ) (order : List Request) (ends : List End) → IsLease lease → IsLegal lease order ends → is_closed ends ≡ false → turns_left lease ends ≡ Some 0 → ⊥
 open_has_turns None order ends some legal opens left = let no : None ≡ Some 0 = left in cc no
 open_has_turns (Some turns) order ends some legal opens left =

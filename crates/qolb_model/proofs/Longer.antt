@@ -1,4 +1,4 @@
--- The longer of two beginnings of one list, and what ports know once they have met.
+-- The longer of two prefixes of one list, and what ports know once they have met.
 use Rattle.std.proofs.Common.{◌≡◌, ◌<◌, ◌≤◌, inl, inr, cond, List, [], ◌∷◌, length, ap, sym, ◌∙◌, subst, arith}
 use Rattle.std.proofs.lemmas.Bool.{lt-ltb, le-ltb, cases_order}
 use mathlib.Core.List.{IsPrefix}
@@ -22,7 +22,7 @@ longer_has P xs ys h k = elim (cases_order (length xs) (length ys)) [
   | inr (inr gt) ↦ subst P (sym (longer_first xs ys (omega (arith, gt)))) h
 ]
 
--- so the longer of two beginnings is a beginning
+-- therefore the longer of two beginnings is a beginning
 pub longer_begins : {X : Type 0} (xs ys zs : List X) → IsPrefix xs zs → IsPrefix ys zs → IsPrefix (longer xs ys) zs
 longer_begins xs ys zs p q = longer_has (λ ws. IsPrefix ws zs) xs ys p q
 
@@ -42,7 +42,7 @@ longer_swap xs ys zs p q = elim (cases_order (length xs) (length ys)) [
   | inr (inr gt) ↦ longer_first xs ys (omega (arith, gt)) ∙ sym (longer_second ys xs gt)
 ]
 
--- so the second begins it too
+-- therefore the second begins it too
 pub begins_longer_too : {X : Type 0} (xs ys zs : List X) → IsPrefix xs zs → IsPrefix ys zs → IsPrefix ys (longer xs ys)
 begins_longer_too xs ys zs p q = subst (λ ws. IsPrefix ys ws) (longer_swap ys xs zs q p) (begins_longer ys xs zs q p)
 

@@ -1,4 +1,4 @@
--- A port's own turns, from call to call: which places it knows, and what a turn adds to what it has done.
+-- A port's own turns, from call to call: which places the port knows, and what a turn adds to what it has done.
 use Rattle.std.proofs.Common.{◌≡◌, ℕ, zero, suc, ◌+◌, ◌-◌, ◌<◌, ◌≤◌, ◌⊎◌, inl, inr, Bool, true, false, if◌then◌else◌, List, [], ◌∷◌, ◌++◌, length, take, drop, replicate, Some, None, slice_get, refl, ap, sym, ◌∙◌, subst, arith}
 use Rattle.std.proofs.lemmas.Bool.{eq-eqb, cases_lt}
 use Rattle.std.proofs.lemmas.List.{length-take-le, take-append-drop, take-append-le}
@@ -129,7 +129,7 @@ module _ (old new : View) (more : Extends old new) (h : OneHistory (new ∷ []))
       let at_most : p < length old.order = own_place new.node old.order new.order more.order counted p r at_r same_node in
       absurd (omega (arith, at_most, le))
 
-  -- so the old view knew each turn of the node that the new one knows
+  -- therefore the old view knew each turn of the node that the new one knows
   module _ (quiet : may_ask old.state ≡ true) (past : KnowsOwnHistory old) (beyond : NoneServedBeyond old new) where
     stays : (e : End) → is_served e ≡ true → is_gone e ≡ true → ⊥
     stays (Served write shut) a b = let no : false ≡ true = b in cc no

@@ -1,5 +1,6 @@
--- A port's release, or its being told, on a line whose other ports know its whole history: the requests that it passed are those
--- that the state of one owner passes, and what it then knows is the state that this leaves.
+-- A port releases its line, or forwards it because it was told that the line is closed, and the other ports know the
+-- line's whole history. The release passed the requests that the state of one owner passes, and what the port knows
+-- afterwards is the state that the release leaves.
 use Rattle.std.proofs.Common.{◌≡◌, ◌≢◌, ℕ, zero, suc, ◌+◌, ◌<◌, ◌≤◌, inl, inr, true, false, if◌then◌else◌, List, [], ◌∷◌, ◌++◌, length, drop, replicate, Some, slice_get, refl, ap, sym, ◌∙◌, subst, arith, append_assoc, length-append}
 use Rattle.std.proofs.lemmas.Bool.{cases_eq, cases_order, false_from_ne_true}
 use Rattle.std.proofs.lemmas.List.{length-replicate, length-drop}

@@ -1,4 +1,4 @@
--- Beginnings of lists.
+-- Lemmas about prefixes of lists.
 use Rattle.std.proofs.Common.{◌≡◌, ℕ, zero, suc, ◌≤◌, List, [], ◌∷◌, ◌++◌, length, Some, slice_get, refl, ap, sym, ◌∙◌, arith, append-nil, append_assoc, length-append}
 use mathlib.Core.List.{IsPrefix}
 

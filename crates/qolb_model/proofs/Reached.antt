@@ -1,4 +1,4 @@
--- What holds of the states that one owner's calls reach holds after each call.
+-- A property of all states that one owner's calls can reach holds after each call.
 use Rattle.std.proofs.Common.{◌≡◌, ℕ, ◌≤◌, Bool, true, false, List, map, refl, ◌∙◌}
 use Rattle.qolb_model.specs.declared.answer.Poll.{Poll}
 use Rattle.qolb_model.specs.declared.answer.Poll.TheVariants as poll

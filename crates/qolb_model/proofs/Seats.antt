@@ -1,4 +1,5 @@
--- How the entries of nodes stay in the seats of their table, when seats begin, are cut and joined, and when entries change.
+-- The entries of nodes stay in the seats of their table: when seats begin, when they are split and joined, and when
+-- entries change.
 use Rattle.std.proofs.Common.{◌≡◌, ◌≢◌, ◌⊎◌, ℕ, zero, suc, ◌+◌, ◌-◌, ◌<◌, ◌≤◌, List, [], ◌∷◌, ◌++◌, length, set, slice_get, sym, refl, ap, ◌∙◌, subst, inl, inr, ⊎_elim, arith, length-set, Some}
 use mathlib.Core.Logic.{dite}
 use mathlib.Core.Option.{some, some-injective, some-ne-none}

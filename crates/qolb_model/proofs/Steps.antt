@@ -1,4 +1,4 @@
--- A plain line that agrees with a state does so after each of its steps, and the queue made the step's moves.
+-- If a plain line agrees with a state, it still does after each of its steps, and the queue made the moves of the step.
 use Rattle.std.proofs.Common.{◌≡◌, ℕ, zero, suc, ◌+◌, ◌-◌, ◌<◌, ◌≤◌, ◌==◌, ◌⊎◌, inl, inr, Bool, true, false, ◌||◌, ◌&&◌, if◌then◌else◌, List, [], ◌∷◌, ◌++◌, length, drop, map, Option, Some, None, slice_get, refl, ap, ap₂, sym, ◌∙◌, subst, arith, length-append}
 use Rattle.std.specs.Option.{option_map_or}
 use Rattle.std.proofs.lemmas.List.Folds.{list_any-append}
@@ -429,7 +429,7 @@ module _ (line : PlainView) (s : OwnerState) (node : ℕ) (a : Agrees line s) (s
           ap (λ b. if b then record (waiter_of s.queue.marked x) { withdrawn = true } else waiter_of s.queue.marked x) (ne_eqb x.node node ne)
           ∙ ap (λ b. let w : Waiter = record { node = x.node; withdrawn = b } in w) (sym kept)
 
-  -- so all entries do
+  -- therefore all entries do
   entries_then : (xs : List Request) → AreLast s.queue.order xs → map (withdrawn_at node) (map (waiter_of s.queue.marked) xs) ≡ map (waiter_of marked_then) xs
   entries_then [] h = refl
   entries_then (x ∷ xs) h = ap₂ (λ w ws. w ∷ ws) (entry_then x h.0) (entries_then xs h.1)

@@ -66,7 +66,7 @@ module _ (good : List ℕ → Type 0) (allows : List ℕ → List ℕ → Type 0
       let legal = subst (λ (t : LineConfig). IsLegal t.lease h.order h.ends) f.config_is h.legal in
       all_served config.lease h.order h.ends f.may_open.lease legal p write true at (sym (last ∙ (ap (λ (t : LineConfig). is_last_turn t.lease (take p v.ends)) config_is ∙ ap (is_last_turn config.lease) (sym cut))))
 
-  -- so without a lease none of them is told that it is closed
+  -- therefore without a lease none of them is told that it is closed
   pub untold : (label : ℕ) (config : LineConfig) (views : List View) (bytes : List ℕ) → IsFinished good allows label config views bytes → ((v : View) → IsAmong views v → KnowsOwnPlaces v)
       → ((v : View) → IsAmong views v → HasNotShut v) → config.lease ≡ None → (v : View) → IsAmong views v → IsTold v → ⊥
   untold label config views bytes f places unshut none v among told =

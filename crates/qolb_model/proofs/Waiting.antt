@@ -1,4 +1,4 @@
--- The nodes that wait are distinct and not more than the line has nodes, whatever step is made.
+-- The waiting nodes are distinct, and no more than the line has nodes, after every step.
 use Rattle.std.proofs.Common.{◌≡◌, ℕ, ◌+◌, ◌<◌, ◌≤◌, ◌==◌, eqb, inl, inr, Bool, true, false, ◌||◌, cond, if◌then◌else◌, List, [], ◌∷◌, ◌++◌, map, length, take, drop, Some, refl, ap, sym, ◌∙◌, arith, Option}
 use Rattle.std.specs.List.{list_any, find, IsDistinct, AllByRecursion}
 use Rattle.std.specs.Option.{is_some}
@@ -88,7 +88,7 @@ same_nodes : (m n : ℕ) (ws : List Waiter) → list_any (is_at m) (map (withdra
 same_nodes m n [] = refl
 same_nodes m n (w ∷ ws) = ap (λ k. (k == m) || list_any (is_at m) (map (withdrawn_at n) ws)) (withdrawn_at-node n w) ∙ ap (λ b. is_at m w || b) (same_nodes m n ws)
 
--- so one may be marked
+-- therefore one may be marked
 pub waiting_mark : (nodes n : ℕ) (ws : List Waiter) → AreWaiting nodes ws → AreWaiting nodes (map (withdrawn_at n) ws)
 waiting_mark nodes n [] h = tt
 waiting_mark nodes n (w ∷ ws) h =

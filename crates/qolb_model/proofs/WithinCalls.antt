@@ -1,4 +1,4 @@
--- The word steps of several calls of a port.
+-- The atomic steps of several calls of a port.
 use Rattle.std.proofs.Common.{◌≡◌, ℕ, ◌+◌, ◌*◌, ◌≤◌, ap, sym, ◌∙◌, arith}
 use Rattle.std.proofs.Math.Nat.{add-mul}
 use Rattle.qolb_model.specs.Counting.{Counters, IsWithinCalls}

@@ -1,4 +1,4 @@
--- The bytes that ends leave, and the law that they keep.
+-- The bytes that ends leave, and the data invariant that they keep.
 use Rattle.std.proofs.Common.{◌≡◌, ℕ, zero, suc, Bool, true, false, List, [], ◌∷◌, ◌++◌, replicate, filter, refl, ◌∙◌}
 use Rattle.qolb_model.specs.declared.write.Write.{Write}
 use Rattle.qolb_model.specs.declared.end.End.{End}
@@ -25,7 +25,7 @@ pub bytes_after-release : (bytes : List ℕ) (ends : List End) (write : Write) (
 bytes_after-release bytes ends write shut passed =
     bytes_after-append bytes ends (Served write shut ∷ replicate passed Gone) ∙ bytes_after-passed (written (bytes_after bytes ends) write) passed
 
--- what is good at the opening stays good under turns that keep the law
+-- what is good at the opening stays good under turns that keep the data invariant
 pub good_after :
     (good : List ℕ → Type 0) (allows : List ℕ → List ℕ → Type 0)
     (stays_good : (old new : List ℕ) → good old → allows old new → good new)
@@ -36,7 +36,7 @@ good_after good allows stays_good bytes (Served write shut ∷ ends) g k =
 good_after good allows stays_good bytes (Gone ∷ ends) g k = good_after good allows stays_good bytes ends g k
 good_after good allows stays_good bytes (Told ∷ ends) g k = good_after good allows stays_good bytes ends g k
 
--- the law kept by two lists of ends, one after the other
+-- the data invariant kept by two lists of ends, one after the other
 pub allowed-append : (allows : List ℕ → List ℕ → Type 0) (bytes : List ℕ) (xs ys : List End) → AreAllowed allows bytes xs → AreAllowed allows (bytes_after bytes xs) ys → AreAllowed allows bytes (xs ++ ys)
 allowed-append allows bytes [] ys h k = k
 allowed-append allows bytes (Served write shut ∷ xs) ys h k = (h.0, allowed-append allows (written bytes write) xs ys h.1 k)

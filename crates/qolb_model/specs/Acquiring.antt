@@ -1,4 +1,5 @@
--- Acquiring a line with a bounded number of polls. `old` and `new` are the port's views before and after. (Of this project.)
+-- A port acquires a line with a bounded number of polls. `old` and `new` are the port's views before and after. The
+-- definitions are this project's own.
 use Rattle.std.specs.Prelude.{◌≡◌, ◌≢◌, ℕ, ◌<◌, false, List, slice_get, Some}
 use Rattle.qolb_model.specs.declared.write.Write.{Write}
 use Rattle.qolb_model.specs.declared.end.End.{End}
@@ -12,11 +13,11 @@ use Rattle.qolb_model.specs.Enqueueing.{IsBusy, Asks, IsJoined}
 use Rattle.qolb_model.specs.AtTurn.{IsGranted, IsWithdrawn}
 use Rattle.qolb_model.specs.Releasing.{IsTold}
 
--- none of the requests that the port made in between was served: the port changed no byte
+-- none of the requests that the port made in between was served, so the port changed no byte
 abbrev pub IsUnserved : View → View → Type 0
 IsUnserved old new = (p : ℕ) (r : Request) (e : End) → slice_get new.order p ≡ Some r → r.node ≡ new.node → old.count < r.number → slice_get new.ends p ≡ Some e → is_served e ≡ false
 
--- the port is granted the line, or has withdrawn, or is told that the line is closed; or it is busy
+-- the port was granted the line, has withdrawn its request, was told that the line is closed, or was busy
 pub record AcquiresBounded (allows : List ℕ → List ℕ → Type 0) (old new : View) (turn : Write) (answer : Acquired) : Type 0 where
   pub continues : Continues allows old new
   pub busy : answer ≡ Busy → IsBusy old new

@@ -1,5 +1,6 @@
--- The promise of each call of a port: one record a call, one field an answer. `old` and `new` are the port's views before and after, and
--- `turn` is what its holder has written. (The calls are named after Goodman, Vernon and Woest, 1989; their rules are of this project.)
+-- The promise of each call of a port: one record for each call, with one field for each answer. `old` and `new` are the
+-- port's views before and after, and `turn` is what its holder has written. (The names of the calls are from Goodman,
+-- Vernon and Woest, 1989; their contracts are this project's own.)
 use Rattle.std.specs.Prelude.{◌≡◌, ◌≢◌, ◌⊎◌, ℕ, Bool, true, false, List, [], ◌∷◌}
 use Rattle.qolb_model.specs.declared.answer.Enq.{Enq}
 use Rattle.qolb_model.specs.declared.answer.Enq.TheVariants as enq
@@ -24,13 +25,13 @@ use Rattle.qolb_model.specs.Releasing.{EndsTurn, IsTold}
 use Rattle.qolb_model.specs.Linking.{IsLinking, Links}
 use Rattle.qolb_model.specs.Meeting.{Meets}
 
--- the line was accepted, by this answer: it is open, and the port holds it, granted; or it is closed, and the port was told and has
--- forwarded it
+-- A port accepted the line, by this answer. If the line is open, the port was granted the line and holds it. If it is
+-- closed, the port was told so and has forwarded the line.
 abbrev pub IsGrantedOrTold : {A : Type 0} → A → A → A → View → Write → Type 0
 IsGrantedOrTold granted closed answer new turn = ((answer ≡ granted) × IsGranted new turn) ⊎ ((answer ≡ closed) × IsTold new)
 
 module _ (allows : List ℕ → List ℕ → Type 0) where
-  -- `enqolb`: the port makes a request, unless it is busy
+  -- what `enqolb` promises: the port makes a request, unless it is busy
   pub record Enqueues (old new : View) (turn : Write) (answer : Enq) : Type 0 where
     pub continues : Continues allows old new
     pub busy : answer ≡ enq.Busy → IsBusy old new
@@ -40,7 +41,8 @@ module _ (allows : List ℕ → List ℕ → Type 0) where
     pub queued : answer ≡ enq.Queued → IsQueued new
     pub told : answer ≡ enq.Closed → IsTold new
 
-  -- `prepend`, the first half of `enqolb`: the port makes a request, unless it is busy; behind another the request is not linked yet
+  -- what `prepend` promises, the first half of `enqolb`: the port makes a request, unless it is busy; a request behind
+  -- another one is not linked yet
   pub record Prepends (old new : View) (turn : Write) (answer : Prep) : Type 0 where
     pub continues : Continues allows old new
     pub busy : answer ≡ prep.Busy → IsBusy old new
@@ -50,7 +52,7 @@ module _ (allows : List ℕ → List ℕ → Type 0) where
     pub linking : answer ≡ prep.Linking → IsLinking new
     pub told : answer ≡ prep.Closed → IsTold new
 
-  -- `link`, the second half of `enqolb`: the port links its request to its predecessor's
+  -- what `link` promises, the second half of `enqolb`: the port links its request to its predecessor's
   pub record LinksUp (old new : View) (turn : Write) (answer : Enq) : Type 0 where
     pub continues : Continues allows old new
     pub never_busy : answer ≢ enq.Busy
@@ -59,7 +61,7 @@ module _ (allows : List ℕ → List ℕ → Type 0) where
     pub queued : answer ≡ enq.Queued → IsQueued new
     pub told : answer ≡ enq.Closed → IsTold new
 
-  -- `poll`: the port polls whether its request is at its turn
+  -- what `poll` promises: the port polls whether its request is at its turn
   pub record Polls (old new : View) (turn : Write) (answer : Poll) : Type 0 where
     pub continues : Continues allows old new
     pub count : new.count ≡ old.count
@@ -67,7 +69,7 @@ module _ (allows : List ℕ → List ℕ → Type 0) where
     pub waiting : answer ≡ poll.Waiting → IsQueued new
     pub told : answer ≡ poll.Closed → IsTold new
 
-  -- `withdraw`: the port withdraws its request, unless that is at its turn
+  -- what `withdraw` promises: the port withdraws its request, unless the request is at its turn
   pub record Withdraws (old new : View) (turn : Write) (answer : Out) : Type 0 where
     pub continues : Continues allows old new
     pub count : new.count ≡ old.count
@@ -75,8 +77,9 @@ module _ (allows : List ℕ → List ℕ → Type 0) where
     pub granted : answer ≡ out.Granted → IsGranted new turn
     pub told : answer ≡ out.Closed → IsTold new
 
-  -- `is_clear`: the port polls whether its last request is clear, and makes none. If that is clear, the next request is not answered busy,
-  -- and the port may be idle again; if not, the port is as after a request that was answered busy.
+  -- What `is_clear` promises: the port polls whether its last request is clear, and makes no request. If the last
+  -- request is clear, the next one is not answered busy, and the port may be idle again. Otherwise the port is as after
+  -- a request that was answered busy.
   pub record LooksIfClear (old new : View) (answer : Bool) : Type 0 where
     pub continues : Continues allows old new
     pub count : new.count ≡ old.count
@@ -84,14 +87,14 @@ module _ (allows : List ℕ → List ℕ → Type 0) where
     pub clear : answer ≡ true → IsClear new
     pub busy : answer ≡ false → IsBusy old new
 
-  -- `deqolb`, and `shut` with `shut` true: the port's request ends as served with what its turn wrote. That end closes the line if the
-  -- holder shuts it, or at the last turn of a lease.
+  -- What `deqolb` promises, and what `shut` promises if `shut` is true: the port's request ends as served with what its
+  -- turn wrote. That end closes the line if the holder shuts the line, or if the turn is the last of a lease.
   pub record Releases (shut : Bool) (old new : View) (turn : Write) : Type 0 where
     pub continues : Continues allows old new
     pub ends_turn : let closed = closes old.config.lease old.ends shut in EndsTurn old (Served turn closed) (state_after closed) new
     pub bytes : bytes_of new ≡ turn.bytes.bytes
 
-  -- `meet`: the ports of two nodes merge their views; a holder learns no end
+  -- what `meet` promises: the ports of two nodes merge their views, but a holder learns of no end
   pub record MergesViews (a b a_then b_then : View) : Type 0 where
     pub apart : a.node ≢ b.node
     pub before : OneHistory (a ∷ b ∷ [])

@@ -1,11 +1,11 @@
--- The counters of a port's calls.
+-- The counters of a port: how many atomic steps and polls its calls took.
 use Rattle.std.specs.Prelude.{◌≡◌, ◌+◌, ◌*◌, ◌≤◌, ℕ, Bool}
 use Rattle.qolb_model.specs.declared.answer.Enq.{Enq}
 use Rattle.qolb_model.specs.declared.answer.Poll.{Poll}
 use Rattle.qolb_model.specs.declared.answer.Out.{Out}
 use Rattle.qolb_model.specs.declared.view.View.{View}
 
--- the word steps of a port's last call, those of all its calls, and its polls
+-- the atomic steps of a port's last call, the atomic steps of all its calls, and its polls
 pub record Counters : Type 0 where
   pub steps : ℕ
   pub total_steps : ℕ
@@ -19,7 +19,7 @@ pub data Call : Type 0 where
   looks_if_clear : (clear : Bool) → Call
   releases : Call
 
--- the number of a port's polls after a call: each poll counts, and no other call
+-- the number of a port's polls after a call: each poll counts, and no other call does
 abbrev pub polls_after : Call → ℕ → ℕ
 polls_after (asks answer) count = count
 polls_after (polls answer) count = count + 1
@@ -27,7 +27,8 @@ polls_after (withdraws answer) count = count
 polls_after (looks_if_clear clear) count = count
 polls_after releases count = count
 
--- a port's counters after a call: the call took word steps as its lock says, at most the maximum, and they are counted
+-- a port's counters after a call: they count the atomic steps of the call, which are as many as its kind of line says,
+-- and at most the maximum
 pub record Counts (call_steps : Call → View → View → ℕ → Type 0) (max_steps : ℕ) (call : Call) (before after : View) (old new : Counters)
     : Type 0 where
   pub within : call_steps call before after new.steps
@@ -35,7 +36,8 @@ pub record Counts (call_steps : Call → View → View → ℕ → Type 0) (max_
   pub total_steps : new.total_steps ≡ old.total_steps + new.steps
   pub poll_count : new.poll_count ≡ polls_after call old.poll_count
 
--- since `old` the port was polled some times, and has taken no more word steps than these polls and `others` calls more may take
+-- since `old`, the port was polled some number of times, and has taken no more atomic steps than these polls and
+-- `others` more calls may take
 pub record IsWithinCalls (max_steps others : ℕ) (old new : Counters) : Type 0 where
   pub polls : ℕ
   pub poll_count : new.poll_count ≡ old.poll_count + polls

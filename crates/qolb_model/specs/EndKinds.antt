@@ -1,9 +1,9 @@
--- Kinds of ends.
+-- The kinds of ends: a request is served, withdrawn, or notified that the line is closed.
 use Rattle.std.specs.Prelude.{Bool, true, false}
 use Rattle.qolb_model.specs.declared.end.End.{End}
 use Rattle.qolb_model.specs.declared.end.End.TheVariants.{Served, Gone, Told}
 
--- the request was withdrawn, and passed by a release
+-- the request was withdrawn, and a release passed it
 abbrev pub is_gone : End → Bool
 is_gone (Served write shut) = false
 is_gone Gone = true

@@ -1,16 +1,17 @@
--- The entries of a line's nodes in the seats of its table: each node has one entry, at one place of one seat. (Of this project.)
+-- The entries of a line's nodes in the seats of its table. Each node has one entry, at one place of one seat. The
+-- definitions are this project's own.
 use Rattle.std.specs.Prelude.{◌≡◌, ℕ, zero, suc, ◌<◌, ◌≤◌, List, [], ◌∷◌, slice_get, Some}
 use mathlib.Core.Option.{some}
 use lib.ListN.{get_elem?}
 
--- the entry e, at the i-th place of the seat j, is that of its node
+-- the entry e, at the i-th place of the seat j, belongs to its node
 pub record Member {E : Type 0} (node : E → ℕ) (nodes : ℕ) (who : ℕ → E) (owner : ℕ → ℕ × ℕ) (j i : ℕ) (e : E) : Type 0 where
   pub low : 0 < node e
   pub high : node e ≤ nodes
   pub is : who (node e) ≡ e
   pub at : owner (node e) ≡ (j, i)
 
--- each entry of each seat is that of its node, at the owner's place
+-- each entry of each seat belongs to its node, at the place that `owner` gives
 abbrev pub AreMembers : {E : Type 0} → (E → ℕ) → ℕ → (ℕ → E) → (ℕ → ℕ × ℕ) → List (List E) → Type 0
 AreMembers {E} node nodes who owner seats = (j i : ℕ) (es : List E) (e : E) → get_elem? seats j ≡ some es → slice_get es i ≡ Some e → Member node nodes who owner j i e
 
@@ -19,7 +20,7 @@ abbrev pub each_from : {E : Type 0} → (ℕ → E) → ℕ → ℕ → List E
 each_from entry n zero = []
 each_from entry n (suc k) = entry (suc n) ∷ each_from entry (suc n) k
 
--- the first entry of a seat that is split, and those behind it
+-- the first entry of a seat that is split, and the entries behind it
 abbrev pub front : {E : Type 0} → List E → List E
 front [] = []
 front (e ∷ es) = e ∷ []

@@ -1,4 +1,5 @@
--- Enqueueing in two calls: a request is made, and then linked to its predecessor's. (The prepend of IEEE Std 1596-1992.)
+-- A node may request the line in two calls: the first makes the request, and the second links it to its predecessor's.
+-- (The first call is the prepend of IEEE Std 1596-1992.)
 use Rattle.std.specs.Prelude.{◌≡◌}
 use Rattle.qolb_model.specs.declared.answer.PortState.TheVariants.{Linking}
 use Rattle.qolb_model.specs.declared.view.View.{View}
@@ -7,7 +8,7 @@ use Rattle.qolb_model.specs.Views.{own}
 use Rattle.qolb_model.specs.Enqueueing.{IsJoined}
 use Rattle.qolb_model.specs.AtTurn.{Waits, IsBoundedBypass}
 
--- linking: the port's request is made and behind another, not yet linked to it, and not withdrawn
+-- linking: the port's request is made and behind another one, not linked to that one yet, and not withdrawn
 pub record IsLinking (new : View) : Type 0 where
   pub state : new.state ≡ Linking
   pub waits : Waits new
@@ -15,7 +16,7 @@ pub record IsLinking (new : View) : Type 0 where
   pub unjoined : Lacks new.joined (own new)
   pub unmarked : Lacks new.marked (own new)
 
--- the port's request is linked to its predecessor's, and is the same request
+-- the port's request is now linked to its predecessor's, and is the same request
 pub record Links (old new : View) : Type 0 where
   pub count : new.count ≡ old.count
   pub joined : IsJoined new

@@ -1,4 +1,4 @@
--- Two ports of a line merge their views. (Of this project.)
+-- Two ports of a line merge their views. The definitions are this project's own.
 use Rattle.std.specs.Prelude.{◌≡◌, ◌||◌, ◌++◌, if◌then◌else◌, nat_lt, List, length}
 use Rattle.qolb_model.specs.declared.request.Request.{Request}
 use Rattle.qolb_model.specs.declared.view.View.{View}
@@ -12,7 +12,8 @@ longer xs ys = if nat_lt (length xs) (length ys) then ys else xs
 abbrev pub IsUnion : List Request → List Request → List Request → Type 0
 IsUnion xs ys zs = (r : Request) → has zs r ≡ (has xs r || has ys r)
 
--- what a port knows once it has met another: the longer of each list and the union of each set; its own state is as it was
+-- what a port knows once it has met another port: the longer of each two lists and the union of each two sets; its own
+-- state does not change
 pub record Meets (old other new : View) : Type 0 where
   pub order : new.order ≡ longer old.order other.order
   pub ends : new.ends ≡ longer old.ends other.ends
@@ -23,7 +24,7 @@ pub record Meets (old other new : View) : Type 0 where
   pub state : new.state ≡ old.state
   pub count : new.count ≡ old.count
 
--- the view v, once it has learned what u knows
+-- the view v, after it has learned what u knows
 abbrev pub merged_view : View → View → View
 merged_view v u = record v {
   order = longer v.order u.order;

@@ -1,4 +1,4 @@
--- Views of ports that are all true of one history of a line. (Of this project.)
+-- When the views of several ports are all true of one history of a line. The definitions are this project's own.
 use Rattle.std.specs.Prelude.{◌≡◌, ℕ, ◌≤◌, false, List, [], length, slice_get, Some}
 use mathlib.Core.List.{IsPrefix}
 use Rattle.qolb_model.specs.declared.answer.PortState.TheVariants.{Holding}
@@ -11,13 +11,14 @@ use Rattle.qolb_model.specs.EndKinds.{is_gone}
 use Rattle.qolb_model.specs.Histories.{IsLegal, Clears, turn_of}
 use Rattle.qolb_model.specs.Views.{own}
 
--- the view is one of these
+-- the view is one of these views
 abbrev pub IsAmong : List View → View → Type 0
 IsAmong views v = (i : ℕ) × (slice_get views i ≡ Some v)
 
--- What a view knows of a history: the line's config; that all requests are of its nodes; a prefix of each of its lists; the number of its
--- own node's requests; of these, each that was served or told, and which of the ended ones were withdrawn; and that only the last can be
--- open. A holder's request is at its turn.
+-- What a view knows of a history. It knows the configuration of the line, that all requests are of its nodes, and a
+-- prefix of each list. Of its own node it knows the number of requests, each request that was served or told that the
+-- line is closed, and which of the ended requests were withdrawn; only the last of these requests can be open. A
+-- holder's request is at its turn.
 pub record Knows (config : LineConfig) (order : List Request) (ends : List End) (clear : List Request) (v : View) : Type 0 where
   pub config_is : v.config ≡ config
   pub of_line : (p : ℕ) (r : Request) → slice_get order p ≡ Some r → (1 ≤ r.node) × (r.node ≤ config.nodes)
@@ -30,12 +31,12 @@ pub record Knows (config : LineConfig) (order : List Request) (ends : List End) 
   pub own_open : (p : ℕ) (r : Request) → length ends ≤ p → slice_get order p ≡ Some r → r.node ≡ v.node → r ≡ own v
   pub holder : v.state ≡ Holding → turn_of order ends ≡ Some (own v)
 
--- if one view knows that a request of the other's node is joined or withdrawn, the other knows so
+-- if one view knows that a request of the other view's node is joined or withdrawn, the other view knows so too
 pub record KnowsOwn (v w : View) : Type 0 where
   pub joined : (r : Request) → r.node ≡ w.node → Has v.joined r → Has w.joined r
   pub marked : (r : Request) → r.node ≡ w.node → Has v.marked r → Has w.marked r
 
--- the views are of one history: some order, ends and clear list of one line are known to each of them
+-- the views are of one history: each of them knows some order, ends and clear list of one line
 pub record OneHistory (views : List View) : Type 0 where
   pub config : LineConfig
   pub order : List Request

@@ -1,5 +1,5 @@
--- The answer of each call, and its moves of the queue, if one owner makes all calls of a line one after another. (Of this project: the
--- table of a script's answers.)
+-- The answer of each call, and its moves of the queue, if one owner makes all calls of a line one after another. This
+-- is the table of a script's answers. The definitions are this project's own.
 use Rattle.std.specs.Prelude.{ℕ, ◌+◌, Bool, true, false, not, ◌&&◌, if◌then◌else◌, List, [], ◌∷◌, length, drop, map, take_while, bit_or}
 use Rattle.std.specs.Option.{option_map_or}
 use Rattle.line_lanes.specs.Line.{merged}
@@ -21,18 +21,19 @@ use Rattle.qolb_model.specs.Leases.{closes}
 use Rattle.qolb_model.specs.Histories.{turn_of, ended_of, open_of}
 use Rattle.qolb_model.specs.Queue.{Queue, empty_queue, Move, ask, mark, finish, moved}
 
--- a line's config, its queue, whether the request at its turn was answered granted, and what its holder has written in this turn
+-- the configuration of a line, its queue, whether the request at its turn was answered granted, and what its holder has
+-- written in this turn
 pub record OwnerState : Type 0 where
   pub config : LineConfig
   pub queue : Queue
   pub granted : Bool
   pub turn : Write
 
--- a turn without a write yet
+-- a turn that has written nothing yet
 abbrev pub new_turn : List ℕ → List End → Write
 new_turn opening ends = record { mask = record { 0 = 0 }; bytes = record { bytes = bytes_after opening ends } }
 
--- a new line
+-- the state of a new line
 abbrev pub opened : LineConfig → OwnerState
 opened config = record { config = config; queue = empty_queue; granted = false; turn = new_turn config.opening.bytes [] }
 
@@ -40,15 +41,15 @@ opened config = record { config = config; queue = empty_queue; granted = false; 
 abbrev pub is_first : Queue → ℕ → Bool
 is_first q node = option_map_or (is_same (last_of node q.order)) (turn_of q.order q.ends) false
 
--- the node's last request has no end; the node's last request has no end and was withdrawn
+-- the node's last request has no end; or it has no end and was withdrawn
 abbrev pub is_open : Queue → ℕ → Bool
 is_open q node = has (open_of q.order q.ends) (last_of node q.order)
 
 abbrev pub is_rolled : Queue → ℕ → Bool
 is_rolled q node = is_open q node && has q.marked (last_of node q.order)
 
--- A node with an open request is Holding if that was answered granted, Rolled if it was withdrawn, else Queued. Any other node is Idle, or
--- Shut once the line is closed.
+-- The state of a node with an open request is Holding if the request was answered granted, Rolled if it was withdrawn,
+-- and otherwise Queued. The state of any other node is Idle, or Shut once the line is closed.
 abbrev pub state_of : OwnerState → ℕ → PortState
 state_of s node =
     if is_open s.queue node
@@ -60,11 +61,12 @@ abbrev pub moved_by : Queue → List Move → Queue
 moved_by q [] = record q { clear = ended_of q.order q.ends }
 moved_by q (move ∷ moves) = moved_by (moved q move) moves
 
--- the request at its turn ends, and each withdrawn one behind it is passed, up to the next that is not
+-- the request at its turn ends, and the withdrawn requests behind it are passed, up to the next request that is not
+-- withdrawn
 abbrev pub ends_with : End → Queue → List Move
 ends_with end q = finish end ∷ map (λ _. finish Gone) (take_while (has q.marked) (drop (length q.ends + 1) q.order))
 
--- the line after moves, after a grant, and after the end of a turn
+-- the line after some moves, after a grant, and after the end of a turn
 abbrev pub after_moves : List Move → OwnerState → OwnerState
 after_moves moves s = record s { queue = moved_by s.queue moves }
 
@@ -74,7 +76,8 @@ after_grant s = record s { granted = true; turn = new_turn s.config.opening.byte
 abbrev pub after_end : OwnerState → OwnerState
 after_end s = record s { granted = false; turn = new_turn s.config.opening.bytes s.queue.ends }
 
--- `poll`: a request that is not at its turn waits; at its turn it is granted, or told if the line is closed
+-- what `poll` answers: a request that is not at its turn waits; a request at its turn is granted, or told that the line
+-- is closed
 abbrev pub poll_answer : OwnerState → ℕ → Poll
 poll_answer s node = if is_first s.queue node then (if is_closed s.queue.ends then poll.Closed else poll.Granted) else poll.Waiting
 
@@ -88,8 +91,8 @@ after_poll poll.Granted s = after_grant s
 after_poll poll.Waiting s = s
 after_poll poll.Closed s = after_end (after_moves (ends_with Told s.queue) s)
 
--- `enqolb`: busy while the last request is withdrawn and has no end; else the node makes a request, and the answer is as by `poll`, with
--- queued for waiting
+-- what `enqolb` answers: busy while the node's last request is withdrawn and has no end; otherwise the node makes a
+-- request, and the answer is that of `poll`, with queued in place of waiting
 abbrev pub as_enq : Poll → Enq
 as_enq poll.Granted = enq.Granted
 as_enq poll.Waiting = enq.Queued
@@ -101,7 +104,7 @@ after_ask s node = after_moves (ask node ∷ []) s
 abbrev pub enq_answer : OwnerState → ℕ → Enq
 enq_answer s node = if is_rolled s.queue node then enq.Busy else as_enq (poll_answer (after_ask s node) node)
 
--- the node's last request is clear, so that the next is not busy
+-- the node's last request is clear, so that its next one is not busy
 abbrev pub clear_answer : OwnerState → ℕ → Bool
 clear_answer s node = not (is_rolled s.queue node)
 
@@ -111,7 +114,7 @@ enq_moves s node = if is_rolled s.queue node then [] else ask node ∷ poll_move
 abbrev pub after_enq : OwnerState → ℕ → OwnerState
 after_enq s node = if is_rolled s.queue node then s else after_poll (poll_answer (after_ask s node) node) (after_ask s node)
 
--- `withdraw`: a request that is not at its turn is marked; else the answer is as by `poll`
+-- what `withdraw` answers: a request that is not at its turn is marked; otherwise the answer is that of `poll`
 abbrev pub as_out : Poll → Out
 as_out poll.Granted = out.Granted
 as_out poll.Waiting = out.Withdrawn
@@ -129,15 +132,15 @@ out_moves s node = if is_first s.queue node then poll_moves (poll_answer s node)
 abbrev pub after_out : OwnerState → ℕ → OwnerState
 after_out s node = if is_first s.queue node then after_poll (poll_answer s node) s else after_moves (mark_last s node) s
 
--- `deqolb`, and `shut` with true: the request at its turn ends as served with what its turn wrote; the last turn of a lease closes the
--- line, as `shut` does
+-- what `deqolb` does, and `shut` if the argument is true: the request at its turn ends as served with what its turn
+-- wrote; the last turn of a lease closes the line, as `shut` does
 abbrev pub release_moves : OwnerState → Bool → List Move
 release_moves s shut = ends_with (Served s.turn (closes s.config.lease s.queue.ends shut)) s.queue
 
 abbrev pub after_release : OwnerState → Bool → OwnerState
 after_release s shut = after_end (after_moves (release_moves s shut) s)
 
--- `write`: the bytes by their mask, which joins the mask of the turn
+-- what `write` does: it changes the bytes under their mask, and that mask joins the mask of the turn
 abbrev pub turn_after : Write → ℕ → List ℕ → Write
 turn_after turn mask bytes = record { mask = record { 0 = bit_or turn.mask.0 mask }; bytes = record { bytes = merged turn.bytes.bytes bytes mask } }
 

@@ -1,4 +1,4 @@
--- Opening a line, and the first views of its ports. (Of this project.)
+-- Opening a line, and the first views of its ports. The definitions are this project's own.
 use Rattle.std.specs.Prelude.{◌≡◌, ◌⊎◌, ℕ, ◌+◌, ◌<◌, ◌≤◌, List, [], length, map, slice_get, Some}
 use Rattle.std.specs.List.{All}
 use Rattle.qolb_model.specs.declared.answer.OpenError.{OpenError}
@@ -14,12 +14,12 @@ pub record AreNodes (nodes : ℕ) : Type 0 where
   pub some : 1 ≤ nodes
   pub few : nodes ≤ MAX_NODES
 
--- a line may be opened by this config
+-- a program may open a line with this configuration
 pub record MayOpen (config : LineConfig) : Type 0 where
   pub nodes : AreNodes config.nodes
   pub lease : IsLease config.lease
 
--- the cause for which a line is not opened, in this order: its number of nodes, its lease, want of memory
+-- why a line is not opened, in this order: its number of nodes, its lease, lack of memory
 abbrev pub MayNotOpen : LineConfig → OpenError → Type 0
 MayNotOpen config Nodes = (config.nodes < 1) ⊎ (MAX_NODES < config.nodes)
 MayNotOpen config Lease = AreNodes config.nodes × (config.lease ≡ Some 0)
@@ -46,8 +46,8 @@ pub record AreNew (label : ℕ) (config : LineConfig) (views : List View) : Type
   pub count : length views ≡ config.nodes
   pub each : (i : ℕ) → i < config.nodes → slice_get views i ≡ Some (new_view label config (i + 1))
 
--- the results of opening a line, for this type of ports: the line has the label and config that were asked for, and its ports are new,
--- idle, and belong to it
+-- the results of opening a line, for this type of ports: the line has the label and the configuration that the caller
+-- asked for, and its ports are new, idle, and belong to it
 pub record Opens {Port : Type 0} (view : Port → View) (belongs : Port → Type 0) (label_of : ℕ) (config_of : LineConfig) (label : ℕ) (config : LineConfig) (ports : List Port) : Type 0 where
   pub label_is : label_of ≡ label
   pub config_is : config_of ≡ config

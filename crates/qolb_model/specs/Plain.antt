@@ -1,4 +1,4 @@
--- The plain line's model, and its agreement with a state of the queue machine.
+-- The model of a plain line, and when it agrees with a state of the queue machine.
 use Rattle.std.specs.Prelude.{◌≡◌, ℕ, ◌<◌, ◌≤◌, ◌==◌, Bool, true, false, ◌&&◌, if◌then◌else◌, List, [], ◌∷◌, map, length, Option, Some, None, slice_get, find}
 use Rattle.std.specs.Option.{option_map_or}
 use Rattle.std.specs.List.{list_any}
@@ -27,7 +27,7 @@ pub record PlainView : Type 0 where
 abbrev pub is_at : ℕ → Waiter → Bool
 is_at node w = w.node == node
 
--- the node is the oldest that waits
+-- the node is the oldest of those that wait
 abbrev pub is_oldest : PlainView → ℕ → Bool
 is_oldest line node = option_map_or (is_at node) (slice_get line.waiting 0) false
 
@@ -39,8 +39,9 @@ waiter_state line node (Some w) = if w.withdrawn then Rolled else (if line.grant
 abbrev pub node_state : PlainView → ℕ → PortState
 node_state line node = waiter_state line node (find (is_at node) line.waiting)
 
--- What holds of every state that one owner's calls reach: the line was lawfully opened; the history is legal; all that has ended is clear;
--- each open request is its node's last; no withdrawn one is at its turn; and what a turn has written is over the bytes after all ends.
+-- What holds of every state that one owner's calls reach. The line was lawfully opened, and its history is legal. All
+-- requests that have ended are clear, each open request is its node's last, and no withdrawn request is at its turn.
+-- What a turn has written lies over the bytes after all ends.
 pub record IsReached (s : OwnerState) : Type 0 where
   pub may_open : MayOpen s.config
   pub line : length s.config.opening.bytes ≡ 64
@@ -58,7 +59,8 @@ pub record IsReached (s : OwnerState) : Type 0 where
 abbrev pub waiter_of : List Request → Request → Waiter
 waiter_of marked r = record { node = r.node; withdrawn = has marked r }
 
--- the line agrees with a state: on the nodes, the open requests and their marks, the holder, closing, the turns left, and the turn's write
+-- the line agrees with a state about the nodes, the open requests and their marks, the holder, closing, the turns left,
+-- and the turn's write
 pub record Agrees (line : PlainView) (s : OwnerState) : Type 0 where
   pub nodes : line.nodes ≡ s.config.nodes
   pub waiting : line.waiting ≡ map (waiter_of s.queue.marked) (open_of s.queue.order s.queue.ends)

@@ -1,5 +1,5 @@
--- Releasing the line: a holder's release, and the forwarding of a closed line by a node that was told. (Handing over to the next in the
--- list is of Goodman, Vernon and Woest, 1989; withdrawing and closing are of this project.)
+-- A holder releases the line, or a node that was told that the line is closed forwards it. (Handing over to the next in
+-- the list is of Goodman, Vernon and Woest, 1989; withdrawal and closing are this project's own.)
 use Rattle.std.specs.Prelude.{◌≡◌, ◌⊎◌, ℕ, ◌+◌, ◌<◌, ◌≤◌, true, List, ◌++◌, ◌∷◌, length, replicate, slice_get, Some}
 use Rattle.qolb_model.specs.declared.answer.PortState.{PortState}
 use Rattle.qolb_model.specs.declared.answer.PortState.TheVariants.{Left, Shut}
@@ -13,13 +13,15 @@ use Rattle.qolb_model.specs.Histories.{turn_of}
 use Rattle.qolb_model.specs.Views.{own}
 use Rattle.qolb_model.specs.AtTurn.{IsClearBefore}
 
--- the successor's request is made, and not known to be joined: the window between swap and link of an MCS lock
+-- The successor's request is made, and the port does not know that it is joined. This is the window between swap and
+-- link of an MCS lock.
 abbrev pub SuccessorUnlinked : View → Type 0
 SuccessorUnlinked v = (r : Request) × (turn_of v.order v.ends ≡ Some r) × Lacks v.joined r
 
--- What holds after a release that has passed the withdrawn requests from place `from` on. The port knows each request that it ended. The
--- next request is not withdrawn. Each passed one is freed, and clear too, but perhaps not the last if the successor is unlinked. The line
--- stays in the node's own mailbox only if the successor is unlinked and none was passed; else the node's request is clear.
+-- What holds after a release that has passed the withdrawn requests from place `from` on. The port knows each request
+-- that it ended. The next request is not withdrawn. Each passed request is freed, and clear too, except possibly the
+-- last one if the successor is unlinked. The line stays in the node's own mailbox only if the successor is unlinked and
+-- no request was passed; otherwise the node's request is clear.
 pub record AfterRelease (from : ℕ) (leaves : PortState) (new : View) : Type 0 where
   pub known : length new.ends ≤ length new.order
   pub unmarked : (r : Request) → turn_of new.order new.ends ≡ Some r → Lacks new.marked r
@@ -27,8 +29,8 @@ pub record AfterRelease (from : ℕ) (leaves : PortState) (new : View) : Type 0 
   pub cleared : (p : ℕ) (r : Request) → from ≤ p → p < length new.ends → slice_get new.order p ≡ Some r → Has new.clear r ⊎ ((p + 1 ≡ length new.ends) × SuccessorUnlinked new)
   pub state : ((new.state ≡ Left) × SuccessorUnlinked new × (length new.ends ≡ from)) ⊎ ((new.state ≡ leaves) × Has new.clear (own new))
 
--- the turn of a port that had the line is over: the ends that it knew are extended by that of its request, and those of the withdrawn ones
--- behind it, each of another node
+-- The turn of a port that had the line is over. The ends that the port knew are extended by that of its request, and by
+-- those of the withdrawn requests behind it, each of a different node.
 pub record EndsTurn (old : View) (end : End) (leaves : PortState) (new : View) : Type 0 where
   pub passed : ℕ
   pub ends : new.ends ≡ old.ends ++ end ∷ replicate passed Gone
@@ -37,8 +39,8 @@ pub record EndsTurn (old : View) (end : End) (leaves : PortState) (new : View) :
   pub once : AreOfDifferentNodes new.order (length old.ends) (length new.ends)
   pub releases : AfterRelease (length old.ends + 1) leaves new
 
--- told: the port's request reached its turn on a line that an earlier end had closed; the port forwarded the line, past withdrawn requests,
--- each of another node
+-- Told: the port's request reached its turn on a line that an earlier end had closed. The port forwarded the line past
+-- withdrawn requests, each of a different node.
 pub record IsTold (new : View) : Type 0 where
   pub before : List End
   pub passed : ℕ

@@ -1,11 +1,11 @@
--- Requests, and the order in which they were made. A requester puts itself at the head of a line's list, and the oldest is at the tail (the
--- sharing list of IEEE Std 1596-1992; queueing at it after Goodman, Vernon and Woest, 1989). An order is a list, the oldest first. Places
--- are counted from 0.
+-- Requests, and the order in which they were made. A requester puts itself at the head of the line's list, and the
+-- oldest requester is at the tail. An order is a list with the oldest request first, and places are counted from 0.
+-- (The sharing list is from IEEE Std 1596-1992, and queueing at it from Goodman, Vernon and Woest, 1989.)
 use Rattle.std.specs.Prelude.{◌≡◌, ◌≢◌, ℕ, ◌+◌, ◌<◌, ◌≤◌, ◌==◌, ◌&&◌, Bool, true, false, List, count_by, Some, slice_get}
 use Rattle.std.specs.List.{list_any}
 use Rattle.qolb_model.specs.declared.request.Request.{Request}
 
--- both are the same request
+-- the two requests are the same
 abbrev pub is_same : Request → Request → Bool
 is_same r s = (r.node == s.node) && (r.number == s.number)
 
@@ -24,7 +24,7 @@ Lacks requests r = has requests r ≡ false
 abbrev pub count_of : ℕ → List Request → ℕ
 count_of node order = count_by (λ r. r.node == node) order
 
--- the node's last request; number 0, which no request has, if it has made none
+-- the node's last request, or, if it has made none, its request with number 0, which no request has
 abbrev pub last_of : ℕ → List Request → Request
 last_of node order = record { node = node; number = count_of node order }
 
@@ -32,7 +32,7 @@ last_of node order = record { node = node; number = count_of node order }
 abbrev pub next_of : ℕ → List Request → Request
 next_of node order = record { node = node; number = count_of node order + 1 }
 
--- no two of the requests at these places, from the first up to that before the last, are of one node
+-- no two of the requests from the first of these places up to just before the last are of one node
 abbrev pub AreOfDifferentNodes : List Request → ℕ → ℕ → Type 0
 AreOfDifferentNodes order first last = (p q : ℕ) (r s : Request) → first ≤ p → p < q → q < last → slice_get order p ≡ Some r → slice_get order q ≡ Some s → r.node ≢ s.node
 

@@ -1,4 +1,4 @@
--- What is true of a port's view after each call, and so between calls. (Of this project.)
+-- What is true of a port's view after each call, and therefore between calls. The definitions are this project's own.
 use Rattle.std.specs.Prelude.{◌≡◌, ◌⊎◌, ℕ, ◌+◌, ◌<◌, ◌≤◌, false, List, [], ◌∷◌, length, slice_get, Some}
 use Rattle.qolb_model.specs.declared.request.Request.{Request}
 use Rattle.qolb_model.specs.declared.config.LineConfig.{LineConfig}
@@ -10,16 +10,17 @@ use Rattle.qolb_model.specs.OneHistory.{OneHistory}
 use Rattle.qolb_model.specs.Kept.{IsKept}
 use Rattle.qolb_model.specs.Opening.{MayOpen}
 
--- a freed request is clear once the request behind it is known to be joined
+-- a freed request is clear once the port knows that the request behind it is joined
 abbrev pub IsFreedClear : View → Type 0
 IsFreedClear v = (p : ℕ) (r next : Request) → slice_get v.order p ≡ Some r → slice_get v.order (p + 1) ≡ Some next → Has v.freed r → Has v.joined next → Has v.clear r
 
--- the port knows the outcome of each request of its own node: it has ended; or it is withdrawn; or it is the last one, and waits or holds
+-- The port knows the outcome of each request of its own node: the request has ended; or it is withdrawn; or it is the
+-- last one, and waits or holds.
 abbrev pub KnowsOwnHistory : View → Type 0
 KnowsOwnHistory v = (p : ℕ) (r : Request) → slice_get v.order p ≡ Some r → r.node ≡ v.node → (p < length v.ends) ⊎ (Has v.marked r ⊎ ((r ≡ own v) × (may_ask v.state ≡ false)))
 
--- what every call keeps: the port forgets nothing, its view is true of some history, all turns in that kept the law, and it knows the
--- outcome of its own requests
+-- What every call keeps. The port forgets nothing, and its view is true of some history in which all turns kept the
+-- data invariant. The port knows the outcome of its own requests.
 pub record Continues (allows : List ℕ → List ℕ → Type 0) (old new : View) : Type 0 where
   pub extends : Extends old new
   pub history : OneHistory (new ∷ [])
@@ -27,7 +28,7 @@ pub record Continues (allows : List ℕ → List ℕ → Type 0) (old new : View
   pub freed_clear : IsFreedClear new
   pub own_history : KnowsOwnHistory new
 
--- what is true of each port of a line that was opened with this label and config
+-- what is true of each port of a line that was opened with this label and this configuration
 pub record IsSound (good : List ℕ → Type 0) (allows : List ℕ → List ℕ → Type 0) (label : ℕ) (config : LineConfig) (v : View) : Type 0 where
   pub label_is : v.label ≡ label
   pub config_is : v.config ≡ config

@@ -1,11 +1,11 @@
--- What the calls of a plain line do to its model.
+-- What each call of a plain line does to its model.
 use Rattle.std.specs.Prelude.{ℕ, ◌-◌, ◌==◌, Bool, true, false, ◌||◌, if◌then◌else◌, List, [], ◌∷◌, ◌++◌, drop, Option, Some, None}
 use Rattle.qolb_model.specs.declared.answer.Poll.{Poll}
 use Rattle.qolb_model.specs.declared.answer.Poll.TheVariants.{Granted, Waiting, Closed}
 use Rattle.qolb_model.specs.declared.waiter.Waiter.{Waiter}
 use Rattle.qolb_model.specs.Plain.{PlainView, is_at, is_oldest}
 
--- the entries left after the withdrawn ones at the front are passed
+-- the entries that are left after the withdrawn entries at the front are passed
 abbrev pub after_withdrawn : List Waiter → List Waiter
 after_withdrawn [] = []
 after_withdrawn (w ∷ ws) = if w.withdrawn then after_withdrawn ws else w ∷ ws
@@ -18,11 +18,11 @@ withdrawn_at node w = if is_at node w then record w { withdrawn = true } else w
 abbrev pub with_waiter : PlainView → ℕ → PlainView
 with_waiter line node = record line { waiting = line.waiting ++ record { node = node; withdrawn = false } ∷ [] }
 
--- the turn of the oldest ends, and the withdrawn ones behind it are passed
+-- the turn of the oldest node ends, and the withdrawn entries behind it are passed
 abbrev pub turn_ended : PlainView → PlainView
 turn_ended line = record line { waiting = after_withdrawn (drop 1 line.waiting); granted = false; turn = record { mask = record { 0 = 0 }; bytes = line.turn.bytes } }
 
--- exactly one turn of the lease is left; the lease with one turn fewer
+-- whether exactly one turn of the lease is left, and the lease with one turn fewer
 abbrev pub is_one : Option ℕ → Bool
 is_one None = false
 is_one (Some turns) = turns == 1
@@ -31,7 +31,7 @@ abbrev pub decrement : Option ℕ → Option ℕ
 decrement None = None
 decrement (Some turns) = Some (turns - 1)
 
--- the turn of the oldest was served: the line is closed if `shut` was set, and by the last turn
+-- the turn of the oldest node was served; the line is closed if `shut` was set, or if the turn was the last
 abbrev pub turn_served : Bool → PlainView → PlainView
 turn_served shut line = turn_ended (record line { closed = line.closed || (shut || is_one line.left); left = decrement line.left })
 

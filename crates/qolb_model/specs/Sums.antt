@@ -1,4 +1,4 @@
--- Sums over the turns of a line, and over those of one port. (Of this project.)
+-- Sums over the turns of a line, and over the turns of one port. The definitions are this project's own.
 use Rattle.std.specs.Prelude.{◌≡◌, ℕ, ◌+◌, ◌==◌, if◌then◌else◌, List, [], ◌∷◌, take, slice_get, Bool, Some}
 use Rattle.qolb_model.specs.declared.request.Request.{Request}
 use Rattle.qolb_model.specs.declared.end.End.{End}
@@ -9,14 +9,14 @@ use Rattle.qolb_model.specs.Requests.{count_of}
 use Rattle.qolb_model.specs.Ends.{written}
 use Rattle.qolb_model.specs.Leases.{is_last_turn}
 
--- the sum, over all served turns, of the change of the bytes before each
+-- the sum, over all served turns, of what each turn changes in the bytes before it
 abbrev pub sum_of_all : (List ℕ → List ℕ → ℕ) → List ℕ → List End → ℕ
 sum_of_all does bytes [] = 0
 sum_of_all does bytes (Served write shut ∷ ends) = does bytes (written bytes write) + sum_of_all does (written bytes write) ends
 sum_of_all does bytes (Gone ∷ ends) = sum_of_all does bytes ends
 sum_of_all does bytes (Told ∷ ends) = sum_of_all does bytes ends
 
--- the sum, over the node's served turns, of the change of the bytes before each
+-- the sum, over the node's served turns, of what each turn changes in the bytes before it
 abbrev pub sum_of_turns : (List ℕ → List ℕ → ℕ) → ℕ → List ℕ → List Request → List End → ℕ
 sum_of_turns does node bytes [] ends = 0
 sum_of_turns does node bytes (r ∷ order) [] = 0
@@ -24,7 +24,7 @@ sum_of_turns does node bytes (r ∷ order) (Served write shut ∷ ends) = (if r.
 sum_of_turns does node bytes (r ∷ order) (Gone ∷ ends) = sum_of_turns does node bytes order ends
 sum_of_turns does node bytes (r ∷ order) (Told ∷ ends) = sum_of_turns does node bytes order ends
 
--- the sum over the port's own turns, by its view
+-- the sum over the port's own turns, according to its view
 abbrev pub sum_of_own : (List ℕ → List ℕ → ℕ) → View → ℕ
 sum_of_own does v = sum_of_turns does v.node v.config.opening.bytes v.order v.ends
 
@@ -32,6 +32,6 @@ sum_of_own does v = sum_of_turns does v.node v.config.opening.bytes v.order v.en
 abbrev pub KnowsOwnPlaces : View → Type 0
 KnowsOwnPlaces v = count_of v.node v.order ≡ v.count
 
--- none of the port's turns shut the line: one that closed it was the last of a lease
+-- none of the port's turns shut the line: a turn of its own that closed the line was the last of a lease
 abbrev pub HasNotShut : View → Type 0
 HasNotShut v = (p : ℕ) (r : Request) (write : Write) (shut : Bool) → slice_get v.order p ≡ Some r → r.node ≡ v.node → slice_get v.ends p ≡ Some (Served write shut) → shut ≡ is_last_turn v.config.lease (take p v.ends)

@@ -1,4 +1,4 @@
--- A port's view of its line, and how it grows. (Of this project.)
+-- What a port knows of its line (its view), and how that knowledge grows. The definitions are this project's own.
 use Rattle.std.specs.Prelude.{◌≡◌, ℕ, List}
 use mathlib.Core.List.{IsPrefix}
 use Rattle.qolb_model.specs.declared.request.Request.{Request}
@@ -18,7 +18,7 @@ bytes_of v = bytes_after v.config.opening.bytes v.ends
 abbrev pub IsSubset : List Request → List Request → Type 0
 IsSubset xs ys = (r : Request) → Has xs r → Has ys r
 
--- the new view is of the same port as the old one, and knows all that the old one knew
+-- the new view is of the same port as the old one, and knows all that the old view knew
 pub record Extends (old new : View) : Type 0 where
   pub label : new.label ≡ old.label
   pub config : new.config ≡ old.config

@@ -1,5 +1,5 @@
--- Ports that know the whole history of their line, as the state of its one owner has it: so it is if all ports meet after each call. (Of
--- this project.)
+-- Ports that know the whole history of their line, as the line's one owner does. All ports know it if they meet after
+-- each call. The definitions are this project's own.
 use Rattle.std.specs.Prelude.{◌≡◌, ◌⊎◌, ℕ, ◌+◌, ◌≤◌, List, length, Some, slice_get}
 use Rattle.qolb_model.specs.declared.answer.PortState.{PortState}
 use Rattle.qolb_model.specs.declared.answer.PortState.TheVariants.{Idle, Linking, Queued, Holding, Left, Rolled, Shut}
@@ -11,7 +11,7 @@ use Rattle.qolb_model.specs.Histories.{ended_of, open_of}
 use Rattle.qolb_model.specs.OneOwner.{OwnerState, state_of}
 use Rattle.qolb_model.specs.Plain.{IsReached}
 
--- the calls that a node's state allows: one that neither waits nor holds counts as idle
+-- the calls that a node's state allows, where a node that neither waits nor holds counts as idle
 abbrev pub seen : PortState → PortState
 seen Idle = Idle
 seen Linking = Linking
@@ -26,8 +26,9 @@ pub record ViewAndTurn : Type 0 where
   pub view : View
   pub turn : Write
 
--- The port knows the state's whole history: all requests, each of them joined; all ends; that all ended requests are clear; and which open
--- ones are withdrawn. Its node is in the state's phase, and a holder's turn is the state's.
+-- The port knows the whole history of the state: all requests, each of them joined; all ends; that all ended requests
+-- are clear; and which open requests are withdrawn. The node's phase is that of the state, and a holder's turn is that
+-- of the state.
 pub record KnowsWhole (s : OwnerState) (port : ViewAndTurn) : Type 0 where
   pub config : port.view.config ≡ s.config
   pub order : port.view.order ≡ s.queue.order
@@ -40,7 +41,7 @@ pub record KnowsWhole (s : OwnerState) (port : ViewAndTurn) : Type 0 where
   pub asked : (port.view.state ≡ Left) ⊎ (port.view.state ≡ Rolled) → 1 ≤ port.view.count
   pub turn : port.view.state ≡ Holding → port.turn ≡ s.turn
 
--- the ports of nodes 1, 2 and so on, which all know the whole history of a state that one owner's calls reach
+-- the ports of nodes 1, 2 and so on, all of which know the whole history of a state that one owner's calls can reach
 pub record AreSynced (s : OwnerState) (ports : List ViewAndTurn) : Type 0 where
   pub reached : IsReached s
   pub count : length ports ≡ s.config.nodes

@@ -9,22 +9,23 @@ use crate::answer::{Enq, Out, Poll, PortState};
 use crate::keep::Keep;
 use crate::sync::LineSync;
 
-/// The answer of `acquire_bounded`.
+/// What `acquire_bounded` answers.
 #[derive(Clone, Copy, Debug, PartialEq, Eq)]
 pub enum Acquired {
     /// The node holds the line.
     Granted,
-    /// All polls were used, and the request is withdrawn.
+    /// The node used all its polls, and its request is withdrawn.
     Late,
     /// The line is closed, and the request has ended.
     Closed,
-    /// No request was made: the node's last one is not clear yet.
+    /// The node made no request, because its last one is not clear yet.
     Busy,
 }
 
-/// Requests the line, polls at most `patience` times, and then withdraws the request if it still waits. Does not allocate.
+/// Requests the line, polls at most `patience` times, and then withdraws the request if it still waits. Does not
+/// allocate.
 ///
-/// Takes the word steps of its polls and of at most two calls more.
+/// The call takes the atomic steps of its polls and of at most two more calls.
 pub fn acquire_bounded<K: Keep, L: LineSync<K>>(
     line: &L,
     port: &mut L::Port,
@@ -75,6 +76,7 @@ fn wait_bounded<K: Keep, L: LineSync<K>>(line: &L, port: &mut L::Port, patience:
             Poll::Closed => return Out::Closed,
         }
     }
-    // The request may have reached its turn since the last poll. Then it is granted or told, and not withdrawn.
+    // The request may have reached its turn since the last poll. Then it is granted or told that the line is closed,
+    // and not withdrawn.
     line.withdraw(port)
 }

@@ -1,4 +1,4 @@
-//! Answers of a line's calls, and the states of a port.
+//! The answers of a line's calls, and the states of a port.
 ghost use Rattle.std.specs.Prelude.{◌≡◌};
 ghost use Rattle.qolb_model.specs.PortStates.{may_ask};
 
@@ -7,24 +7,24 @@ ghost use Rattle.qolb_model.specs.PortStates.{may_ask};
 pub enum Enq {
     /// The node holds the line.
     Granted,
-    /// The request waits behind another.
+    /// The request waits behind another request.
     Queued,
     /// The line is closed, and the request has ended.
     Closed,
-    /// No request was made: the node's last one has ended or was withdrawn, and its entry is not clear yet.
+    /// The node made no request: its last one has ended or was withdrawn, and the node's entry is not clear yet.
     Busy,
 }
 
-/// The answer of `prepend`, which makes a request and does not link it.
+/// The answer of `prepend`, which makes a request but does not link it.
 #[derive(Clone, Copy, Debug, PartialEq, Eq)]
 pub enum Prep {
     /// The node holds the line.
     Granted,
     /// The line is closed, and the request has ended.
     Closed,
-    /// No request was made: the node's last one has ended or was withdrawn, and its entry is not clear yet.
+    /// The node made no request: its last one has ended or was withdrawn, and the node's entry is not clear yet.
     Busy,
-    /// The request is behind another, and not yet linked to its predecessor's.
+    /// The request is behind another request, and not linked to its predecessor's yet.
     Linking,
 }
 
@@ -33,7 +33,7 @@ pub enum Prep {
 pub enum Poll {
     /// The node holds the line.
     Granted,
-    /// The request waits behind another.
+    /// The request waits behind another request.
     Waiting,
     /// The line is closed, and the request has ended.
     Closed,
@@ -44,24 +44,24 @@ pub enum Poll {
 pub enum Out {
     /// The request is withdrawn: the release that reaches it will pass it.
     Withdrawn,
-    /// The request was at its turn already: the node holds the line.
+    /// The request had already reached its turn, and the node holds the line.
     Granted,
-    /// The request was at its turn already, on a closed line, and has ended.
+    /// The request had already reached its turn, on a closed line, and has ended.
     Closed,
 }
 
 /// The state of a node at a line after its last call.
 #[derive(Clone, Copy, Debug, PartialEq, Eq)]
 pub enum PortState {
-    /// The node has no open request, and may ask.
+    /// The node has no open request, and may make one.
     Idle,
-    /// The node's request is in the order, and not yet linked to its predecessor's.
+    /// The node's request is in the order, and not linked to its predecessor's yet.
     Linking,
     /// The node's request waits.
     Queued,
     /// The node holds the line.
     Holding,
-    /// The node's last request has ended; the line was left in its mailbox for the successor.
+    /// The node's last request has ended, and the node left the line in its mailbox for the successor.
     Left,
     /// The node's last request was withdrawn.
     Rolled,
@@ -70,7 +70,7 @@ pub enum PortState {
 }
 
 impl PortState {
-    /// Returns `true` if a node in this state may ask: it neither waits nor holds.
+    /// Returns `true` if a node in this state may make a request, because it neither waits nor holds.
     pub fn may_ask(self) -> bool
         ensures { result ≡ may_ask self }
     {
@@ -81,7 +81,7 @@ impl PortState {
     }
 }
 
-/// The cause for which a line could not be opened.
+/// Why a line could not be opened.
 #[derive(Clone, Copy, Debug, PartialEq, Eq)]
 pub enum OpenError {
     /// The allocator returned no memory.

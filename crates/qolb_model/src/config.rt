@@ -1,4 +1,4 @@
-//! The configuration of a line.
+//! The configuration with which a line is opened.
 ghost use Rattle.std.specs.Prelude.{◌≢◌, MatchResult};
 ghost use Rattle.qolb_model.specs.Opening.{MayOpen, MayNotOpen};
 
@@ -8,21 +8,21 @@ use line_lanes::Line64;
 /// The maximum number of nodes of a line.
 pub const MAX_NODES: u64 = 200;
 
-/// The configuration of a line, without its label.
+/// The configuration of a line, except its label.
 #[derive(Clone, Copy, Debug, PartialEq, Eq)]
 pub struct LineConfig {
     /// The number of nodes. They are numbered from 1.
     pub nodes: u64,
     /// The bytes that the first holder finds.
     pub opening: Line64,
-    /// The number of served turns after which the line closes; `None` for no limit.
+    /// The number of served turns after which the line closes, or `None` for no limit.
     pub lease: Option<u64>,
 }
 
 impl LineConfig {
-    /// Checks the number of nodes, then the lease.
+    /// Checks the number of nodes, and then the lease.
     ///
-    /// Returns `Nodes` if there are not 1 to `MAX_NODES` nodes, else `Lease` if the lease is 0.
+    /// Returns `Nodes` if there are not 1 to `MAX_NODES` nodes, and otherwise `Lease` if the lease is 0.
     pub fn check(&self) -> Result<(), OpenError>
         ensures { MatchResult result (λ _. MayOpen self.now) (λ error.
             (error ≢ OpenError.Memory) × MayNotOpen self.now error) }

@@ -1,11 +1,11 @@
 ghost use Rattle.std.specs.Prelude.{List, ℕ};
 
-/// The law of a line: which bytes are good, and which changes a turn may make.
+/// The data invariant of a line: which bytes are good, and which changes a turn may make.
 pub trait Keep {
-    /// The bytes are good.
+    /// The property of good bytes.
     ghost good: { List ℕ → Type 0 };
 
-    /// A turn may change the old bytes to the new ones.
+    /// The changes that a turn may make, from the old bytes to the new ones.
     ghost allows: { List ℕ → List ℕ → Type 0 };
 
     /// An allowed change of good bytes gives good bytes.
@@ -15,7 +15,7 @@ pub trait Keep {
     ghost allows_same: { (bytes : List ℕ) → good bytes → allows bytes bytes };
 }
 
-/// The law that allows everything.
+/// The data invariant that allows every change of every byte.
 pub struct Free;
 
 impl Keep for Free {

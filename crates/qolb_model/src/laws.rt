@@ -1,4 +1,5 @@
-//! Laws that the definitions of the contracts imply. Each is the contract of a function that does nothing.
+//! The theorems about lines that follow from the contracts' definitions. Each theorem is the contract of a function
+//! that does nothing.
 ghost use Rattle.std.specs.Prelude.{◌≡◌};
 ghost use Rattle.qolb_model.specs.Laws.{NoRequestStandsTwice, NoneIsServedAfterClosing, LeaseBounds, OpenLineHasTurns, OnlyServedEndsWrite, GoodStaysGood, ClearPortIsNotBusy, ExtendsThrough, PartIsOfOneHistory, EachTwoAreOfOneHistory, FewerEndsBegin, SameEndsSameBytes, OneNodeHolds, BoundedBypass, FewTurnsBefore, FewWaitAtOnce, NewPortsAreOfOneHistory, PortsThatMetKnowTheSame, SumsAreOfEachPort, ClosedByLeaseAlone, NoneIsTold};
 
@@ -10,12 +11,12 @@ pub fn no_request_stands_twice()
     ensures { NoRequestStandsTwice }
 {}
 
-/// Nothing is served once the line is closed.
+/// No request is served once the line is closed.
 pub fn none_is_served_after_closing()
     ensures { NoneIsServedAfterClosing }
 {}
 
-/// No more turns are served than a lease has, and the last of them closes the line.
+/// No more turns are served than the lease allows, and the last of them closes the line.
 pub fn lease_bounds()
     ensures { LeaseBounds }
 {}
@@ -30,7 +31,7 @@ pub fn only_served_ends_write()
     ensures { OnlyServedEndsWrite }
 {}
 
-/// Good bytes stay good if every turn keeps the law.
+/// Good bytes stay good if every turn keeps the data invariant.
 pub fn good_stays_good<K: Keep>()
     ensures { GoodStaysGood K.good K.allows }
 {}
@@ -40,7 +41,7 @@ pub fn clear_port_is_not_busy<K: Keep>()
     ensures { ClearPortIsNotBusy K.allows }
 {}
 
-/// Extending a view is transitive: call after call, a port forgets nothing.
+/// Extending a view is transitive. Call after call, a port therefore forgets nothing.
 pub fn extends_through()
     ensures { ExtendsThrough }
 {}
@@ -55,12 +56,12 @@ pub fn each_two_are_of_one_history()
     ensures { EachTwoAreOfOneHistory }
 {}
 
-/// Of two ports, the fewer ends are a prefix of the more ends.
+/// Of two ports, the one that knows fewer ends knows a prefix of the other's ends.
 pub fn fewer_ends_begin()
     ensures { FewerEndsBegin }
 {}
 
-/// Ports that know equally many ends know the same bytes.
+/// Ports that know the same number of ends know the same bytes.
 pub fn same_ends_same_bytes()
     ensures { SameEndsSameBytes }
 {}
@@ -70,17 +71,17 @@ pub fn one_node_holds()
     ensures { OneNodeHolds }
 {}
 
-/// Bounded bypass: between a request and its turn, fewer requests end than the line has nodes.
+/// Bounded bypass: between a request and its turn, fewer other requests end than the line has nodes.
 pub fn bounded_bypass()
     ensures { BoundedBypass }
 {}
 
-/// At its turn, a request has seen fewer ends since its wait began than there are nodes.
+/// At its turn, a request has seen fewer ends since its wait began than the line has nodes.
 pub fn few_turns_before()
     ensures { FewTurnsBefore }
 {}
 
-/// On a line with one owner no more requests are open than it has nodes.
+/// On a line with one owner, no more requests are open than the line has nodes.
 pub fn few_wait_at_once()
     ensures { FewWaitAtOnce }
 {}
@@ -100,17 +101,17 @@ pub fn ports_that_met_know_the_same()
     ensures { PortsThatMetKnowTheSame }
 {}
 
-/// The changes by all turns of a finished line are the sum of each port's own.
+/// The changes by all turns of a finished line are the sum of the changes by each port's own turns.
 pub fn sums_are_of_each_port<K: Keep>()
     ensures { SumsAreOfEachPort K.good K.allows }
 {}
 
-/// A finished line that no port has shut is closed only by its lease.
+/// If no port has shut a finished line, only its lease has closed it.
 pub fn closed_by_lease_alone<K: Keep>()
     ensures { ClosedByLeaseAlone K.good K.allows }
 {}
 
-/// Without a lease, no request of a finished line that no port has shut was told.
+/// If a finished line had no lease and no port has shut it, none of its requests was told that it is closed.
 pub fn none_is_told<K: Keep>()
     ensures { NoneIsTold K.good K.allows }
 {}

@@ -1,5 +1,8 @@
-//! The specification of a queued line: requests, their ends and the bytes after these; the queue as a state machine; and a plain line with
-//! one owner, which runs it. The calls of a shared line are a trait, whose contracts say what each promises to its node.
+//! The specification of a queued line, which all kinds of lines prove themselves against.
+//!
+//! It defines requests, their ends, and the bytes after these ends; the queue as a state machine; and a plain line with
+//! one owner, which runs that machine. The trait `LineSync` has the calls of a shared line, and its contracts say what
+//! each call promises to the node that makes it.
 #![tactic(auto)]
 
 mod acquire;

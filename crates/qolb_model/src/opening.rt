@@ -1,4 +1,4 @@
-//! Lines that can be opened.
+//! The trait of lines that a program can open.
 ghost use Rattle.std.specs.Prelude.{IfOk, IfErr};
 ghost use Rattle.qolb_model.specs.Opening.{MayOpen, MayNotOpen, Opens};
 
@@ -8,13 +8,15 @@ use crate::keep::Keep;
 use crate::sync::LineSync;
 use std::alloc::Global;
 
-/// A line that can be opened under the law `K`, and that nodes then share.
+/// A line that a program can open under the data invariant `K`, and that nodes then share.
 pub trait OpenLine<K: Keep>: LineSync<K> {
-    /// Opens a line by `config`, with a port for each of its nodes, in their order. Only this call and `finish` allocate.
+    /// Opens a line with `config`, and returns a port for each of its nodes, in their order. Only this call and
+    /// `finish` allocate.
     ///
     /// # Errors
     ///
-    /// `Nodes` if the number of nodes is not 1 to `MAX_NODES`, else `Lease` if the lease is 0, else `Memory` if memory is short.
+    /// The call fails with `Nodes` if the number of nodes is not 1 to `MAX_NODES`, otherwise with `Lease` if the lease
+    /// is 0, and otherwise with `Memory` if memory is short.
     fn open_with(
         alloc: Global,
         label: u64,

@@ -1,4 +1,4 @@
-//! Lines on which a waiter can park.
+//! The trait of lines on which a waiter can park.
 ghost use Rattle.std.specs.Prelude.{◌≡◌};
 
 use crate::answer::PortState;
@@ -7,13 +7,15 @@ use crate::sync::LineSync;
 use std::sync::Wait;
 use std::time::Duration;
 
-/// A line on which a waiter can park until its turn may be reached.
+/// A line on which a waiter can park until its turn may have come.
 ///
-/// Parking changes no port and tells nothing: the next `poll` says if the turn is reached. A release unparks the next holder.
+/// Parking changes no port and tells the waiter nothing: the next `poll` says whether its turn has come. A release
+/// unparks the next holder.
 pub trait ParkingLine<K: Keep>: LineSync<K> {
-    /// Parks until the request's turn may be reached, or `at_most` is over. May return early, for no reason.
+    /// Parks until the request's turn may have come, or until `at_most` is over. The call may return early, for no
+    /// reason.
     ///
-    /// Blocks, and calls the system.
+    /// It blocks, and calls the system.
     fn sleep<R: Wait>(&self, rt: &R, port: &Self::Port, at_most: Duration)
         requires belongs { Self.belongs self.now port.now }
         requires state { (Self.view port.now).state ≡ PortState.Queued };

@@ -1,4 +1,4 @@
-//! The reference line: one owner, no threads, no allocation.
+//! The plain line, the reference for all other kinds: it has one owner, no threads, and allocates nothing.
 ghost use Rattle.std.specs.Prelude.{◌≡◌, ◌≢◌, ℕ, ◌≤◌, Bool, true, false, IsTrue, IfOk, IfErr, MatchResult, ◌<◌, length, map, find, Option, Some, None};
 ghost use Rattle.qolb_model.specs.Queue.{Runs};
 ghost use Rattle.qolb_model.specs.OneOwner.{OwnerState, opened, state_of, shown, enq_answer, enq_moves, after_enq, clear_answer, poll_answer, poll_moves, after_poll, as_enq, out_answer, out_moves, after_out, release_moves, after_release, after_write};
@@ -17,19 +17,20 @@ use arrayvec::ArrayVec;
 use line_lanes::{Line64, Mask, merge};
 use std::marker::Model;
 
-/// The capacity for nodes that wait or hold.
+/// The number of nodes that may wait or hold, for which the line has room.
 const ROOM: usize = MAX_NODES as usize;
 
 /// A line with one owner, who makes the calls of nodes 1 to `nodes`.
 ///
-/// Each call's contract is a run of the queue machine, given by the table of answers: from each state that agrees with the line, to one
-/// that agrees again. Calls do not allocate: the line has room for all nodes to wait, 16 bytes for each, and so has some 3,300 bytes.
+/// The contract of each call is a run of the queue machine, which the table of answers gives: it leads from each state
+/// that agrees with the line to a state that agrees again. No call allocates. The line has room for all nodes to wait,
+/// at 16 bytes for each, and therefore takes some 3,300 bytes.
 #[derive(Drop)]
 pub struct PlainLine {
     turn: Write,
     waiting: ArrayVec<Waiter, ROOM>,
     nodes: u64,
-    /// The number of turns left, if there is a lease.
+    /// The number of turns left, if the line has a lease.
     left: Option<u64>,
     granted: bool,
     closed: bool,
@@ -55,7 +56,7 @@ impl Model for PlainLine {
 }
 
 impl PlainLine {
-    /// Opens a line with the bytes `opening` for nodes 1 to `nodes`, all idle.
+    /// Opens a line with the bytes `opening` for the nodes 1 to `nodes`, which are all idle.
     ///
     /// Returns `Nodes` if `nodes` is not 1 to `MAX_NODES`.
     pub fn open(nodes: u64, opening: Line64) -> Result<PlainLine, OpenError>
@@ -73,9 +74,9 @@ impl PlainLine {
         })
     }
 
-    /// Opens a line as `open` does, which closes at the `lease`-th served turn.
+    /// Opens a line as `open` does. The line closes at the `lease`-th served turn.
     ///
-    /// Returns `Nodes` as `open`, or else `Lease` if `lease` is 0.
+    /// Returns `Nodes` as `open` does, and otherwise `Lease` if `lease` is 0.
     pub fn open_leased(nodes: u64, opening: Line64, lease: u64) -> Result<PlainLine, OpenError>
         ensures { let config : LineConfig = record {
           nodes = nodes;
@@ -91,7 +92,7 @@ impl PlainLine {
         })
     }
 
-    /// Opens a line by `config`: its nodes, opening bytes and lease.
+    /// Opens a line with the nodes, the opening bytes and the lease of `config`.
     pub fn with_config(config: LineConfig) -> Result<PlainLine, OpenError>
         ensures { MatchResult result (λ line. Agrees line (opened config)) (λ error.
             (error ≢ OpenError.Memory) × MayNotOpen config error) }
@@ -132,7 +133,8 @@ impl PlainLine {
         &self.turn.bytes
     }
 
-    /// Returns the number of turns left, with the holder's own: at least 1. `None` without a lease.
+    /// Returns the number of turns left, including the holder's own, which is at least 1. Returns `None` without a
+    /// lease.
     pub fn turns_left(&self, node: u64) -> Option<u64>
         requires { node_state self.now node ≡ PortState.Holding }
         ensures left { (s : OwnerState) → Agrees self.now s
@@ -174,7 +176,7 @@ impl PlainLine {
         as_enq(self.look(node))
     }
 
-    /// Returns `true` if the node's last request is clear: its next is not answered `Busy`.
+    /// Returns `true` if the node's last request is clear. Its next request is then not answered `Busy`.
     pub fn is_clear(&self, node: u64) -> bool
         requires first { 1 ≤ node }
         requires last { node ≤ self.now.nodes }
@@ -259,7 +261,7 @@ impl PlainLine {
         self.waiting.first().is_some_and(|w| w.node == node)
     }
 
-    /// Polls for `node`, in any state of it.
+    /// Polls for `node`, whatever the node's state.
     fn look(&mut self, node: u64) -> Poll
         ensures answer { result ≡ look_answer self.old node }
         ensures new { self.new ≡ looked result self.old }
@@ -275,7 +277,8 @@ impl PlainLine {
         Poll::Granted
     }
 
-    /// Ends the oldest request as served: one turn fewer is left. The last turn closes the line, as `shut` does.
+    /// Ends the oldest request as served, so that one turn fewer is left. The last turn closes the line, as `shut`
+    /// does.
     fn serve(&mut self, shut: bool)
         requires { 0 < length self.old.waiting }
         ensures { self.new ≡ turn_served shut self.old }
@@ -289,7 +292,7 @@ impl PlainLine {
         self.end_turn();
     }
 
-    /// Ends the oldest request, and passes the withdrawn ones behind it.
+    /// Ends the oldest request, and passes the withdrawn requests behind it.
     fn end_turn(&mut self)
         requires { 0 < length self.old.waiting }
         ensures { self.new ≡ turn_ended self.old }

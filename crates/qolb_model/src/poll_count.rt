@@ -1,4 +1,4 @@
-//! The number of a port's polls: ghost state, which only proofs read.
+//! The number of polls of a port. It is ghost state, which only proofs read.
 ghost use Rattle.std.specs.Prelude.{◌≡◌, ℕ, ◌+◌};
 ghost use Rattle.std.specs.Borrow.{ftrue};
 
@@ -6,8 +6,8 @@ use std::marker::Model;
 
 /// A ghost counter of polls. It has no bytes, and its methods do nothing at run time.
 ///
-/// Each port has one, which `poll` increments. So a contract over any line can bound a caller's polls: by its patience, and by exactly that
-/// if the answer is late.
+/// Each port has one counter, which `poll` increments. A contract over any line can therefore bound a caller's polls:
+/// the caller polls at most as often as its patience allows, and exactly that often if the answer is late.
 #[derive(Drop)]
 pub struct PollCount {
     /// The number of polls.
@@ -18,11 +18,11 @@ impl Model for PollCount {
     ghost also_owns = { λ _. ftrue };
 }
 
-// It owns nothing, so it can be sent.
+// The counter owns nothing, so it can be sent to another thread.
 unsafe impl Send for PollCount {}
 
 impl PollCount {
-    /// Returns a counter of no polls.
+    /// Returns a counter that has counted no polls.
     #[inline(always)]
     pub fn none() -> PollCount
         ensures { result.count ≡ 0 }
@@ -30,7 +30,7 @@ impl PollCount {
         PollCount {}
     }
 
-    /// Returns the counter with one poll more.
+    /// Returns the counter with one more poll.
     #[inline(always)]
     pub fn and_one(&self) -> PollCount
         ensures { result.count ≡ self.now.count + 1 }

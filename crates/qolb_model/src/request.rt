@@ -1,4 +1,4 @@
-/// A node's request: its `number`-th on the line, from 1.
+/// A request of a node: the node's `number`-th request on the line, counted from 1.
 #[derive(Clone, Copy, Debug, PartialEq, Eq)]
 pub struct Request {
     pub node: u64,

@@ -1,4 +1,5 @@
-//! The trait of a lock: its calls, the promise of each, and what is true of a port between calls.
+//! The trait `LineSync` of a shared line: its calls, the promise of each call, and what is true of a port between
+//! calls.
 ghost use Rattle.std.specs.Prelude.{◌≡◌, ◌≢◌, ◌↔◌, ℕ, true, false, All, Some, IsTrue, IfOk, IfErr, map};
 ghost use Rattle.qolb_model.specs.declared.config.LineConfig.{LineConfig};
 ghost use Rattle.qolb_model.specs.declared.answer.PortState.{PortState};
@@ -24,49 +25,53 @@ use std::alloc::Global;
 
 /// A FIFO queue lock that hands 64 bytes from holder to holder.
 ///
-/// Each node calls it through its own port. `enqolb` and `deqolb` are QOLB's (Scalable Coherent Interface, IEEE 1596; as QOSB by Goodman,
-/// Vernon and Woest 1989); the call that withdraws (after SCI's rollout), closing and leases are this project's. `K` says which bytes the
-/// line may have and which changes a turn may make. `enqolb`, `poll`, `withdraw`, `is_clear`, `deqolb`, `shut` and `meet` promise one
-/// record of `specs/Calls` each, about the views before and after the call, with a field for each answer. A node is a participant, not a
-/// queue node in the sense of MCS.
+/// Each node calls the lock through its own port. `enqolb` and `deqolb` are QOLB's (Scalable Coherent Interface, IEEE
+/// 1596; as QOSB by Goodman, Vernon and Woest 1989). The call that withdraws (after SCI's rollout), closing and leases
+/// are this project's own. `K` says which bytes the line may have and which changes a turn may make. `enqolb`, `poll`,
+/// `withdraw`, `is_clear`, `deqolb`, `shut` and `meet` each promise one record of `specs/Calls`, about the views before
+/// and after the call, with a field for each answer. A node is a participant, and not a queue node in the sense of MCS.
 ///
-/// A word step is one atomic operation on a word that nodes share, sequentially consistent in all locks. Calls are wait-free: one takes at
-/// most `max_steps` of them, whatever other nodes do meanwhile. A call that releases the line (`deqolb`, `shut`, or one that answers
-/// `Closed`) takes, beyond a constant, two to four steps for each withdrawn request that it passes, by the lock. All others have a constant
-/// bound. Only `finish` allocates. No call parks: parking takes a `Wait`, which no call has as an argument. A wrapper that keeps a `Wait`
-/// may park in its `poll`, which is then not wait-free. A call changes no port but its arguments.
+/// An atomic step is one operation on a word that nodes share. It is sequentially consistent in all kinds of lines.
+/// Calls are wait-free: a call takes at most `max_steps` atomic steps, whatever other nodes do meanwhile. A call that
+/// releases the line (`deqolb`, `shut`, or a call that answers `Closed`) takes, beyond a constant, two to four steps
+/// for each withdrawn request that it passes; the number depends on the kind of line. All other calls have a constant
+/// bound. Only `finish` allocates. No call parks, because parking takes a `Wait`, which no call has as an argument. A
+/// wrapper that keeps a `Wait` may park in its `poll`, which is then not wait-free. A call changes no port except its
+/// arguments.
 ///
-/// A request is at its turn once all before it have ended. To free a node is to promise that the release which passed the node's withdrawn
-/// request uses the node's word no more. The request is then clear, unless another node has still to use that word.
+/// A request is at its turn once all requests before it have ended. To free a node is to promise that the release that
+/// passed the node's withdrawn request uses the node's word no more. The request is then clear, unless another node
+/// still has to use that word.
 pub trait LineSync<K: Keep> {
-    /// A node's handle of the line.
+    /// The value by which a node calls the line.
     type Port;
 
-    /// The port's view: what it knows of its line and of its own requests.
+    /// The view of a port: what it knows of its line and of its own requests.
     ghost view: { Self.Port → View };
 
-    /// The line's bytes in the holder's port, with the mask of what this turn has written.
+    /// The line's bytes in the holder's port, with the mask of the bytes that this turn has written.
     ghost turn: { Self.Port → Write };
 
-    /// The port's counters of word steps and polls.
+    /// The port's counters of atomic steps and polls.
     ghost counters: { Self.Port → Counters };
 
-    /// The states that a port may show.
+    /// The states in which a port may be.
     ghost allowed_states: { PortState → Type 0 };
 
-    /// `call_steps line call before after n`: the call may take `n` word steps, by the port's views before and after it.
+    /// `call_steps line call before after n` says that the call may take `n` atomic steps, given the port's views
+    /// before and after it.
     ghost call_steps: { Self → Call → View → View → ℕ → Type 0 };
 
-    /// The maximum number of word steps of one call of a port, whatever other nodes do meanwhile.
+    /// The maximum number of atomic steps of one call of a port, whatever other nodes do meanwhile.
     ghost max_steps: { Self → ℕ };
 
-    /// The port was opened with the line.
+    /// The port was opened together with the line.
     ghost belongs: { Self → Self.Port → Type 0 };
 
-    /// The line's label.
+    /// The label of the line.
     ghost label_of: { Self → ℕ };
 
-    /// The line's config.
+    /// The configuration of the line.
     ghost config_of: { Self → LineConfig };
 
     /// Returns the label that the line was opened with.
@@ -81,31 +86,32 @@ pub trait LineSync<K: Keep> {
     fn node(port: &Self::Port) -> u64
         ensures { result ≡ (view port.now).node };
 
-    /// Returns the state after the port's last call, `Idle` before the first. Reads no shared word.
+    /// Returns the state after the port's last call, or `Idle` before the first call. Reads no shared word.
     fn state(port: &Self::Port) -> PortState
         ensures state { result ≡ (view port.now).state }
         ensures allowed { allowed_states result };
 
-    /// Returns `true` if the port has the line's label. Two lines may have one label, so this is weaker than `belongs`. Does not say who
-    /// holds.
+    /// Returns `true` if the port has the line's label. Two lines may have the same label, so this is weaker than
+    /// `belongs`. It does not say which node holds the line.
     fn owns(&self, port: &Self::Port) -> bool
         ensures { IsTrue result ↔ ((view port.now).label ≡ label_of self.now) };
 
-    /// Returns the line's bytes as the holder sees them.
+    /// Returns the line's bytes, as the holder sees them.
     fn bytes(port: &Self::Port) -> &Line64
         requires { (view port.now).state ≡ PortState.Holding }
         ensures bytes { result.now ≡ (turn port.now).bytes }
         ensures turn { IsTurn (view port.now) (turn port.now) };
 
-    /// Returns the number of turns left, counting the current one: at least 1. An end as served uses up a turn. `None` if the line has no lease
-    /// (a limit on the number of its turns).
+    /// Returns the number of turns left, including the current one, which is at least 1. Each end as served uses up a
+    /// turn. Returns `None` if the line has no lease, which is a limit on the number of its turns.
     fn turns_left(&self, port: &Self::Port) -> Option<u64>
         requires belongs { belongs self.now port.now }
         requires state { (view port.now).state ≡ PortState.Holding }
         ensures left { result ≡ turns_left (config_of self.now).lease (view port.now).ends }
         ensures not_zero { result ≢ Some 0 };
 
-    /// Writes those of `bytes` that `mask` selects, in the holder's port. Other nodes see them after the release. No word step.
+    /// Writes those of `bytes` that `mask` selects into the holder's port. Other nodes see them after the release.
+    /// Takes no atomic step.
     fn write(port: &mut Self::Port, mask: Mask, bytes: &Line64)
         requires { (view port.old).state ≡ PortState.Holding }
         ensures view { view port.new ≡ view port.old }
@@ -113,10 +119,11 @@ pub trait LineSync<K: Keep> {
         ensures counters { counters port.new ≡ counters port.old }
         ensures belongs { (line : Self) → belongs line port.old → belongs line port.new };
 
-    /// Requests the line, and answers at once: granted, queued or closed. `Busy`: no request was made, as the node's last is not clear
-    /// (`is_clear`).
+    /// Requests the line, and answers at once whether the request is granted, is queued, or found the line closed.
+    /// `Busy` means that the call made no request, because the node's last one is not clear (`is_clear`).
     ///
-    /// `Closed`: the request was at its turn on a closed line, and this call has released the line for the next node.
+    /// `Closed` means that the request was at its turn on a closed line, and that this call has released the line to
+    /// the next node.
     fn enqolb(&self, port: &mut Self::Port) -> Enq
         requires belongs { belongs self.now port.old }
         requires state { IsTrue (may_ask (view port.old).state) }
@@ -126,9 +133,11 @@ pub trait LineSync<K: Keep> {
         ensures counts { Counts (call_steps self.now) (max_steps self.now) (call.asks result)
             (view port.old) (view port.new) (counters port.old) (counters port.new) };
 
-    /// Polls the request. If it is at its turn and the line is not closed, the port takes the line and holds it.
+    /// Polls the request. If the request is at its turn and the line is not closed, the port takes the line and holds
+    /// it.
     ///
-    /// `Closed`: the request was at its turn on a closed line, and this call has released the line for the next node.
+    /// `Closed` means that the request was at its turn on a closed line, and that this call has released the line to
+    /// the next node.
     fn poll(&self, port: &mut Self::Port) -> Poll
         requires belongs { belongs self.now port.old }
         requires state { (view port.old).state ≡ PortState.Queued }
@@ -137,10 +146,12 @@ pub trait LineSync<K: Keep> {
         ensures counts { Counts (call_steps self.now) (max_steps self.now) (call.polls result)
             (view port.old) (view port.new) (counters port.old) (counters port.new) };
 
-    /// Withdraws the request. If it is at its turn and the line is not closed, the port takes the line and holds it instead.
+    /// Withdraws the request. If the request is at its turn and the line is not closed, the port takes the line and
+    /// holds it instead.
     ///
-    /// `Closed`: the request was at its turn on a closed line, and this call has released the line for the next node. A withdrawn request
-    /// is not clear before a release has passed it and freed its node; it may become clear later still.
+    /// `Closed` means that the request was at its turn on a closed line, and that this call has released the line to
+    /// the next node. A withdrawn request is not clear before a release has passed it and freed its node, and may
+    /// become clear still later.
     fn withdraw(&self, port: &mut Self::Port) -> Out
         requires belongs { belongs self.now port.old }
         requires state { (view port.old).state ≡ PortState.Queued }
@@ -150,10 +161,11 @@ pub trait LineSync<K: Keep> {
         ensures counts { Counts (call_steps self.now) (max_steps self.now) (call.withdraws result)
             (view port.old) (view port.new) (counters port.old) (counters port.new) };
 
-    /// Returns `true` if the port's last request is clear, so that the next is not answered `Busy`. Makes no request.
+    /// Returns `true` if the port's last request is clear, so that its next request is not answered `Busy`. Makes no
+    /// request.
     ///
-    /// A request is clear once no other node will use, because of it, the word that belongs to its node. At most one word step; the port's
-    /// view records what the look found.
+    /// A request is clear once no other node will use, because of it, the word that belongs to its node. The call takes
+    /// at most one atomic step, and the port's view records what it found.
     fn is_clear(&self, port: &mut Self::Port) -> bool
         requires belongs { belongs self.now port.old }
         requires state { IsTrue (may_ask (view port.old).state) }
@@ -163,8 +175,8 @@ pub trait LineSync<K: Keep> {
             (call.looks_if_clear result) (view port.old) (view port.new) (counters port.old)
             (counters port.new) };
 
-    /// Ends the holder's request as served and releases the line. The turn's change must be one that `K` allows. If this turn is the
-    /// lease's last, the line closes, as by `shut`.
+    /// Ends the holder's request as served, and releases the line. `K` must allow the change that the turn made. If
+    /// this turn is the last of the lease, the line closes, as by `shut`.
     fn deqolb(&self, port: &mut Self::Port)
         requires belongs { belongs self.now port.old }
         requires state { (view port.old).state ≡ PortState.Holding }
@@ -174,8 +186,8 @@ pub trait LineSync<K: Keep> {
         ensures counts { Counts (call_steps self.now) (max_steps self.now) call.releases
             (view port.old) (view port.new) (counters port.old) (counters port.new) };
 
-    /// Ends the holder's request as served and releases the line closed: no request behind it is served, not even one that is already
-    /// queued.
+    /// Ends the holder's request as served, and releases the line closed. No later request is served, not even one that
+    /// is already queued.
     fn shut(&self, port: &mut Self::Port)
         requires belongs { belongs self.now port.old }
         requires state { (view port.old).state ≡ PortState.Holding }
@@ -185,9 +197,10 @@ pub trait LineSync<K: Keep> {
         ensures counts { Counts (call_steps self.now) (max_steps self.now) call.releases
             (view port.old) (view port.new) (counters port.old) (counters port.new) };
 
-    /// Merges the views of two ports, and proves that at most one of them holds. For proofs: it returns nothing.
+    /// Merges the views of two ports, and proves that at most one of them holds. The call is for proofs, and returns
+    /// nothing.
     ///
-    /// It costs one load, which `counters` does not count: at that load the proof opens the invariant.
+    /// It costs one load, which `counters` does not count. At that load the proof opens the invariant.
     fn meet(&self, a: &mut Self::Port, b: &mut Self::Port)
         requires belongs_a { belongs self.now a.old }
         requires belongs_b { belongs self.now b.old }
@@ -199,11 +212,11 @@ pub trait LineSync<K: Keep> {
         ensures counters_a { counters a.new ≡ counters a.old }
         ensures counters_b { counters b.new ≡ counters b.old };
 
-    /// Finishes the line and returns its bytes, given the ports of all its nodes in any order.
+    /// Finishes the line and returns its bytes. The caller hands in the ports of all nodes, in any order.
     ///
-    /// Refused if a node waits or holds the line, if any node's port is missing, if a port has another label, or if an allocation fails. A
-    /// port of another line with this line's label must not be given. A refusal returns its cause, the line, and the ports in the order
-    /// given.
+    /// The call refuses if a node waits or holds the line, if the port of any node is missing, if a port has another
+    /// label, or if an allocation fails. The caller must not hand in a port of another line that has this line's label.
+    /// A refusal returns its cause, the line, and the ports in the order in which they were handed in.
     fn finish(
         self,
         alloc: Global,

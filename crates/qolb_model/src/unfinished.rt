@@ -1,14 +1,14 @@
-//! A line that could not be finished, and the cause.
+//! What `finish` returns if it could not finish a line: the line, its ports, and the cause.
 ghost use Rattle.std.specs.Prelude.{◌≡◌, ℕ};
 
-/// The cause for which a line could not be finished.
+/// Why a line could not be finished.
 #[derive(Clone, Copy, Debug, PartialEq, Eq)]
 pub enum FinishError {
     /// The allocator returned no memory.
     Memory,
-    /// This node has an open request, or holds the line: the least such node.
+    /// This node has an open request, or holds the line. It is the smallest such node.
     Unquiet(u64),
-    /// This node has no port here: the least such node; 0 if a port is of another line.
+    /// This node has no port among those handed in. It is the smallest such node, or 0 if a port is of another line.
     Missing(u64),
 }
 
@@ -27,7 +27,7 @@ impl FinishError {
     }
 }
 
-/// The line and its ports, returned by a refused `finish` with the cause.
+/// The line and its ports, which a refused `finish` returns with the cause.
 #[derive(Drop)]
 pub struct Unfinished<L, P> {
     pub why: FinishError,

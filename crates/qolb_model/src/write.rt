@@ -1,6 +1,6 @@
 use line_lanes::{Line64, Mask};
 
-/// A masked write of a line: the bytes of the places in the mask.
+/// A masked write of a line: bytes, and the mask of the places that they are written to.
 #[derive(Clone, Copy, Debug, PartialEq, Eq)]
 pub struct Write {
     pub mask: Mask,

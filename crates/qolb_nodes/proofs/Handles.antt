@@ -1,4 +1,4 @@
--- The machine value of a handle, and the two cases of what it owns. Assumes `Logic`.
+-- The machine value of a handle, and the two cases of what a handle owns. The proofs assume `Logic`.
 use Rattle.std.proofs.Common.{◌≡◌, ℕ, List, [], ◌∷◌, ◌++◌, refl, ap, ◌∙◌}
 use seplogic.Ra.Ura.{Ura}
 use mir.Raw.{raw as bare}

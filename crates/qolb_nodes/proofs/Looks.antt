@@ -1,4 +1,4 @@
--- One look is a wait of one look.
+-- One poll is a wait of one poll.
 use Rattle.std.proofs.Common.{arith}
 use Rattle.qolb_nodes.specs.declared.answer.Answer.{Answer}
 use Rattle.qolb_nodes.specs.declared.any_node.AnyNode.{AnyNode}

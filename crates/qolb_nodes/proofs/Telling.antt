@@ -1,4 +1,4 @@
--- From a node's call to what is told of it.
+-- What a node's call did is what its export tells C.
 use Rattle.std.proofs.Common.{◌≡◌, ℕ, refl, sym, ap, ◌∙◌, subst}
 use Rattle.std.specs.Prelude.{Option, Some, None}
 use Rattle.qolb_nodes.specs.declared.answer.Answer.{Answer}

@@ -1,4 +1,4 @@
--- Closing a node. (Of this project.)
+-- What closing a node promises. The definitions are this project's own.
 use Rattle.std.specs.Prelude.{◌≡◌, true, false, Option, Some, None}
 use Rattle.qolb_model.specs.PortStates.{may_ask}
 use Rattle.qolb_nodes.specs.declared.answer.Answer.{Answer}
@@ -6,7 +6,7 @@ use Rattle.qolb_nodes.specs.declared.answer.Answer.TheVariants as answer
 use Rattle.qolb_nodes.specs.declared.any_node.AnyNode.{AnyNode}
 use Rattle.qolb_nodes.specs.Calls.{state_of}
 
--- a node that neither waits nor holds is freed; any other stays; an empty handle stays empty
+-- a node that neither waits nor holds the line is freed, any other node stays, and an empty handle stays empty
 abbrev pub HasClosed : Option AnyNode → Option AnyNode → Answer → Type 0
 HasClosed None now a = (now ≡ None) × (a ≡ answer.Misuse)
 HasClosed (Some was) now a =

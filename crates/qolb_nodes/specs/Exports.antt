@@ -1,4 +1,5 @@
--- The promise of each call from C for its handle: what it does with the node, if there is one. (Of this project.)
+-- The promise of each export for its handle: what it does with the node, if there is one. The definitions are this
+-- project's own.
 use Rattle.std.specs.Prelude.{◌≡◌, ℕ, true, false, Option, Some, None}
 use Rattle.qolb_model.specs.PortStates.{may_ask}
 use Rattle.qolb_nodes.specs.declared.answer.Answer.{Answer}
@@ -8,17 +9,18 @@ use Rattle.qolb_nodes.specs.Calls.{view_of, state_of, TellsTurns, TellsWord}
 use Rattle.qolb_nodes.specs.Waits.{nowhere, went_to_of}
 use Rattle.qolb_nodes.specs.Numbers.{number_of, state_number}
 
--- a call of an empty handle is misuse, and the handle stays empty; else its node is called, and the number of the answer is returned
+-- a call of an empty handle is misuse, and the handle stays empty; otherwise its node is called, and the number of the
+-- answer is returned
 abbrev pub Calls : (AnyNode → AnyNode → Answer → Type 0) → Option AnyNode → Option AnyNode → ℕ → Type 0
 Calls Does None now n = (now ≡ None) × (n ≡ number_of answer.Misuse)
 Calls Does (Some was) now n = (node : AnyNode) × (a : Answer) × (now ≡ Some node) × (n ≡ number_of a) × Does was node a
 
--- `close`: a node that neither waits nor holds is freed; any other stays
+-- what `close` promises: a node that neither waits nor holds the line is freed, and any other node stays
 abbrev pub Closes : Option AnyNode → Option AnyNode → ℕ → Type 0
 Closes None now n = (now ≡ None) × (n ≡ number_of answer.Misuse)
 Closes (Some was) now n = (may_ask (state_of was) ≡ true → (now ≡ None) × (n ≡ number_of answer.Done)) × (may_ask (state_of was) ≡ false → (now ≡ Some was) × (n ≡ number_of answer.Misuse))
 
--- `number`, `label` and `state`: of an empty handle 0; nothing changes
+-- what `number`, `label` and `state` return, which is 0 for an empty handle; nothing changes
 abbrev pub node_number : Option AnyNode → ℕ
 node_number None = 0
 node_number (Some node) = (view_of node).node
@@ -31,17 +33,17 @@ abbrev pub state_told : Option AnyNode → ℕ
 state_told None = 0
 state_told (Some node) = state_number (state_of node)
 
--- `turns_left`: of an empty handle 0; nothing changes
+-- what `turns_left` returns, which is 0 for an empty handle; nothing changes
 abbrev pub TurnsLeft : Option AnyNode → ℕ → Type 0
 TurnsLeft None n = n ≡ 0
 TurnsLeft (Some node) n = TellsTurns node n
 
--- `wait_word`: of an empty handle no word; nothing changes
+-- what `wait_word` returns, which is no word for an empty handle; nothing changes
 abbrev pub WaitsAt : Option AnyNode → ℕ → Type 0
 WaitsAt None n = n ≡ nowhere
 WaitsAt (Some node) n = TellsWord node n
 
--- `went_to`: the word that the node noted, and of an empty handle no word; nothing changes
+-- what `went_to` returns: the word that the node noted, and no word for an empty handle; nothing changes
 abbrev pub WentTo : Option AnyNode → ℕ → Type 0
 WentTo None n = n ≡ nowhere
 WentTo (Some node) n = went_to_of node ≡ Some n

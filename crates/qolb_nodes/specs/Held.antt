@@ -1,4 +1,5 @@
--- The memory that a handle owns: none if it is null, else that of a box of its node. (Of this project.)
+-- The memory that a handle owns: none if it is null, and otherwise the memory of a box with its node. The definitions
+-- are this project's own.
 use base.Fml.{Fml, ftrue, ffalse}
 use base.Stored.{Coded}
 use denote.RawPtr.{Ptr, block_ptr, null_ptr}
@@ -13,7 +14,7 @@ use Rattle.qolb_nodes.specs.contracts.any_node.AnyNode.{the_row}
 abbrev pub held_coded : Coded (Option the_row.Denot)
 held_coded = coded_option the_row.coded
 
--- the right to free a block of the C library's heap, which is the same by any handle of that heap
+-- the right to free a block of the C library's heap, which is the same through any handle of that heap
 abbrev pub may_free : Ty → Ptr → Fml
 may_free = ghosts.dealloc_token (record { memory = record { seal = tt } })
 

@@ -1,4 +1,4 @@
--- A handle that lends its node. (Of this project.)
+-- A handle that lends its node to a call. The definitions are this project's own.
 use Rattle.std.specs.Prelude.{Option, Some}
 use Rattle.std.specs.Borrow.{Fml, MutBor, LendsIf}
 use Rattle.qolb_nodes.specs.contracts.any_node.AnyNode as node
@@ -10,6 +10,6 @@ use Rattle.qolb_nodes.specs.declared.handle.Handle.{Handle}
 abbrev pub with_node : Handle → AnyNode → Handle
 with_node h node = record h { held = Some node }
 
--- the handle ends with the last value of the node that it lent; it is unchanged if it has none
+-- the handle ends with the last value of the node that it lent, or is unchanged if it has no node
 abbrev pub LendsNode : MutBor Handle → Option (MutBor AnyNode) → Fml
 LendsNode h lent = LendsIf handle.the_row node.the_row h lent (with_node h.now) h.now

@@ -1,4 +1,5 @@
--- The promise of each call of a node of one kind of line, by the node's port. `was` and `now` are the node before and after. (Of this project.)
+-- The promise of each call of a node of one kind of line, by the node's port. `was` and `now` are the node before and
+-- after the call. The definitions are this project's own.
 use Rattle.std.specs.Prelude.{◌≡◌, ℕ, ◌+◌, ◌<◌, List, Bool, true}
 use Rattle.line_lanes.specs.declared.line.Line64.{Line64}
 use Rattle.qolb_model.specs.declared.answer.Enq.{Enq}
@@ -40,7 +41,7 @@ module _ {L : Type 0} where
   abbrev pub MayAsk : NodeOf L PortModel → Type 0
   MayAsk node = may_ask node.port.view.state ≡ true
 
-  -- the node's request is still to be linked
+  -- the node's request must still be linked
   abbrev pub IsLinking : NodeOf L PortModel → Type 0
   IsLinking node = node.port.view.state ≡ state.Linking
 
@@ -64,11 +65,11 @@ module _ {L : Type 0} where
   abbrev pub turns_of : NodeOf L PortModel → ℕ
   turns_of node = turns_number (turns_left node.port.view.config.lease node.port.view.ends)
 
-  -- the word on which the node waits, by its discipline's
+  -- the word on which the node waits, as its discipline says
   abbrev pub word_of : (ℕ → ℕ → ℕ → ℕ) → NodeOf L PortModel → ℕ
   word_of wait_word node = wait_word node.port.view.config.nodes node.port.view.node node.port.token
 
-  -- the word of the node's turn, as any port has it that sees the turn
+  -- the word of the node's turn, as any port knows it that sees the turn
   abbrev pub IsTurnWord : (View → ℕ) → NodeOf L PortModel → ℕ → Type 0
   IsTurnWord wake_word node word = (u : View) → SeesTurn u node.port.view → word ≡ wake_word u
 
@@ -76,13 +77,14 @@ module _ {L : Type 0} where
   abbrev pub NamesNext : (View → ℕ) → NodeOf L PortModel → Type 0
   NamesNext wake_word node = Names (wake_word node.port.view) node.port.went_to
 
-  -- `wait`: it polls as often as it may while its request waits. If the line is closed, the node has forwarded it, and has noted the next word.
+  -- What `wait` promises: it polls as often as it may while its request waits. If the line is closed, the node has
+  -- forwarded it, and has noted the next word.
   abbrev pub Waits : (View → ℕ) → ℕ → NodeOf L PortModel → NodeOf L PortModel → Answer → Type 0
   Waits wake_word polls was now a =
       (made : Poll) × (a ≡ poll_told made) × line.Polls anything was.port.view now.port.view now.port.turn made
       × PollsWithin polls was.port.counters.poll_count now.port.counters.poll_count made × (made ≡ poll.Closed → NamesNext wake_word now)
 
-  -- `write` and `write_lane`
+  -- what `write` and `write_lane` promise
   abbrev pub Writes : ℕ → List ℕ → NodeOf L PortModel → NodeOf L PortModel → Answer → Type 0
   Writes mask bytes was now a = (a ≡ answer.Done) × (now.port.turn ≡ turn_after was.port.turn mask bytes)
 
@@ -94,34 +96,35 @@ abbrev pub Node : {K Q O W N : Type 0} → discipline.Ghosts Q K O → wake.Ghos
 Node {K} {Q} {O} {W} {N} q w = NodeOf (Line K Q W O N q w) PortModel
 
 module _ {K Q O W N : Type 0} {q : discipline.Ghosts Q K O} {w : wake.Ghosts W N} where
-  -- the node made one call of its line, which did not poll, and took at most three word steps more than `max_steps` of its line's nodes
+  -- the node made one call of its line, which did not poll, and took at most three atomic steps more than `max_steps`
+  -- of its line's nodes
   abbrev pub CallsOnce : (ℕ → ℕ) → Node q w → Node q w → Type 0
   CallsOnce max_steps was now = IsOneCall (max_steps was.line.table.shared.key.config.nodes + 3) was.port.counters now.port.counters
 
-  -- `enqolb`: if the line is closed, the node has forwarded it, and has noted the next word
+  -- what `enqolb` promises: if the line is closed, the node has forwarded it, and has noted the next word
   abbrev pub Enqolbs : spec.Ghosts Q O → Node q w → Node q w → Answer → Type 0
   Enqolbs d was now a =
       (made : Enq) × (a ≡ enq_told made) × line.Enqueues anything was.port.view now.port.view now.port.turn made
       × CallsOnce d.max_steps was now × (made ≡ enq.Closed → NamesNext d.wake_word now)
 
-  -- `withdraw`
+  -- what `withdraw` promises
   abbrev pub Withdraws : spec.Ghosts Q O → Node q w → Node q w → Answer → Type 0
   Withdraws d was now a =
       (made : Out) × (a ≡ out_told made) × line.Withdraws anything was.port.view now.port.view now.port.turn made
       × CallsOnce d.max_steps was now × (made ≡ out.Closed → NamesNext d.wake_word now)
 
-  -- `is_clear`
+  -- what `is_clear` promises
   abbrev pub LooksIfClear : spec.Ghosts Q O → Node q w → Node q w → Answer → Type 0
   LooksIfClear d was now a =
       (clear : Bool) × (a ≡ clear_told clear) × line.LooksIfClear anything was.port.view now.port.view clear × CallsOnce d.max_steps was now
 
-  -- `release`: the node has noted the next holder's word
+  -- what `release` promises: the node has noted the next holder's word
   abbrev pub Releases : spec.Ghosts Q O → Bool → Node q w → Node q w → Answer → Type 0
   Releases d shut was now a =
       (a ≡ answer.Done) × line.Releases anything shut was.port.view now.port.view was.port.turn
       × CallsOnce d.max_steps was now × NamesNext d.wake_word now
 
-  -- `prepend` and `link`, of a link line
+  -- what `prepend` and `link` promise, on a link line
   abbrev pub Prepends : Node q w → Node q w → Answer → Type 0
   Prepends was now a =
       (made : Prep) × (a ≡ prep_told made) × line.Prepends anything was.port.view now.port.view now.port.turn made

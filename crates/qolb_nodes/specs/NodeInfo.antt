@@ -1,4 +1,5 @@
--- What a node of any kind of line is and promises, as definitions see it: the one match over the kinds, and their list. (Of this project.)
+-- What a node of any kind of line is and promises, as the definitions see it. This file has the only match over the
+-- kinds, and their list. The definitions are this project's own.
 use Rattle.std.specs.Prelude.{ℕ, List, [], ◌∷◌}
 use Rattle.qolb_model.specs.declared.view.View.{View}
 use Rattle.line_generic.specs.declared.discipline.Discipline as discipline
@@ -15,8 +16,8 @@ use Rattle.qolb_nodes.specs.declared.any_node.AnyNode.{AnyNode}
 use Rattle.qolb_nodes.specs.declared.any_node.AnyNode.TheVariants as any
 use Rattle.qolb_nodes.specs.NodeCalls.{Node}
 
--- What a node is, whatever its discipline: the kind of its line, how many nodes that has, the node's port, the node with another port, and
--- what its discipline says of words and word steps.
+-- What a node is, whatever its discipline: the kind of its line, how many nodes that line has, the node's port, the
+-- node with another port, and what its discipline says of words and atomic steps.
 pub record NodeInfo : Type 0 where
   pub kind : Lock
   pub nodes : ℕ

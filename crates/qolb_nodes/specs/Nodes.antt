@@ -1,4 +1,4 @@
--- A node as its callers see it, for any kind of line. (Of this project.)
+-- A node as its callers see it, for any kind of line. The definitions are this project's own.
 use Rattle.std.specs.Prelude.{◌≡◌, ℕ, ◌+◌, ◌*◌, ◌%◌, ◌^◌, ◌<◌, ◌≤◌, List, Option, Some, None}
 use Rattle.line_lanes.specs.Lane.{lane_of, with_lane_of}
 use Rattle.line_lanes.specs.Mask.{placed_mask}
@@ -13,21 +13,22 @@ pub record NodeOf (Line Port : Type 0) : Type 0 where
   pub line : Line
   pub port : Port
 
--- the law of these lines: any bytes are good, and a turn may make any change
+-- the data invariant of these lines: any bytes are good, and a turn may make any change
 abbrev pub any_bytes : List ℕ → Type 0
 any_bytes bytes = Unit {0}
 
 abbrev pub anything : List ℕ → List ℕ → Type 0
 anything old new = Unit {0}
 
--- the counters of a port after one call of the line that does not poll: it took at most `max` word steps, and they are counted
+-- the counters of a port after one call of the line that does not poll: the call took at most `max` atomic steps, and
+-- they are counted
 pub record IsOneCall (max : ℕ) (old new : Counters) : Type 0 where
   pub bound : new.steps ≤ max
   pub total_steps : new.total_steps ≡ old.total_steps + new.steps
   pub poll_count : new.poll_count ≡ old.poll_count
 
--- a call that may poll `polls` times: by its port's counts before and after, it polled at least once and at most that often, and exactly
--- that often if its request still waits
+-- A call that may poll `polls` times. By its port's counts before and after, it polled at least once and at most that
+-- often, and exactly that often if its request still waits.
 pub record PollsWithin (polls was now : ℕ) (answer : Poll) : Type 0 where
   pub some : was < now
   pub at_most : now ≤ was + polls
@@ -40,7 +41,7 @@ with_lane turn k value = turn_after turn (placed_mask (8 * k) 8) (with_lane_of t
 abbrev pub with_added : Write → ℕ → ℕ → Write
 with_added turn k by = with_lane turn k ((lane_of turn.bytes.bytes k + by) % 2 ^ 64)
 
--- C's number of the turns left of a lease; 2^64 - 1 for no lease
+-- C's number of the turns left of a lease, or 2^64 - 1 if there is no lease
 abbrev pub turns_number : Option ℕ → ℕ
 turns_number None = 0xffff_ffff_ffff_ffff
 turns_number (Some turns) = turns

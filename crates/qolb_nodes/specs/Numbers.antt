@@ -1,4 +1,4 @@
--- C's numbers. (Of this project.)
+-- The numbers of C's answers. The definitions are this project's own.
 use Rattle.std.specs.Prelude.{ℕ}
 use Rattle.qolb_model.specs.declared.answer.PortState.{PortState}
 use Rattle.qolb_model.specs.declared.answer.PortState.TheVariants as state
@@ -23,7 +23,7 @@ number_of answer.BadKind = 12
 number_of answer.TooFew = 13
 number_of answer.Occupied = 14
 
--- the number of a node's state; a handle without a node has 0
+-- the number of a node's state; a handle without a node has the number 0
 abbrev pub state_number : PortState → ℕ
 state_number state.Idle = 1
 state_number state.Linking = 2

@@ -1,4 +1,4 @@
--- The results of opening a line for C, and the causes of a refusal. (Of this project.)
+-- The results of opening a line for C, and the causes of a refusal. The definitions are this project's own.
 use Rattle.std.specs.Prelude.{◌≡◌, ◌≢◌, ◌⊎◌, ℕ, ◌<◌, ◌≤◌, ◌==◌, if◌then◌else◌, List, [], ◌∷◌, ◌++◌, map, drop, length, slice_get, Option, Some, None}
 use Rattle.std.specs.List.{All}
 use Rattle.qolb_model.specs.declared.answer.OpenError.{OpenError}
@@ -41,14 +41,14 @@ pub record AreNewNodes (kind : Lock) (label : ℕ) (config : LineConfig) (nodes 
 abbrev pub held_by : List Handle → List (Option AnyNode)
 held_by handles = map (λ (h : Handle). h.held) handles
 
--- the first `many` handles are empty; one of them has a node
+-- the first `many` handles are empty, or one of them has a node
 abbrev pub AreEmpty : ℕ → List Handle → Type 0
 AreEmpty many handles = (k : ℕ) → k < many → slice_get (held_by handles) k ≡ Some None
 
 abbrev pub HasNode : ℕ → List Handle → Type 0
 HasNode many handles = (k : ℕ) × (k < many) × ((node : AnyNode) × (slice_get (held_by handles) k ≡ Some (Some node)))
 
--- a line is opened: the first handles, which were empty, have its new nodes, and the others are unchanged
+-- a line is opened: the first handles, which were empty, now have its new nodes, and the other handles are unchanged
 pub record AreOpened (kind label : ℕ) (config : LineConfig) (old new : List Handle) : Type 0 where
   pub lines : Lock
   pub of_number : lines_at kind ≡ Some lines
@@ -57,7 +57,7 @@ pub record AreOpened (kind label : ℕ) (config : LineConfig) (old new : List Ha
   pub were_empty : AreEmpty config.nodes old
   pub filled : held_by new ≡ map (λ (node : AnyNode). Some node) nodes ++ drop config.nodes (held_by old)
 
--- the cause for which a line is not opened: the first that applies
+-- why a line is not opened: the first cause that applies
 abbrev pub WhyRefused : (kind : ℕ) → LineConfig → List Handle → Answer → Type 0
 WhyRefused kind config handles answer.BadKind = ¬ IsKind kind
 WhyRefused kind config handles answer.BadNodes = IsKind kind × ((config.nodes < 1) ⊎ (MAX_NODES < config.nodes))
@@ -67,7 +67,7 @@ WhyRefused kind config handles answer.Occupied = IsKind kind × MayOpen config �
 WhyRefused kind config handles answer.NoMemory = IsKind kind × MayOpen config × (config.nodes ≤ length handles) × AreEmpty config.nodes handles
 WhyRefused kind config handles _ = ⊥
 
--- the promise of an opening: a line is opened, or the handles are unchanged, and the answer is the cause
+-- what opening promises: either a line is opened, or the handles are unchanged and the answer is the cause
 pub record Opens (kind label : ℕ) (config : LineConfig) (old new : List Handle) (a : Answer) : Type 0 where
   pub opened : a ≡ answer.Done → AreOpened kind label config old new
   pub unchanged : a ≢ answer.Done → held_by new ≡ held_by old
@@ -79,6 +79,6 @@ refused_by error.Memory = answer.NoMemory
 refused_by error.Nodes = answer.BadNodes
 refused_by error.Lease = answer.BadLease
 
--- the config of a line from C: a lease of 2^64 - 1 is none
+-- the configuration of a line from C, in which a lease of 2^64 - 1 means no lease
 abbrev pub config_by : (nodes lease : ℕ) → List ℕ → LineConfig
 config_by nodes lease bytes = record { nodes = nodes; opening = record { bytes = bytes }; lease = if lease == 0xffff_ffff_ffff_ffff then None else Some lease }

@@ -1,18 +1,18 @@
--- The words on which the nodes of a line wait, as numbers for C. (Of this project.)
+-- The words on which the nodes of a line wait, as numbers for C. The definitions are this project's own.
 use Rattle.std.specs.Prelude.{ℕ, Option}
 use Rattle.qolb_model.specs.declared.view.View.{View}
 use Rattle.qolb_nodes.specs.declared.any_node.AnyNode.{AnyNode}
 use Rattle.qolb_nodes.specs.NodeInfo.{info_of}
 
--- a number that is no word of any line: no node waits there
+-- a number that is not a word of any line, so no node waits there
 abbrev pub nowhere : ℕ
 nowhere = 0xffff_ffff_ffff_ffff
 
--- the word on which the node waits, by the number of its line's nodes, its number, and its token
+-- the word on which the node waits, by the number of nodes of its line, its own number, and its token
 abbrev pub wait_word_of : AnyNode → ℕ
 wait_word_of node = (info_of node).wait_word (info_of node).port.view.config.nodes (info_of node).port.view.node (info_of node).port.token
 
--- the word on which the node at its turn waits, on a line of the node's kind, by a port's view
+-- the word on which the node at its turn waits, on a line of the node's kind, according to a port's view
 abbrev pub wake_word_of : AnyNode → View → ℕ
 wake_word_of node = (info_of node).wake_word
 

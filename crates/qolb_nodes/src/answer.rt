@@ -1,4 +1,4 @@
-//! The answers of calls.
+//! The answers of calls, as C gets them.
 ghost use Rattle.std.specs.Prelude.{◌≡◌};
 ghost use Rattle.qolb_nodes.specs.Answers.{enq_told, prep_told, poll_told, out_told, clear_told};
 
@@ -11,31 +11,31 @@ pub enum Answer {
     Done = 0,
     /// The node holds the line.
     Granted = 1,
-    /// The request waits behind another.
+    /// The request waits behind another request.
     Queued = 2,
     /// The request still waits.
     Waiting = 3,
-    /// The request is behind another, and not yet linked to its predecessor's.
+    /// The request is behind another request, and not linked to its predecessor's yet.
     Linking = 4,
     /// The request is withdrawn.
     Withdrawn = 5,
     /// The line is closed, and the request has ended.
     Closed = 6,
-    /// No request was made: the node's last one is not clear yet.
+    /// The node made no request, because its last one is not clear yet.
     Busy = 7,
-    /// The handle or its node does not allow the call. Nothing changed.
+    /// The state of the handle or of its node does not allow the call. Nothing changed.
     Misuse = 8,
-    /// No line was opened: the allocator returned no memory.
+    /// No line was opened, because the allocator returned no memory.
     NoMemory = 9,
-    /// No line was opened: the number of nodes is not 1 to 200.
+    /// No line was opened, because the number of nodes is not 1 to 200.
     BadNodes = 10,
-    /// No line was opened: the lease is 0 turns.
+    /// No line was opened, because the lease is 0 turns.
     BadLease = 11,
-    /// No line was opened: there is no such kind.
+    /// No line was opened, because there is no such kind.
     BadKind = 12,
-    /// No line was opened: there are fewer handles than nodes.
+    /// No line was opened, because there are fewer handles than nodes.
     TooFew = 13,
-    /// No line was opened: one of the handles has a node.
+    /// No line was opened, because one of the handles has a node.
     Occupied = 14,
 }
 

@@ -39,7 +39,7 @@ pub enum AnyNode {
     Ticket(Node<Ticket>),
 }
 
-/// Makes a call of the node, for each kind.
+/// Makes a call of the node, whatever the kind of its line.
 macro_rules! of_any {
     ($any:expr, $node:ident => $done:expr) => {
         match $any {
@@ -82,7 +82,7 @@ impl AnyNode {
         self.wait(1)
     }
 
-    /// Polls at most `polls` times, with a pause between two.
+    /// Polls at most `polls` times, with a pause between two polls.
     #[inline(always)]
     pub fn wait(&mut self, polls: u64) -> Answer
         ensures { Waits polls self.old self.new result }
@@ -90,7 +90,7 @@ impl AnyNode {
         of_any!(self, node => node.wait(polls))
     }
 
-    /// Makes a request without its link; only of a link line.
+    /// Makes a request without linking it. Only a node of a link line allows this call.
     pub fn prepend(&mut self) -> Answer
         ensures { Prepends self.old self.new result }
     {
@@ -100,7 +100,7 @@ impl AnyNode {
         }
     }
 
-    /// Links the request to its predecessor's; only of a link line.
+    /// Links the request to its predecessor's. Only a node of a link line allows this call.
     pub fn link(&mut self) -> Answer
         ensures { LinksUp self.old self.new result }
     {
@@ -117,7 +117,7 @@ impl AnyNode {
         of_any!(self, node => node.withdraw())
     }
 
-    /// Returns `Done` if the node's last request is clear, else `Busy`. Makes no request.
+    /// Returns `Done` if the node's last request is clear, and otherwise `Busy`. Makes no request.
     pub fn is_clear(&mut self) -> Answer
         ensures { LooksIfClear self.old self.new result }
     {
@@ -144,7 +144,7 @@ impl AnyNode {
         }
     }
 
-    /// Returns lane `k` of the eight, if the node holds the line.
+    /// Returns lane `k` of the eight lanes, if the node holds the line.
     fn lane(&self, k: u64) -> Option<u64>
         ensures { MatchOption result (¬ HasLane self.now k) (λ value. IsLane self.now k value) }
     {
@@ -157,7 +157,7 @@ impl AnyNode {
         }
     }
 
-    /// Reads lane `k` of the eight, for the holder.
+    /// Reads lane `k` of the eight lanes, for the holder.
     pub fn read_lane(&self, k: u64, out: &mut u64) -> Answer
         ensures { ReadsLane k out.old out.new self.now self.now result }
     {
@@ -170,7 +170,7 @@ impl AnyNode {
         }
     }
 
-    /// Writes lane `k` of the eight, for the holder.
+    /// Writes lane `k` of the eight lanes, for the holder.
     pub fn write_lane(&mut self, k: u64, value: u64) -> Answer
         ensures { WritesLane k value self.old self.new result }
     {
@@ -180,7 +180,7 @@ impl AnyNode {
         self.write_lane_at(k as usize, value)
     }
 
-    /// Writes lane `k` of the eight, for the holder.
+    /// Writes lane `k` of the eight lanes, for the holder.
     #[inline(always)]
     fn write_lane_at(&mut self, k: usize, value: u64) -> Answer
         requires { k < 8 }
@@ -189,7 +189,7 @@ impl AnyNode {
         of_any!(self, node => node.write_lane(k, value))
     }
 
-    /// Adds `by` modulo 2^64 to lane `k`, for the holder. `was` gets what the lane had before.
+    /// Adds `by` modulo 2^64 to lane `k`, for the holder. `was` receives what the lane had before.
     pub fn add_lane(&mut self, k: u64, by: u64, was: &mut u64) -> Answer
         ensures { AddsLane k by was.old was.new self.old self.new result }
     {
@@ -211,7 +211,7 @@ impl AnyNode {
         of_any!(self, node => node.write(mask, bytes))
     }
 
-    /// Releases the line, and closes it if `shut`.
+    /// Releases the line, and closes it if `shut` is set.
     #[inline(always)]
     pub fn release(&mut self, shut: bool) -> Answer
         ensures { Releases shut self.old self.new result }
@@ -224,9 +224,9 @@ impl AnyNode {
     }
 }
 
-/// Releases a ring, and closes it if `shut`.
+/// Releases a ring, and closes it if `shut` is set.
 ///
-/// Not inlined, so that the calls of other lines save no registers for it.
+/// The function is not inlined, so that the calls of other kinds save no registers for it.
 #[inline(never)]
 fn release_ring(node: &mut Node<Ring>, shut: bool) -> Answer
     ensures { Releases shut (AnyNode.Ring node.old) (AnyNode.Ring node.new) result }
@@ -234,9 +234,9 @@ fn release_ring(node: &mut Node<Ring>, shut: bool) -> Answer
     node.release(shut)
 }
 
-/// Releases a link line, and closes it if `shut`.
+/// Releases a link line, and closes it if `shut` is set.
 ///
-/// Not inlined, so that the calls of other lines save no registers for it.
+/// The function is not inlined, so that the calls of other kinds save no registers for it.
 #[inline(never)]
 fn release_link(node: &mut Node<Link>, shut: bool) -> Answer
     ensures { Releases shut (AnyNode.Link node.old) (AnyNode.Link node.new) result }
@@ -246,7 +246,7 @@ fn release_link(node: &mut Node<Link>, shut: bool) -> Answer
 
 /// Requests a link line.
 ///
-/// Not inlined, so that the calls of other lines save no registers for it.
+/// The function is not inlined, so that the calls of other kinds save no registers for it.
 #[inline(never)]
 fn ask_link(node: &mut Node<Link>) -> Answer
     ensures { Enqolbs (AnyNode.Link node.old) (AnyNode.Link node.new) result }
@@ -292,7 +292,7 @@ impl IntoAny for Node<Ticket> {
 ///
 /// # Errors
 ///
-/// Those of `OpenLine::open_with`.
+/// The call fails for the reasons of `OpenLine::open_with`.
 pub(crate) fn nodes_of_kind(
     alloc: Global,
     lines: Lock,

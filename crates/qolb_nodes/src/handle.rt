@@ -1,4 +1,4 @@
-//! The handle of a node for C: a pointer, null if there is no node.
+//! The handle of a node for C: a pointer, which is null if there is no node.
 ghost use Rattle.std.specs.Prelude.{◌≡◌, true, false};
 ghost use Rattle.std.specs.Option.{MatchOption};
 ghost use Rattle.std.specs.declared.option.Option.{Option};
@@ -68,7 +68,7 @@ impl Handle {
         }
     }
 
-    /// Frees the handle's node, if it neither waits nor holds; else the node stays.
+    /// Frees the handle's node, if the node neither waits nor holds the line. Otherwise the node stays.
     pub fn close(&mut self, alloc: Global) -> Answer
         ensures { HasClosed self.old.held self.new.held result }
     {
@@ -135,5 +135,5 @@ fn free(node: Box<AnyNode>)
     drop(node);
 }
 
-// It owns a box of a node, which may go to another thread.
+// The handle owns a box of a node, which may go to another thread.
 unsafe impl Send for Handle {}

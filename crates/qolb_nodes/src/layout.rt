@@ -1,6 +1,7 @@
-//! What C knows of nodes and their lines beside their calls: limits, distances of words, and bits.
+//! What C must know of nodes and their lines beside their calls: limits, distances of words, and bits.
 //!
-//! `tools/snapshot` writes them, with these comments, to `c/proved/qolb_layout.h`. The blocks that a call allocates are not here: it measures those.
+//! `tools/snapshot` writes these numbers, with their comments, to `c/proved/qolb_layout.h`. The sizes of the blocks
+//! that a call allocates are not here, because `tools/snapshot` measures them.
 ghost use Rattle.std.specs.Prelude.{◌≡◌};
 
 use line_cells::STRIDE;

@@ -1,7 +1,9 @@
-//! Nodes of lines of any kind for programs in C: a static library. `c/src/proved.h` declares its calls, and `c/src` calls them by these names.
+//! Nodes of lines of any kind for programs in C, as a static library. Each node is behind a handle of one pointer.
+//! `c/src/proved.h` declares the exports of this file, and `c/src` calls them by these names.
 //!
-//! C has a node by a handle, a struct of one pointer that is null if there is no node. Each call is made of the handle's node. If the node's
-//! state does not allow a call, the answer is `Misuse` and nothing changes. None of these calls names a queue algorithm.
+//! C has a node by its handle, a struct of one pointer that is null if there is no node. Each export calls the handle's
+//! node. If the node's state does not allow the call, the answer is `Misuse` and nothing changes. No export names a kind
+//! of line.
 #![tactic(auto)]
 
 ghost use Rattle.std.specs.Prelude.{◌≡◌, true, false, None};
@@ -45,19 +47,21 @@ pub struct Look {
     pub number: u64,
     /// The label of its line.
     pub label: u64,
-    /// The number of turns left, with the holder's own: 2^64 - 1 without a lease; 0 if the node does not hold the line.
+    /// The number of acquisitions that are left, including the holder's own: 2^64 - 1 without a lease, and 0 if the node
+    /// does not hold the line.
     pub turns_left: u64,
     /// The word on which the node waits, if it does; the same from the request until the grant.
     pub wait_word: u64,
     /// The word of the next holder after the node's last release, or after it was told that the line is closed.
     pub went_to: u64,
-    /// The word of the waiter behind the next holder, to be woken one turn ahead. If there is none, a number on which no node waits.
+    /// The word of the waiter behind the next holder, which C wakes one acquisition ahead. If there is none, this is a
+    /// number on which no node waits.
     pub went_ahead: u64,
     /// The number of the node's state, from 1.
     pub state: u32,
 }
 
-/// A number that is no word of any line: no node waits there.
+/// A number that is not a word of any line, so no node waits there.
 const NO_WORD: u64 = u64::MAX;
 
 /// Returns C's number of an answer.
@@ -67,7 +71,7 @@ fn number(answer: Answer) -> u32
     answer as u32
 }
 
-/// Returns C's number of a node's state. A handle without a node has 0.
+/// Returns C's number of a node's state. A handle without a node has the number 0.
 fn state_number(state: PortState) -> u32
     ensures { result ≡ state_number state }
 {
@@ -82,7 +86,7 @@ fn state_number(state: PortState) -> u32
     }
 }
 
-/// Calls the handle's node, and returns the answer's number; `Misuse` for an empty handle.
+/// Calls the handle's node, and returns the answer's number, which is that of `Misuse` for an empty handle.
 macro_rules! told {
     ($handle:ident, $node:ident => $call:expr) => {
         match $handle.get_mut() {
@@ -94,8 +98,8 @@ macro_rules! told {
 
 /// Opens a line, and puts its nodes into the first of the handles.
 ///
-/// Its first holder finds the bytes of `opening`. `kind` is 0 for a ring, 1 for a link line, 2 for a ticket line. The line closes at the lease's
-/// last turn; a lease of 2^64 - 1 is none.
+/// The line's first holder finds the bytes of `opening`. `kind` is 0 for a ring, 1 for a link line, and 2 for a ticket
+/// line. The line closes at the last turn of its lease; a lease of 2^64 - 1 means that it has none.
 #[unsafe(no_mangle)]
 pub extern "C" fn qolb_open_proved_(
     alloc: Global,
@@ -121,7 +125,7 @@ pub extern "C" fn qolb_open_proved_(
 
 /// Returns the number of bytes of the table of such a line. Does not allocate.
 ///
-/// 0 if `qolb_open_proved_` would refuse this kind or number of nodes.
+/// Returns 0 if `qolb_open_proved_` would refuse this kind or number of nodes.
 #[unsafe(no_mangle)]
 pub extern "C" fn qolb_memory_proved_(kind: u32, nodes: u64) -> u64
     ensures { TellsMemory kind nodes result }
@@ -145,7 +149,7 @@ pub extern "C" fn qolb_poll_proved_(node: &mut Handle) -> u32
     told!(node, called => called.poll())
 }
 
-/// Polls at most `polls` times whether the request is at its turn, with a pause between two.
+/// Polls at most `polls` times whether the request is at its turn, with a pause between two polls.
 #[unsafe(no_mangle)]
 pub extern "C" fn qolb_wait_proved_(node: &mut Handle, polls: u64) -> u32
     ensures { Calls (Waits polls) node.old.held node.new.held result }
@@ -153,7 +157,7 @@ pub extern "C" fn qolb_wait_proved_(node: &mut Handle, polls: u64) -> u32
     told!(node, called => called.wait(polls))
 }
 
-/// Makes a request and leaves it to be linked to its predecessor's; only of a link line.
+/// Makes a request that must then be linked to its predecessor's. Only a node of a link line allows this call.
 #[unsafe(no_mangle)]
 pub extern "C" fn qolb_prepend_proved_(node: &mut Handle) -> u32
     ensures { Calls Prepends node.old.held node.new.held result }
@@ -161,7 +165,7 @@ pub extern "C" fn qolb_prepend_proved_(node: &mut Handle) -> u32
     told!(node, called => called.prepend())
 }
 
-/// Links the request to its predecessor's; only of a link line.
+/// Links the request to its predecessor's. Only a node of a link line allows this call.
 #[unsafe(no_mangle)]
 pub extern "C" fn qolb_link_proved_(node: &mut Handle) -> u32
     ensures { Calls LinksUp node.old.held node.new.held result }
@@ -177,7 +181,7 @@ pub extern "C" fn qolb_withdraw_proved_(node: &mut Handle) -> u32
     told!(node, called => called.withdraw())
 }
 
-/// Polls whether the node may ask and would not be busy. Makes no request.
+/// Polls whether the node may make a request that would not be answered busy. Makes no request.
 #[unsafe(no_mangle)]
 pub extern "C" fn qolb_clear_proved_(node: &mut Handle) -> u32
     ensures { Calls LooksIfClear node.old.held node.new.held result }
@@ -194,7 +198,7 @@ pub extern "C" fn qolb_read_proved_(node: &mut Handle, out: &mut Bytes) -> u32
     told!(node, called => called.read(&mut out.bytes))
 }
 
-/// Writes the bytes of the mask for the holder: byte k if bit k is set.
+/// Writes the bytes of the mask, for the holder: byte k if bit k is set.
 #[unsafe(no_mangle)]
 pub extern "C" fn qolb_write_proved_(node: &mut Handle, mask: u64, bytes: &Bytes) -> u32
     ensures { Calls (Writes mask bytes.now.bytes) node.old.held node.new.held result }
@@ -220,7 +224,7 @@ pub extern "C" fn qolb_write_lane_proved_(node: &mut Handle, lane: u64, value: u
     told!(node, called => called.write_lane(lane, value))
 }
 
-/// Adds `by` modulo 2^64 to one of the eight lanes, for the holder. `was` gets what the lane had before.
+/// Adds `by` modulo 2^64 to one of the eight lanes, for the holder. `was` receives what the lane had before.
 #[unsafe(no_mangle)]
 pub extern "C" fn qolb_add_lane_proved_(node: &mut Handle, lane: u64, by: u64, was: &mut u64) -> u32
     ensures calls { Calls (AddsLane lane by was.old was.new) node.old.held node.new.held result }
@@ -245,9 +249,9 @@ pub extern "C" fn qolb_shut_proved_(node: &mut Handle) -> u32
     told!(node, called => called.release(true))
 }
 
-/// Tells what the node is, and after a release whom C wakes.
+/// Returns what the node is, where it waits, and which waiters C wakes after a release.
 ///
-/// Of an empty handle: zeros, and `NO_WORD` for each word.
+/// For an empty handle the numbers are 0, and each word is `NO_WORD`.
 #[unsafe(no_mangle)]
 pub extern "C" fn qolb_look_proved_(node: &mut Handle, out: &mut Look)
     ensures held { node.new.held ≡ node.old.held }
@@ -284,10 +288,11 @@ pub extern "C" fn qolb_look_proved_(node: &mut Handle, out: &mut Look)
     };
 }
 
-/// Frees a node that neither waits nor holds. The last node of a line frees the line.
+/// Frees a node that neither waits nor holds the line. The last node of a line frees the line.
 #[unsafe(no_mangle)]
 pub extern "C" fn qolb_close_proved_(alloc: Global, node: &mut Handle) -> u32
     ensures { Closes node.old.held node.new.held result }
 {
     number(node.close(alloc))
 }
+

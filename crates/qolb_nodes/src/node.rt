@@ -1,4 +1,4 @@
-//! A node of a shared line, for any kind of line.
+//! A node of a shared line of one kind.
 ghost use Rattle.std.specs.Prelude.{◌≡◌, ◌<◌, ◌≤◌, Some, MatchOption};
 ghost use Rattle.std.specs.Arc.{arc_value};
 ghost use Rattle.qolb_model.specs.Calls.{Polls};
@@ -16,13 +16,13 @@ use std::hint::spin_loop;
 use std::marker::Model;
 use std::sync::Arc;
 
-// The wake policy of these lines: no release wakes a thread, as a static library has no system call that waits or wakes. In C, waiters
-// sleep at bells, and these calls return the words on which they wait.
+// The wake policy of these lines wakes no thread at a release, because a static library has no system call that waits
+// or wakes. In C, waiters sleep at places of their own, and these calls return the words on which they wait.
 
-/// A line by the discipline `Q`.
+/// A line with the discipline `Q`.
 pub type LineFor<Q> = Line<Free, Q, SleepersElsewhere>;
 
-/// C's number for no lease.
+/// The number by which C says that a line has no lease.
 pub const NO_LEASE: u64 = u64::MAX;
 
 /// What a node is, and where it waits.
@@ -34,7 +34,7 @@ pub struct Shown {
     pub label: u64,
     /// The state after the node's last call.
     pub state: PortState,
-    /// C's number of the turns left; 0 if the node does not hold the line.
+    /// C's number of the turns left, or 0 if the node does not hold the line.
     pub turns_left: u64,
     /// The word on which the node waits, if it does.
     pub wait_word: u64,
@@ -44,7 +44,7 @@ pub struct Shown {
     pub went_ahead: u64,
 }
 
-/// A node: a share of a line, and a port of it.
+/// A node: a share of a line, and a port of that line.
 #[derive(Drop)]
 pub struct Node<L: LineSync<Free>> {
     line: Arc<L, Global>,
@@ -71,9 +71,9 @@ impl<L: LineSync<Free>> Node<L> {
         Node { line, port }
     }
 
-    /// Merges the views of two nodes of one line, which are of one history.
+    /// Merges the views of two nodes of one line, which are then of one history.
     ///
-    /// C has no call for it: it defines that the nodes of an opened line are of one line.
+    /// C has no call for this. It defines what it means that the nodes of an opened line are of one line.
     pub fn meet(&mut self, other: &mut Node<L>)
         requires one_line { other.old.line ≡ self.old.line }
         ensures lines { (self.new.line ≡ self.old.line) × (other.new.line ≡ other.old.line) }
@@ -95,9 +95,10 @@ impl<Q: Discipline<Free>> Node<LineFor<Q>> {
         LineFor::<Q>::state(&self.port)
     }
 
-    /// Returns `Done` if the node's last request is clear, so that the next is not answered `Busy`; else `Busy`.
+    /// Returns `Done` if the node's last request is clear, so that its next one is not answered `Busy`. Otherwise
+    /// returns `Busy`.
     ///
-    /// `Misuse` if the node waits or holds.
+    /// Returns `Misuse` if the node waits or holds the line.
     pub fn is_clear(&mut self) -> Answer
         ensures line { self.new.line ≡ self.old.line }
         ensures misuse { ¬ MayAsk self.old → IsMisuse self.old self.new result }
@@ -109,7 +110,7 @@ impl<Q: Discipline<Free>> Node<LineFor<Q>> {
         Answer::of_clear(self.line.is_clear(&mut self.port))
     }
 
-    /// Returns the line's bytes as the holder sees them; `None` if the node does not hold the line.
+    /// Returns the line's bytes as the holder sees them, or `None` if the node does not hold the line.
     pub fn bytes(&self) -> Option<&Line64>
         ensures { MatchOption result (¬ Holds self.now) (λ line. HasBytes self.now line.now) }
     {
@@ -120,7 +121,8 @@ impl<Q: Discipline<Free>> Node<LineFor<Q>> {
         }
     }
 
-    /// Returns C's number of the turns left, with the holder's own: at least 1. 0 if the node does not hold the line.
+    /// Returns C's number of the turns left, including the holder's own, which is at least 1. Returns 0 if the node
+    /// does not hold the line.
     fn turns_left(&self) -> u64
         ensures turns { Holds self.now → result ≡ turns_of self.now }
         ensures not_zero { Holds self.now → 1 ≤ result }
@@ -137,7 +139,7 @@ impl<Q: Discipline<Free>> Node<LineFor<Q>> {
 
     /// Writes the bytes of the mask, for the holder.
     ///
-    /// `Misuse` if the node does not hold the line.
+    /// Returns `Misuse` if the node does not hold the line.
     #[inline(always)]
     pub fn write(&mut self, mask: Mask, bytes: &Line64) -> Answer
         ensures line { self.new.line ≡ self.old.line }
@@ -178,7 +180,7 @@ impl<Q: Discipline<Free>> Node<LineFor<Q>> {
 
     /// Requests the line, and answers at once.
     ///
-    /// `Misuse` if the node waits or holds.
+    /// Returns `Misuse` if the node waits or holds the line.
     pub fn enqolb(&mut self) -> Answer
         ensures line { self.new.line ≡ self.old.line }
         ensures misuse { ¬ MayAsk self.old → IsMisuse self.old self.new result }
@@ -191,9 +193,9 @@ impl<Q: Discipline<Free>> Node<LineFor<Q>> {
         }
     }
 
-    /// Polls at most `polls` times whether the request is at its turn, with a pause between two.
+    /// Polls at most `polls` times whether the request is at its turn, with a pause between two polls.
     ///
-    /// `Misuse` if the node does not wait, or `polls` is 0.
+    /// Returns `Misuse` if the node does not wait, or if `polls` is 0.
     #[inline(always)]
     pub fn wait(&mut self, polls: u64) -> Answer
         ensures line { self.new.line ≡ self.old.line }
@@ -208,7 +210,7 @@ impl<Q: Discipline<Free>> Node<LineFor<Q>> {
 
     /// Withdraws the request, unless it is at its turn.
     ///
-    /// `Misuse` if the node does not wait.
+    /// Returns `Misuse` if the node does not wait.
     pub fn withdraw(&mut self) -> Answer
         ensures line { self.new.line ≡ self.old.line }
         ensures misuse { ¬ IsQueued self.old → IsMisuse self.old self.new result }
@@ -222,7 +224,7 @@ impl<Q: Discipline<Free>> Node<LineFor<Q>> {
 
     /// Writes lane `k`, for the holder.
     ///
-    /// `Misuse` if the node does not hold the line.
+    /// Returns `Misuse` if the node does not hold the line.
     pub fn write_lane(&mut self, k: usize, value: u64) -> Answer
         requires { k < 8 }
         ensures line { self.new.line ≡ self.old.line }
@@ -237,9 +239,9 @@ impl<Q: Discipline<Free>> Node<LineFor<Q>> {
         Answer::Done
     }
 
-    /// Releases the line, and closes it if `shut`.
+    /// Releases the line, and closes it if `shut` is set.
     ///
-    /// `Misuse` if the node does not hold the line.
+    /// Returns `Misuse` if the node does not hold the line.
     #[inline(always)]
     pub fn release(&mut self, shut: bool) -> Answer
         ensures line { self.new.line ≡ self.old.line }
@@ -255,7 +257,7 @@ impl<Q: Discipline<Free>> Node<LineFor<Q>> {
 
     /// Returns the word on which the node waits.
     ///
-    /// If the node holds, this is the word on which it was granted.
+    /// If the node holds the line, this is the word on which it was granted.
     fn wait_word(&self) -> u64
         ensures word { result ≡ word_of Q.wait_word self.now }
         ensures turn { Holds self.now → IsTurnWord Q.wake_word self.now result }
@@ -277,9 +279,9 @@ impl<Q: Discipline<Free>> Node<LineFor<Q>> {
 }
 
 impl Node<Link> {
-    /// Makes a request and leaves it to be linked to its predecessor's.
+    /// Makes a request that must then be linked to its predecessor's.
     ///
-    /// `Misuse` if the node waits or holds.
+    /// Returns `Misuse` if the node waits or holds the line.
     pub fn prepend(&mut self) -> Answer
         ensures line { self.new.line ≡ self.old.line }
         ensures misuse { ¬ MayAsk self.old → IsMisuse self.old self.new result }
@@ -293,7 +295,7 @@ impl Node<Link> {
 
     /// Links the request to its predecessor's.
     ///
-    /// `Misuse` if the node has no request to link.
+    /// Returns `Misuse` if the node has no request to link.
     pub fn link(&mut self) -> Answer
         ensures line { self.new.line ≡ self.old.line }
         ensures misuse { ¬ IsLinking self.old → IsMisuse self.old self.new result }
@@ -306,7 +308,8 @@ impl Node<Link> {
     }
 }
 
-/// Polls at most `polls` times, with a pause between two: exactly `polls` times if the request still waits.
+/// Polls at most `polls` times, with a pause between two polls. If the request still waits, it has polled exactly
+/// `polls` times.
 fn poll_on<Q: Discipline<Free>>(
     line: &LineFor<Q>,
     port: &mut Port<Q, SleepersElsewhere>,

@@ -40,7 +40,7 @@ pub fn open(alloc: Global, kind: u32, label: u64, config: LineConfig, out: &mut 
     }
 }
 
-/// Returns the number of bytes of the table of such a line; 0 if it would not be opened.
+/// Returns the number of bytes of the table of such a line, or 0 if the line would not be opened.
 pub fn memory(kind: u32, nodes: u64) -> u64
     ensures { TellsMemory kind nodes result }
 {
@@ -83,7 +83,7 @@ fn are_empty(handles: &mut [Handle], many: usize) -> bool
 ///
 /// # Errors
 ///
-/// Those of `OpenLine::open_with`.
+/// The call fails for the reasons of `OpenLine::open_with`.
 pub(crate) fn new_nodes<L: OpenLine<Free> + Drop>(
     alloc: Global,
     label: u64,
@@ -113,11 +113,11 @@ where
     Ok(nodes)
 }
 
-/// Boxes the nodes.
+/// Puts each of the nodes into a box.
 ///
 /// # Errors
 ///
-/// `Memory` if the allocator returns none.
+/// The call fails with `Memory` if the allocator returns none.
 pub(crate) fn boxed<N: IntoAny>(
     alloc: Global,
     nodes: Vec<N>,

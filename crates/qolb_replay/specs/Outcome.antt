@@ -1,5 +1,6 @@
 -- How a replay of some bytes ends.
-use Rattle.std.specs.Prelude.{◌≡◌, ◌≢◌, ◌<◌, ◌≤◌, ◌⊎◌, ℕ, List, length, Ok, Err}
+use Rattle.std.specs.Prelude.{◌≡◌, ◌≢◌, ◌<◌, ◌≤◌, ◌⊎◌, ◌↔◌, ℕ, true, false, List, length, Option, Result, Ok, Err, OnOk, IfErr, IfSome}
+use Rattle.std.specs.Io.KnownBytes.{Appends}
 use Rattle.qolb_replay.specs.declared.replay.ReplayError.{ReplayError}
 use Rattle.qolb_replay.specs.declared.replay.ReplayError.TheVariants as error
 use Rattle.qolb_replay.specs.declared.input.TheConstants.{MAX_BYTES}
@@ -7,6 +8,8 @@ use Rattle.qolb_replay.specs.declared.steps.Detail.{Detail}
 use Rattle.qolb_script.specs.declared.error.ScriptError.{ScriptError}
 use Rattle.qolb_script.specs.declared.error.ScriptError.TheVariants as script
 use Rattle.qolb_script.specs.Reply.{reply_to}
+use Rattle.qolb_script.specs.declared.watched.Watched.{Watched}
+use Rattle.qolb_script.specs.Watched.{inner_of, has_failed}
 use Rattle.qolb_script.specs.StepScript.{steps_of}
 use Rattle.qolb_replay.specs.StepRuns.{IsStepReplyTo}
 
@@ -37,6 +40,18 @@ ReplayMayFail input error = MayFailBy IsReply HasReplayFault input error
 
 abbrev pub StepsMayFail : Detail → List ℕ → ReplayError → Type 0
 StepsMayFail detail input error = MayFailBy (IsStepReplyTo detail) HasStepFault input error
+
+-- A run read all bytes of a reader and wrote their answer to a writer, or ended with an error. `IsAnswer` says which texts answer bytes, and
+-- `MayFail` when each error may come.
+pub record Runs {R W : Type 0} (remaining : R → Option (List ℕ)) (contents : W → Option (List ℕ)) (IsAnswer : List ℕ → List ℕ → Type 0) (MayFail : List ℕ → ReplayError → Type 0)
+    (reader reader_after : Watched R) (writer writer_after : Watched W) (result : Result (Unit {0}) ReplayError) : Type 0 where
+  pub ok : OnOk result (IfSome (remaining (inner_of reader)) (λ input. (text : List ℕ) × IsAnswer input text × Appends (contents (inner_of writer)) (contents (inner_of writer_after)) text))
+  pub refused : IfErr result (λ why. IfSome (remaining (inner_of reader)) (λ input. MayFail input why))
+  pub unwritten : IfErr result (λ why. why ≢ error.Write → writer_after ≡ writer)
+  pub read_fault : (result ≡ Err error.Read) ↔ (has_failed reader_after ≡ true)
+  pub write_fault : result ≡ Err error.Write → has_failed writer_after ≡ true
+  pub written : OnOk result (has_failed writer_after ≡ false)
+  pub memory : result ≢ Err (error.Script script.Memory)
 
 -- why bytes have no answer: memory was refused, or the first fault in them is this one
 abbrev pub HasNoAnswer : (List ℕ → ScriptError → Type 0) → List ℕ → ReplayError → Type 0

@@ -1,7 +1,6 @@
 //! Replays of schedules: what is said of each command, and then of each line.
-ghost use Rattle.std.specs.Prelude.{◌≡◌, ◌≢◌, ◌⊎◌, ◌↔◌, ℕ, List, length, ◌≤◌, true, false, Ok, Err, OnOk, IfOk, IfErr, IfSome};
-ghost use Rattle.std.specs.Io.KnownBytes.{Appends};
-ghost use Rattle.qolb_script.specs.Watched.{inner_of, has_failed};
+ghost use Rattle.std.specs.Prelude.{◌≡◌, ℕ, List, length, Ok, Err, IfOk, IfErr};
+ghost use Rattle.qolb_script.specs.Script.{IsBegun};
 ghost use Rattle.qolb_script.specs.Reply.{config_of, replay_start, reply_of, reply_to};
 ghost use Rattle.qolb_model.specs.Opening.{MayOpen};
 ghost use Rattle.qolb_model.specs.Plain.{PlainView, Agrees};
@@ -9,7 +8,7 @@ ghost use Rattle.qolb_model.specs.OneOwner.{OwnerState};
 ghost use Rattle.qolb_model.specs.Whole.{ViewAndTurn, AreSynced};
 ghost use Rattle.qolb_replay.specs.Tallies.{AreLinesOf};
 ghost use Rattle.qolb_replay.specs.declared.replay.ReplayError.TheVariants.{Memory, Write};
-ghost use Rattle.qolb_replay.specs.Outcome.{IsReply, ReplayMayFail, HasNoReply, script_error};
+ghost use Rattle.qolb_replay.specs.Outcome.{IsReply, ReplayMayFail, HasNoReply, Runs, script_error};
 
 use crate::input::read_all;
 use crate::line::{CountingLine, PortedLine, ReplayLine};
@@ -97,17 +96,8 @@ pub fn run_schedule_over<L: OpenLine<Free> + Drop, R: Read, W: Write>(
 ) -> Result<(), ReplayError>
 where
     L::Port: Drop,
-    ensures ok { OnOk result (IfSome (R.remaining (inner_of reader.old)) (λ input.
-        (text : List ℕ) × IsReply input text
-        × Appends (W.contents (inner_of writer.old)) (W.contents (inner_of writer.new)) text)) }
-    ensures refused { IfErr result (λ error.
-        IfSome (R.remaining (inner_of reader.old)) (λ input. ReplayMayFail input error)) }
-    ensures unwritten { IfErr result (λ error. error ≢ ReplayError.Write
-        → writer.new ≡ writer.old) }
-    ensures read_fault { (result ≡ Err ReplayError.Read) ↔ (has_failed reader.new ≡ true) }
-    ensures write_fault { result ≡ Err ReplayError.Write → has_failed writer.new ≡ true }
-    ensures written { OnOk result (has_failed writer.new ≡ false) }
-    ensures memory { result ≢ Err (ReplayError.Script ScriptError.Memory) }
+    ensures { Runs R.remaining W.contents IsReply ReplayMayFail
+        reader.old reader.new writer.old writer.new result }
 {
     let input = read_all(alloc, reader)?;
     let text = answered_over::<Global, L>(alloc, alloc, input.as_slice())?;
@@ -133,6 +123,7 @@ pub fn answered_plainly<A: Allocator + Copy>(
 ) -> Result<Vec<u8, A>, ReplayError>
     ensures ok { IfOk result (λ text. reply_to input.now ≡ Ok text.items) }
     ensures refused { IfErr result (HasNoReply input.now) }
+    ensures memory { result ≡ Err ReplayError.Memory → IsBegun input.now }
 {
     let schedule = read_schedule(alloc, input)?;
     let lines = open_lines(alloc, &config_for(&schedule), schedule.lines())?;
@@ -150,6 +141,7 @@ where
     L::Port: Drop,
     ensures ok { IfOk result (λ text. reply_to input.now ≡ Ok text.items) }
     ensures refused { IfErr result (HasNoReply input.now) }
+    ensures memory { result ≡ Err ReplayError.Memory → IsBegun input.now }
 {
     let schedule = read_schedule(alloc, input)?;
     let lines = open_ported::<A, L>(alloc, shared, &config_for(&schedule), schedule.lines())?;

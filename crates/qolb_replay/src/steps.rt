@@ -1,11 +1,9 @@
 //! Runs of step scripts on the list's core: what each event tells, and then the line's counts.
-ghost use Rattle.std.specs.Prelude.{◌≡◌, ◌≢◌, ◌≤◌, ◌↔◌, ℕ, List, Option, length, true, false, Ok, Err, OnOk, OnErr, IfOk, IfErr, IfSome, ◌++◌};
-ghost use Rattle.std.specs.Io.KnownBytes.{Appends};
-ghost use Rattle.qolb_script.specs.Watched.{inner_of, has_failed};
+ghost use Rattle.std.specs.Prelude.{◌≡◌, ◌≤◌, ℕ, List, Option, length, Ok, Err, OnOk, OnErr, IfOk, IfErr, ◌++◌};
 ghost use Rattle.qolb_script.specs.StepReply.{step_said};
-ghost use Rattle.qolb_script.specs.StepScript.{StepScript, steps_of};
+ghost use Rattle.qolb_script.specs.StepScript.{AreBegun, StepScript, steps_of};
 ghost use Rattle.link_core.specs.Progress.{rank};
-ghost use Rattle.qolb_replay.specs.Outcome.{StepsMayFail, HasNoStepReply};
+ghost use Rattle.qolb_replay.specs.Outcome.{StepsMayFail, HasNoStepReply, Runs};
 ghost use Rattle.qolb_replay.specs.declared.input.TheConstants.{MAX_BYTES};
 ghost use Rattle.qolb_replay.specs.declared.steps.Detail.TheVariants as detail;
 ghost use Rattle.qolb_replay.specs.StepRuns.{IsStepReply, IsStepReplyTo, Heard, heard_text, is_busy, nodes_busy};
@@ -38,18 +36,8 @@ pub fn run_steps<A: Allocator, R: Read, W: Write>(
     reader: &mut Watched<R>,
     writer: &mut Watched<W>,
 ) -> Result<(), ReplayError>
-    ensures ok { OnOk result (IfSome (R.remaining (inner_of reader.old)) (λ input.
-        (text : List ℕ) × IsStepReplyTo detail.Words input text
-        × Appends (W.contents (inner_of writer.old)) (W.contents (inner_of writer.new)) text)) }
-    ensures refused { IfErr result (λ error.
-        IfSome (R.remaining (inner_of reader.old)) (λ input.
-        StepsMayFail detail.Words input error)) }
-    ensures unwritten { IfErr result (λ error. error ≢ ReplayError.Write
-        → writer.new ≡ writer.old) }
-    ensures read_fault { (result ≡ Err ReplayError.Read) ↔ (has_failed reader.new ≡ true) }
-    ensures write_fault { result ≡ Err ReplayError.Write → has_failed writer.new ≡ true }
-    ensures written { OnOk result (has_failed writer.new ≡ false) }
-    ensures memory { result ≢ Err (ReplayError.Script ScriptError.Memory) }
+    ensures { Runs R.remaining W.contents (IsStepReplyTo detail.Words) (StepsMayFail detail.Words)
+        reader.old reader.new writer.old writer.new result }
 {
     run_steps_with(alloc, reader, writer, Detail::Words)
 }
@@ -64,17 +52,8 @@ pub fn run_steps_with<A: Allocator, R: Read, W: Write>(
     writer: &mut Watched<W>,
     detail: Detail,
 ) -> Result<(), ReplayError>
-    ensures ok { OnOk result (IfSome (R.remaining (inner_of reader.old)) (λ input.
-        (text : List ℕ) × IsStepReplyTo detail input text
-        × Appends (W.contents (inner_of writer.old)) (W.contents (inner_of writer.new)) text)) }
-    ensures refused { IfErr result (λ error.
-        IfSome (R.remaining (inner_of reader.old)) (λ input. StepsMayFail detail input error)) }
-    ensures unwritten { IfErr result (λ error. error ≢ ReplayError.Write
-        → writer.new ≡ writer.old) }
-    ensures read_fault { (result ≡ Err ReplayError.Read) ↔ (has_failed reader.new ≡ true) }
-    ensures write_fault { result ≡ Err ReplayError.Write → has_failed writer.new ≡ true }
-    ensures written { OnOk result (has_failed writer.new ≡ false) }
-    ensures memory { result ≢ Err (ReplayError.Script ScriptError.Memory) }
+    ensures { Runs R.remaining W.contents (IsStepReplyTo detail) (StepsMayFail detail)
+        reader.old reader.new writer.old writer.new result }
 {
     let input = read_all(&alloc, reader)?;
     let text = answer_steps(&alloc, input.as_slice(), detail)?;
@@ -94,6 +73,7 @@ pub fn answer_steps<A: Allocator + Copy>(
     ensures any_length { IfOk result (λ text. (script : StepScript)
         × (steps_of input.now ≡ Ok script) × IsStepReply detail script text.items) }
     ensures refused { IfErr result (HasNoStepReply input.now) }
+    ensures memory { result ≡ Err ReplayError.Memory → AreBegun input.now }
 {
     let steps = read_steps(alloc, input)?;
     Ok(reply(alloc, &steps, detail)?)

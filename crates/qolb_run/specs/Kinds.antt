@@ -1,4 +1,5 @@
 -- What is said of each lock: the kinds that name it, and a property of work. (Of this project.)
+use Rattle.std.specs.Prelude.{Option, Some, None}
 use Rattle.line_kinds.specs.declared.Lock.{Lock}
 use Rattle.line_kinds.specs.declared.Lock.TheVariants as lock
 use Rattle.qolb_script.specs.declared.report.Report.{Report}
@@ -7,19 +8,17 @@ use Rattle.qolb_run.specs.declared.each_lock.Lines.{Lines}
 use Rattle.qolb_run.specs.declared.each_lock.Lines.TheVariants as lines
 use Rattle.qolb_run.specs.declared.each_lock.Kind.{Kind}
 use Rattle.qolb_run.specs.declared.each_lock.Kind.TheVariants as kind
-use Rattle.qolb_run.specs.declared.each_lock.AnyKind.{AnyKind}
-use Rattle.qolb_run.specs.declared.each_lock.AnyKind.TheVariants as any
 
 -- the lock of these lines
 abbrev pub lock_of : Lines → Lock
 lock_of lines.Ring = lock.Ring
 lock_of lines.Link = lock.Link
 
--- this kind among all kinds
-abbrev pub any_of : Kind → AnyKind
-any_of kind.Plain = any.Plain
-any_of kind.Ring = any.Shared lock.Ring
-any_of kind.Link = any.Shared lock.Link
+-- the lock of lines of this kind that nodes share; the plain reference has none
+abbrev pub shared_lock : Kind → Option Lock
+shared_lock kind.Plain = None
+shared_lock kind.Ring = Some lock.Ring
+shared_lock kind.Link = Some lock.Link
 
 -- the property for rings, for link lines, or for ticket lines, by the lock
 abbrev pub by_lock : (rings links tickets : WorkScript → Report → Type 0) → Lock → WorkScript → Report → Type 0

@@ -19,7 +19,9 @@ use Rattle.qolb_work.specs.Reports.{IsReportOf}
 use Rattle.qolb_script.specs.declared.job.WorkKind.{WorkKind}
 use Rattle.qolb_script.specs.declared.report.Report.{Report}
 use Rattle.qolb_script.specs.Reports.{report_text}
-use Rattle.qolb_script.specs.WorkScript.{WorkScript, work_of}
+use Rattle.qolb_script.specs.Script.{IsBegun}
+use Rattle.qolb_script.specs.StepScript.{AreBegun}
+use Rattle.qolb_script.specs.WorkScript.{IsWorkBegun, WorkScript, work_of}
 
 -- the bytes are this work script
 pub record IsWork (kind : WorkKind) (input : List ℕ) (work : WorkScript) : Type 0 where
@@ -52,6 +54,12 @@ HasFault (Work kind lock waits) input fault = HasWorkFault kind input fault
 -- the bytes are too many, or have a first fault
 abbrev pub IsRefused : Task → List ℕ → Type 0
 IsRefused task input = (MAX_BYTES < length input) ⊎ ((fault : ScriptError) × HasFault task input fault)
+
+-- neither the header of the bytes nor the first line below it is refused
+abbrev pub HasBegunFor : Task → List ℕ → Type 0
+HasBegunFor (Replay lock) input = IsBegun input
+HasBegunFor (Steps detail) input = AreBegun input
+HasBegunFor (Work kind lock waits) input = IsWorkBegun kind input
 
 -- when each error may come: as to a replay, by the answers to the task and its first fault
 abbrev pub MayFail : Task → List ℕ → ReplayError → Type 0

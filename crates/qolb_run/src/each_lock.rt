@@ -3,7 +3,7 @@ ghost use Rattle.std.specs.Prelude.{◌≡◌};
 ghost use Rattle.qolb_script.specs.declared.report.Report.{Report};
 ghost use Rattle.qolb_script.specs.WorkScript.{WorkScript};
 ghost use Rattle.line_kinds.specs.declared.Lock.{Lock};
-ghost use Rattle.qolb_run.specs.Kinds.{lock_of, any_of, by_lock};
+ghost use Rattle.qolb_run.specs.Kinds.{lock_of, shared_lock, by_lock};
 ghost use Rattle.qolb_work.specs.BankWork.{IsBankedOver};
 ghost use Rattle.qolb_work.specs.BoardWork.{IsBoardedOver};
 
@@ -49,33 +49,24 @@ pub enum Kind {
 }
 
 impl Kind {
-    /// Returns this kind among all kinds.
-    pub fn any(self) -> AnyKind
-        ensures { result ≡ any_of self }
+    /// Returns the lock of lines of this kind that nodes share, or `None` for the plain reference.
+    pub fn lock(self) -> Option<Lock>
+        ensures { result ≡ shared_lock self }
     {
         match self {
-            Kind::Plain => AnyKind::Plain,
-            Kind::Ring => AnyKind::Shared(Lock::Ring),
-            Kind::Link => AnyKind::Shared(Lock::Link),
+            Kind::Plain => None,
+            Kind::Ring => Some(Lock::Ring),
+            Kind::Link => Some(Lock::Link),
         }
     }
 }
 
-/// The kind of lines by which a replay answers: the plain reference, or lines of any lock.
-#[derive(Clone, Copy, Debug, PartialEq, Eq)]
-pub enum AnyKind {
-    /// The plain reference, a line with one owner.
-    Plain,
-    /// Lines of this lock. Each node has a port of its own, and the port that acts meets every other port before and after its call.
-    Shared(Lock),
-}
-
-/// All kinds: the plain reference, and then each lock in the order of `line_kinds::ALL`.
-pub static KINDS: [AnyKind; LOCKS + 1] = [
-    AnyKind::Plain,
-    AnyKind::Shared(Lock::Ring),
-    AnyKind::Shared(Lock::Link),
-    AnyKind::Shared(Lock::Ticket),
+/// What a replay may take: the plain reference, which has no lock, and then each lock in the order of `line_kinds::ALL`.
+pub static REPLAYED: [Option<Lock>; LOCKS + 1] = [
+    None,
+    Some(Lock::Ring),
+    Some(Lock::Link),
+    Some(Lock::Ticket),
 ];
 
 /// What the contracts of work promise of the lock, for each lock.

@@ -8,7 +8,7 @@ mod report;
 mod task;
 mod work;
 
-pub use each_lock::{AnyKind, KINDS, Kind, KindSpec, Lines, Locks};
+pub use each_lock::{Kind, KindSpec, Lines, Locks, REPLAYED};
 pub use line_blocking::{
     Got, ParkOnPoll, TimedAcquire, acquire, acquire_parking, acquire_timeout, meet_all, scoped,
 };

@@ -3,7 +3,7 @@ ghost use Rattle.std.specs.Prelude.{◌≡◌, ◌≤◌, ℕ, length, Ok, Err, 
 ghost use Rattle.qolb_replay.specs.declared.input.TheConstants.{MAX_BYTES};
 ghost use Rattle.qolb_script.specs.declared.report.Report.{Report};
 ghost use Rattle.qolb_script.specs.Reports.{report_text};
-ghost use Rattle.qolb_script.specs.WorkScript.{WorkScript, work_of};
+ghost use Rattle.qolb_script.specs.WorkScript.{IsWorkBegun, WorkScript, work_of};
 ghost use Rattle.qolb_work.specs.Reports.{IsReportOf};
 ghost use Rattle.qolb_run.specs.Outcome.{IsReplyOver, HasNoReport};
 
@@ -39,6 +39,7 @@ pub fn answer_work<T: Threads + Wait + Sync, G: Gate + Sync>(
         × ⟦<Locks as KindSpec>⟧.done_over lock work report
         × (text.items ≡ report_text report)) }
     ensures refused { IfErr result (HasNoReport kind script.now) }
+    ensures memory { result ≡ Err TaskError.Memory → IsWorkBegun kind script.now }
     ensures by_gate { (worker : ℕ) → result ≡ Err (TaskError.Stalled worker)
         → G.may_refuse gate.now worker }
 {

@@ -2,7 +2,6 @@
 ghost use Rattle.std.specs.Prelude.{◌≡◌};
 ghost use Rattle.qolb_run.specs.Outcome.{replay_ending, script_ending, work_ending};
 
-use crate::each_lock::AnyKind;
 use line_kinds::Lock;
 use qolb_replay::{Detail, ReplayError};
 use qolb_script::{ScriptError, WorkKind};
@@ -12,8 +11,8 @@ use thiserror::Error;
 /// A task that takes a script.
 #[derive(Clone, Copy, Debug, PartialEq, Eq)]
 pub enum Task {
-    /// To replay a schedule by lines of this kind.
-    Replay(AnyKind),
+    /// To replay a schedule by lines of this lock, or by the plain reference if there is none.
+    Replay(Option<Lock>),
     /// To run a step script, and to write this of each event.
     Steps(Detail),
     /// To do the work of a work script of this kind, over lines of this lock, by workers that wait so.

@@ -1,3 +1,4 @@
+pub mod Begun
 pub mod CommandLemmas
 pub mod NumberLemmas
 pub mod ScriptLemmas

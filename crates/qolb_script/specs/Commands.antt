@@ -1,5 +1,5 @@
 -- The commands of a schedule, and the header. (Of this project.)
-use Rattle.std.specs.Prelude.{ℕ, ◌+◌, ◌-◌, ◌^◌, ◌&&◌, nat_le, if◌then◌else◌, List, [], ◌∷◌, length, codes, Option, Some, None, Result, Ok, Err}
+use Rattle.std.specs.Prelude.{ℕ, ◌+◌, ◌-◌, ◌/◌, ◌^◌, nat_le, if◌then◌else◌, List, [], ◌∷◌, length, codes, Option, Some, None, Result, Ok, Err}
 use Rattle.std.specs.Str.{bytes_eq}
 use Rattle.hex.specs.Hex.{decode_of}
 use Rattle.hex.specs.declared.error.FromHexError.{FromHexError}
@@ -12,8 +12,12 @@ use Rattle.qolb_script.specs.declared.command.Command.TheVariants.{Enq, Poll, Sh
 use Rattle.qolb_model.specs.declared.config.TheConstants.{MAX_NODES}
 use Rattle.qolb_script.specs.declared.schedule.TheConstants.{MAX_LINES}
 use Rattle.qolb_script.specs.declared.command_reader.Header.{Header}
-use Rattle.qolb_script.specs.declared.text.LineFault.{LineFault}
-use Rattle.qolb_script.specs.declared.text.LineFault.TheVariants.{Bad}
+use Rattle.qolb_script.specs.declared.reason.Reason.{Reason}
+use Rattle.qolb_script.specs.declared.reason.Reason.TheVariants.{Begin, Byte, Word, Count, Hex, Fit}
+use Rattle.qolb_script.specs.declared.reason.ScriptKind.TheVariants.{Schedule}
+use Rattle.qolb_script.specs.declared.reason.Allowed.TheVariants as allowed
+use Rattle.qolb_script.specs.declared.reason.Form.TheVariants as form
+use Rattle.qolb_script.specs.Refusals.{and_then, unless_same}
 use Rattle.qolb_script.specs.Text.{words_of, is_plain, number_within}
 
 -- the node, and the line, that a command is of
@@ -35,11 +39,6 @@ line_of (Out node line) = line
 line_of (Shut node line) = line
 line_of (Write node line mask bytes) = line
 
--- the value, if there is one, passed to the next step
-abbrev pub and_then : {A B : Type 0} → Result A LineFault → (A → Result B LineFault) → Result B LineFault
-and_then (Ok a) next = next a
-and_then (Err fault) next = Err fault
-
 -- the command that a first word names, behind which are a node and a line
 abbrev pub named_command : List ℕ → Option (ℕ → ℕ → Command)
 named_command word =
@@ -51,63 +50,70 @@ named_command word =
     else if bytes_eq word (codes "shut") then Some Shut
     else None
 
--- a node from 1 to `nodes`, and a line from 0 to `lines` - 1
-abbrev pub node_within : ℕ → List ℕ → Result ℕ LineFault
-node_within nodes word = number_within 1 nodes word
+-- a node from 1 to `nodes`, by the word at this place; and a line from 0 to `lines` - 1, by the third word
+abbrev pub node_within : ℕ → ℕ → List ℕ → Result ℕ Reason
+node_within place nodes word = number_within place 1 nodes word
 
-abbrev pub line_within : ℕ → List ℕ → Result ℕ LineFault
-line_within lines word = number_within 0 (lines - 1) word
+abbrev pub line_within : ℕ → List ℕ → Result ℕ Reason
+line_within lines word = number_within 3 0 (lines - 1) word
 
--- a command of a node and a line
-abbrev pub command_at : ℕ → ℕ → Option (ℕ → ℕ → Command) → List ℕ → List ℕ → Result Command LineFault
-command_at nodes lines None node line = Err Bad
-command_at nodes lines (Some command) node line =
-    and_then (node_within nodes node) (λ n. and_then (line_within lines line) (λ l. Ok (command n l)))
+-- a call of the node and the line behind its first word
+abbrev pub call_at : ℕ → ℕ → (ℕ → ℕ → Command) → List (List ℕ) → Result Command Reason
+call_at nodes lines call (node ∷ line ∷ []) = and_then (node_within 2 nodes node) (λ n. and_then (line_within lines line) (λ l. Ok (call n l)))
+call_at nodes lines call words = Err (Count form.Call)
 
--- the mask and the line of a write from place `off` on, if these bytes fit
-abbrev pub placed_at : ℕ → Result (List ℕ) FromHexError → Result (Mask × Line64) LineFault
-placed_at off (Err error) = Err Bad
-placed_at off (Ok bytes) =
+abbrev pub call_of : ℕ → ℕ → Option (ℕ → ℕ → Command) → List (List ℕ) → Result Command Reason
+call_of nodes lines None words = Err (Word 1 allowed.Commands)
+call_of nodes lines (Some call) words = call_at nodes lines call words
+
+-- the mask and the line of a write from place `off` on of the bytes of the word at a place, if they fit. A word of too many digits does not
+-- fit, whether or not it is hex
+abbrev pub placed_at : ℕ → ℕ → List ℕ → Result (List ℕ) FromHexError → Result (Mask × Line64) Reason
+placed_at place off hex (Err error) = Err (if nat_le (length hex / 2) 64 then Hex place else Fit place)
+placed_at place off hex (Ok bytes) =
     if nat_le (off + length bytes) 64
     then Ok (record { 0 = placed_mask off (length bytes) }, record { bytes = placed_line off bytes })
-    else Err Bad
+    else Err (Fit place)
 
--- the mask and the line of a write, from its words for place and bytes
-abbrev pub placed_of : List ℕ → List ℕ → Result (Mask × Line64) LineFault
-placed_of off hex = and_then (number_within 0 63 off) (λ o. placed_at o (decode_of hex))
+-- the mask and the line of a write, from its words for place and bytes; the first of them is at this place of the line
+abbrev pub placed_of : ℕ → List ℕ → List ℕ → Result (Mask × Line64) Reason
+placed_of place off hex = and_then (number_within place 0 63 off) (λ o. placed_at (place + 1) o hex (decode_of hex))
 
-abbrev pub write_command : ℕ → ℕ → List ℕ → List ℕ → List ℕ → List ℕ → Result Command LineFault
-write_command nodes lines node line off hex =
-    and_then (node_within nodes node) (λ n. and_then (line_within lines line) (λ l. and_then (placed_of off hex) (λ p. Ok (Write n l p.0 p.1))))
+-- a write, behind its first word
+abbrev pub write_of : ℕ → ℕ → List (List ℕ) → Result Command Reason
+write_of nodes lines (node ∷ line ∷ off ∷ hex ∷ []) =
+    and_then (node_within 2 nodes node) (λ n. and_then (line_within lines line) (λ l. and_then (placed_of 4 off hex) (λ p. Ok (Write n l p.0 p.1))))
+write_of nodes lines words = Err (Count form.Write)
 
 -- the command that these words are
-abbrev pub command_of : ℕ → ℕ → List (List ℕ) → Result Command LineFault
-command_of nodes lines (word ∷ node ∷ line ∷ []) = command_at nodes lines (named_command word) node line
-command_of nodes lines (word ∷ node ∷ line ∷ off ∷ hex ∷ []) =
-    if bytes_eq word (codes "write") then write_command nodes lines node line off hex else Err Bad
-command_of nodes lines words = Err Bad
+abbrev pub command_of : ℕ → ℕ → List (List ℕ) → Result Command Reason
+command_of nodes lines [] = Err (Count form.Call)
+command_of nodes lines (first ∷ rest) = if bytes_eq first (codes "write") then write_of nodes lines rest else call_of nodes lines (named_command first) rest
 
--- the numbers of nodes and of lines
-abbrev pub sizes_of : List ℕ → List ℕ → Result (ℕ × ℕ) LineFault
-sizes_of nodes lines = and_then (number_within 1 MAX_NODES nodes) (λ n. and_then (number_within 1 MAX_LINES lines) (λ l. Ok (n, l)))
+-- a lease of at least one turn, by the word at this place
+abbrev pub lease_within : ℕ → List ℕ → Result ℕ Reason
+lease_within place word = number_within place 1 (2 ^ 64 - 1) word
 
--- a lease of at least one turn
-abbrev pub lease_within : List ℕ → Result ℕ LineFault
-lease_within word = number_within 1 (2 ^ 64 - 1) word
+-- the header of a schedule without a lease, and with one
+abbrev pub sizes_header : List ℕ → List ℕ → List ℕ → Result Header Reason
+sizes_header nodes third lines =
+    and_then (unless_same 3 allowed.Lines (codes "lines") third) (λ same. and_then (node_within 2 MAX_NODES nodes) (λ n. and_then (number_within 4 1 MAX_LINES lines) (λ l. Ok (record { nodes = n; lines = l; lease = None }))))
 
--- the lease, if there is a word for it
-abbrev pub lease_of : Option (List ℕ) → Result (Option ℕ) LineFault
-lease_of None = Ok None
-lease_of (Some word) = and_then (lease_within word) (λ turns. Ok (Some turns))
+abbrev pub leased_header : List ℕ → List ℕ → List ℕ → List ℕ → List ℕ → Result Header Reason
+leased_header nodes third lines fifth lease =
+    and_then (unless_same 3 allowed.Lines (codes "lines") third) (λ same. and_then (unless_same 5 allowed.Lease (codes "lease") fifth) (λ also. and_then (node_within 2 MAX_NODES nodes) (λ n. and_then (number_within 4 1 MAX_LINES lines) (λ l. and_then (lease_within 6 lease) (λ turns. Ok (record { nodes = n; lines = l; lease = Some turns }))))))
+
+-- a header behind its first word
+abbrev pub rest_of_header : List (List ℕ) → Result Header Reason
+rest_of_header (nodes ∷ third ∷ lines ∷ []) = sizes_header nodes third lines
+rest_of_header (nodes ∷ third ∷ lines ∷ fifth ∷ lease ∷ []) = leased_header nodes third lines fifth lease
+rest_of_header words = Err (Count (form.Header Schedule))
 
 -- the header that these words are: `nodes N lines L`, and perhaps `lease C`
-abbrev pub header_of : List (List ℕ) → Result Header LineFault
-header_of (first ∷ nodes ∷ third ∷ lines ∷ []) =
-    if bytes_eq first (codes "nodes") && bytes_eq third (codes "lines") then and_then (sizes_of nodes lines) (λ sizes. Ok (record { nodes = sizes.0; lines = sizes.1; lease = None })) else Err Bad
-header_of (first ∷ nodes ∷ third ∷ lines ∷ fifth ∷ lease ∷ []) =
-    if bytes_eq first (codes "nodes") && bytes_eq third (codes "lines") && bytes_eq fifth (codes "lease") then and_then (sizes_of nodes lines) (λ sizes. and_then (lease_within lease) (λ turns. Ok (record { nodes = sizes.0; lines = sizes.1; lease = Some turns }))) else Err Bad
-header_of words = Err Bad
+abbrev pub header_of : List (List ℕ) → Result Header Reason
+header_of [] = Err (Count (form.Header Schedule))
+header_of (first ∷ rest) = if bytes_eq first (codes "nodes") then rest_of_header rest else Err (Begin Schedule)
 
 -- a line that has a byte which no script has is bad, whatever its words
-abbrev pub read_line : {A : Type 0} → (List (List ℕ) → Result A LineFault) → List ℕ → Result A LineFault
-read_line read line = if is_plain line then read (words_of line) else Err Bad
+abbrev pub read_line : {A : Type 0} → (List (List ℕ) → Result A Reason) → List ℕ → Result A Reason
+read_line read line = if is_plain line then read (words_of line) else Err Byte

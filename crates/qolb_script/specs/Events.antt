@@ -1,14 +1,17 @@
 -- The events of a step script, and its header. (Of this project.)
-use Rattle.std.specs.Prelude.{ℕ, if◌then◌else◌, ◌&&◌, List, [], ◌∷◌, codes, Option, Some, None, Result, Ok, Err}
+use Rattle.std.specs.Prelude.{ℕ, if◌then◌else◌, List, [], ◌∷◌, codes, Option, Some, None, Result, Ok, Err}
 use Rattle.std.specs.Str.{bytes_eq}
 use Rattle.link_core.specs.declared.event.Event.{Event}
 use Rattle.link_core.specs.declared.event.Event.TheVariants.{Reset, Prepend, Link, Load, Home, Done, Grant, Roll, Freed, Write, Close}
 use Rattle.qolb_model.specs.declared.config.TheConstants.{MAX_NODES}
 use Rattle.qolb_script.specs.declared.event_reader.StepHeader.{StepHeader}
-use Rattle.qolb_script.specs.declared.text.LineFault.{LineFault}
-use Rattle.qolb_script.specs.declared.text.LineFault.TheVariants.{Bad}
-use Rattle.qolb_script.specs.Text.{number_within}
-use Rattle.qolb_script.specs.Commands.{and_then, node_within, placed_of, lease_within}
+use Rattle.qolb_script.specs.declared.reason.Reason.{Reason}
+use Rattle.qolb_script.specs.declared.reason.Reason.TheVariants.{Begin, Word, Count}
+use Rattle.qolb_script.specs.declared.reason.ScriptKind.TheVariants as script
+use Rattle.qolb_script.specs.declared.reason.Allowed.TheVariants as allowed
+use Rattle.qolb_script.specs.declared.reason.Form.TheVariants as form
+use Rattle.qolb_script.specs.Refusals.{and_then, unless_same}
+use Rattle.qolb_script.specs.Commands.{node_within, placed_of, lease_within}
 
 -- the event that a first word names, if it has only a node
 abbrev pub named_event : List ℕ → Option (ℕ → Event)
@@ -25,24 +28,37 @@ named_event word =
     else if bytes_eq word (codes "close") then Some Close
     else None
 
--- an event of a node
-abbrev pub event_at : ℕ → Option (ℕ → Event) → List ℕ → Result Event LineFault
-event_at nodes None node = Err Bad
-event_at nodes (Some event) node = and_then (node_within nodes node) (λ n. Ok (event n))
+-- an event of the node behind its first word
+abbrev pub step_at : ℕ → (ℕ → Event) → List (List ℕ) → Result Event Reason
+step_at nodes event (node ∷ []) = and_then (node_within 2 nodes node) (λ n. Ok (event n))
+step_at nodes event words = Err (Count form.Event)
 
--- the write of the bytes from a place on, if they fit into a line
-abbrev pub write_event : ℕ → List ℕ → List ℕ → List ℕ → Result Event LineFault
-write_event nodes node off hex = and_then (node_within nodes node) (λ n. and_then (placed_of off hex) (λ p. Ok (Write n p.0 p.1)))
+abbrev pub step_of : ℕ → Option (ℕ → Event) → List (List ℕ) → Result Event Reason
+step_of nodes None words = Err (Word 1 allowed.Events)
+step_of nodes (Some event) words = step_at nodes event words
+
+-- the write of the bytes from a place on, behind its first word
+abbrev pub step_write : ℕ → List (List ℕ) → Result Event Reason
+step_write nodes (node ∷ off ∷ hex ∷ []) = and_then (node_within 2 nodes node) (λ n. and_then (placed_of 3 off hex) (λ p. Ok (Write n p.0 p.1)))
+step_write nodes words = Err (Count form.StepWrite)
 
 -- the event that these words are
-abbrev pub event_of : ℕ → List (List ℕ) → Result Event LineFault
-event_of nodes (word ∷ node ∷ []) = event_at nodes (named_event word) node
-event_of nodes (word ∷ node ∷ off ∷ hex ∷ []) = if bytes_eq word (codes "write") then write_event nodes node off hex else Err Bad
-event_of nodes words = Err Bad
+abbrev pub event_of : ℕ → List (List ℕ) → Result Event Reason
+event_of nodes [] = Err (Count form.Event)
+event_of nodes (first ∷ rest) = if bytes_eq first (codes "write") then step_write nodes rest else step_of nodes (named_event first) rest
+
+-- the header of a step script with a lease
+abbrev pub leased_steps : List ℕ → List ℕ → List ℕ → Result StepHeader Reason
+leased_steps nodes third lease =
+    and_then (unless_same 3 allowed.Lease (codes "lease") third) (λ same. and_then (node_within 2 MAX_NODES nodes) (λ n. and_then (lease_within 4 lease) (λ turns. Ok (record { nodes = n; lease = Some turns }))))
+
+-- a header behind its first word
+abbrev pub rest_of_step_header : List (List ℕ) → Result StepHeader Reason
+rest_of_step_header (nodes ∷ []) = and_then (node_within 2 MAX_NODES nodes) (λ n. Ok (record { nodes = n; lease = None }))
+rest_of_step_header (nodes ∷ third ∷ lease ∷ []) = leased_steps nodes third lease
+rest_of_step_header words = Err (Count (form.Header script.Steps))
 
 -- the header that these words are: `nodes N`, and perhaps `lease C`
-abbrev pub step_header_of : List (List ℕ) → Result StepHeader LineFault
-step_header_of (first ∷ nodes ∷ []) = if bytes_eq first (codes "nodes") then and_then (number_within 1 MAX_NODES nodes) (λ n. Ok (record { nodes = n; lease = None })) else Err Bad
-step_header_of (first ∷ nodes ∷ third ∷ lease ∷ []) =
-    if bytes_eq first (codes "nodes") && bytes_eq third (codes "lease") then and_then (number_within 1 MAX_NODES nodes) (λ n. and_then (lease_within lease) (λ turns. Ok (record { nodes = n; lease = Some turns }))) else Err Bad
-step_header_of words = Err Bad
+abbrev pub step_header_of : List (List ℕ) → Result StepHeader Reason
+step_header_of [] = Err (Count (form.Header script.Steps))
+step_header_of (first ∷ rest) = if bytes_eq first (codes "nodes") then rest_of_step_header rest else Err (Begin script.Steps)

@@ -1,5 +1,5 @@
 -- The jobs of a work script, and its header. (Of this project.)
-use Rattle.std.specs.Prelude.{ℕ, ◌*◌, ◌-◌, ◌^◌, ◌<◌, ◌&&◌, if◌then◌else◌, List, [], ◌∷◌, codes, Result, Ok, Err}
+use Rattle.std.specs.Prelude.{ℕ, ◌*◌, ◌-◌, ◌^◌, ◌<◌, is_err, if◌then◌else◌, List, [], ◌∷◌, codes, Result, Ok, Err}
 use Rattle.std.specs.Str.{bytes_eq}
 use Rattle.qolb_model.specs.declared.config.TheConstants.{MAX_NODES}
 use Rattle.qolb_script.specs.declared.job.Job.{Job}
@@ -8,10 +8,16 @@ use Rattle.qolb_script.specs.declared.job.WorkKind.{WorkKind}
 use Rattle.qolb_script.specs.declared.job.WorkKind.TheVariants.{Board, Bank}
 use Rattle.qolb_script.specs.declared.job.TheConstants.{ACCOUNTS_A_LINE}
 use Rattle.qolb_script.specs.declared.job_reader.WorkHeader.{WorkHeader}
-use Rattle.qolb_script.specs.declared.text.LineFault.{LineFault}
-use Rattle.qolb_script.specs.declared.text.LineFault.TheVariants.{Bad}
+use Rattle.qolb_script.specs.declared.schedule.TheConstants.{MAX_LINES}
+use Rattle.qolb_script.specs.declared.reason.Reason.{Reason}
+use Rattle.qolb_script.specs.declared.reason.Reason.TheVariants.{Begin, Word, NoWorker, Count}
+use Rattle.qolb_script.specs.declared.reason.ScriptKind.TheVariants as script
+use Rattle.qolb_script.specs.declared.reason.Allowed.{Allowed}
+use Rattle.qolb_script.specs.declared.reason.Allowed.TheVariants as allowed
+use Rattle.qolb_script.specs.declared.reason.Form.TheVariants as form
+use Rattle.qolb_script.specs.Refusals.{and_then, unless_same}
 use Rattle.qolb_script.specs.Text.{number_within}
-use Rattle.qolb_script.specs.Commands.{and_then, node_within, sizes_of}
+use Rattle.qolb_script.specs.Commands.{node_within}
 
 -- the worker that does the job
 abbrev pub worker_of : Job → ℕ
@@ -30,61 +36,83 @@ IsOfKind Bank lines (PayOut worker account amount) = account < ACCOUNTS_A_LINE *
 IsOfKind Bank lines (Move worker source target amount) = (source < ACCOUNTS_A_LINE * lines) × (target < ACCOUNTS_A_LINE * lines)
 IsOfKind _ lines _ = ⊥
 
--- a task or an amount is any number; an account is one of the lines'
-abbrev pub any_number : List ℕ → Result ℕ LineFault
-any_number word = number_within 0 (2 ^ 64 - 1) word
+-- a worker, by the first word; a task or an amount is any number; an account is one of the lines'
+abbrev pub worker_within : ℕ → List ℕ → Result ℕ Reason
+worker_within workers word = node_within 1 workers word
 
-abbrev pub account_within : ℕ → List ℕ → Result ℕ LineFault
-account_within lines word = number_within 0 (ACCOUNTS_A_LINE * lines - 1) word
+abbrev pub any_number : ℕ → List ℕ → Result ℕ Reason
+any_number place word = number_within place 0 (2 ^ 64 - 1) word
 
--- the job at a board that these words are: `w take` or `w put task`
-abbrev pub board_job : ℕ → List (List ℕ) → Result Job LineFault
-board_job workers (worker ∷ verb ∷ []) =
-    if bytes_eq verb (codes "take") then and_then (node_within workers worker) (λ w. Ok (Take w)) else Err Bad
-board_job workers (worker ∷ verb ∷ task ∷ []) =
-    if bytes_eq verb (codes "put") then and_then (node_within workers worker) (λ w. and_then (any_number task) (λ t. Ok (Put w t))) else Err Bad
-board_job workers words = Err Bad
+abbrev pub account_within : ℕ → ℕ → List ℕ → Result ℕ Reason
+account_within place lines word = number_within place 0 (ACCOUNTS_A_LINE * lines - 1) word
+
+-- the reason why a line is no job if its second word names none
+abbrev pub no_job : Allowed → ℕ → List ℕ → Reason
+no_job all workers worker = if is_err (worker_within workers worker) then NoWorker workers else Word 2 all
+
+-- the jobs behind a worker and a second word, at a board and at a bank
+abbrev pub take_of : ℕ → List ℕ → List (List ℕ) → Result Job Reason
+take_of workers worker [] = and_then (worker_within workers worker) (λ w. Ok (Take w))
+take_of workers worker words = Err (Count form.Take)
+
+abbrev pub put_of : ℕ → List ℕ → List (List ℕ) → Result Job Reason
+put_of workers worker (task ∷ []) = and_then (worker_within workers worker) (λ w. and_then (any_number 3 task) (λ t. Ok (Put w t)))
+put_of workers worker words = Err (Count form.Put)
 
 -- a worker, an account and an amount
-abbrev pub payment_of : ℕ → ℕ → List ℕ → List ℕ → List ℕ → Result (ℕ × ℕ × ℕ) LineFault
-payment_of workers lines worker account amount =
-    and_then (node_within workers worker) (λ w. and_then (account_within lines account) (λ a. and_then (any_number amount) (λ n. Ok (w, a, n))))
-
--- the job that a second word names, if it has only a payment's numbers
-abbrev pub payment_job : ℕ → ℕ → List ℕ → List ℕ → List ℕ → List ℕ → Result Job LineFault
-payment_job workers lines verb worker account amount =
-    if bytes_eq verb (codes "in") then and_then (payment_of workers lines worker account amount) (λ p. Ok (PayIn p.0 p.1 p.2))
-    else if bytes_eq verb (codes "out") then and_then (payment_of workers lines worker account amount) (λ p. Ok (PayOut p.0 p.1 p.2))
-    else Err Bad
+abbrev pub payment_of : ℕ → ℕ → List ℕ → List (List ℕ) → Result (ℕ × ℕ × ℕ) Reason
+payment_of workers lines worker (account ∷ amount ∷ []) =
+    and_then (worker_within workers worker) (λ w. and_then (account_within 3 lines account) (λ a. and_then (any_number 4 amount) (λ n. Ok (w, a, n))))
+payment_of workers lines worker words = Err (Count form.Payment)
 
 -- a move from one account to another
-abbrev pub move_job : ℕ → ℕ → List ℕ → List ℕ → List ℕ → List ℕ → Result Job LineFault
-move_job workers lines worker source target amount =
-    and_then (node_within workers worker) (λ w. and_then (account_within lines source) (λ s. and_then (account_within lines target) (λ t. and_then (any_number amount) (λ n. Ok (Move w s t n)))))
+abbrev pub move_of : ℕ → ℕ → List ℕ → List (List ℕ) → Result Job Reason
+move_of workers lines worker (source ∷ target ∷ amount ∷ []) =
+    and_then (worker_within workers worker) (λ w. and_then (account_within 3 lines source) (λ s. and_then (account_within 4 lines target) (λ t. and_then (any_number 5 amount) (λ n. Ok (Move w s t n)))))
+move_of workers lines worker words = Err (Count form.Move)
+
+-- the job at a board that these words are: `w take` or `w put task`
+abbrev pub board_job : ℕ → List (List ℕ) → Result Job Reason
+board_job workers (worker ∷ verb ∷ rest) =
+    if bytes_eq verb (codes "take") then take_of workers worker rest
+    else if bytes_eq verb (codes "put") then put_of workers worker rest
+    else Err (no_job allowed.BoardJobs workers worker)
+board_job workers words = Err (Count (form.Job script.Board))
 
 -- the job at a bank that these words are: `w in account amount`, `w out account amount` or `w move from to amount`
-abbrev pub bank_job : ℕ → ℕ → List (List ℕ) → Result Job LineFault
-bank_job workers lines (worker ∷ verb ∷ account ∷ amount ∷ []) = payment_job workers lines verb worker account amount
-bank_job workers lines (worker ∷ verb ∷ source ∷ target ∷ amount ∷ []) =
-    if bytes_eq verb (codes "move") then move_job workers lines worker source target amount else Err Bad
-bank_job workers lines words = Err Bad
+abbrev pub bank_job : ℕ → ℕ → List (List ℕ) → Result Job Reason
+bank_job workers lines (worker ∷ verb ∷ rest) =
+    if bytes_eq verb (codes "in") then and_then (payment_of workers lines worker rest) (λ p. Ok (PayIn p.0 p.1 p.2))
+    else if bytes_eq verb (codes "out") then and_then (payment_of workers lines worker rest) (λ p. Ok (PayOut p.0 p.1 p.2))
+    else if bytes_eq verb (codes "move") then move_of workers lines worker rest
+    else Err (no_job allowed.BankJobs workers worker)
+bank_job workers lines words = Err (Count (form.Job script.Bank))
 
 -- the job of this kind of work that these words are
-abbrev pub job_of : WorkKind → ℕ → ℕ → List (List ℕ) → Result Job LineFault
+abbrev pub job_of : WorkKind → ℕ → ℕ → List (List ℕ) → Result Job Reason
 job_of Board workers lines words = board_job workers words
 job_of Bank workers lines words = bank_job workers lines words
 
+-- headers behind their first word
+abbrev pub rest_of_board : List (List ℕ) → Result WorkHeader Reason
+rest_of_board (second ∷ workers ∷ []) =
+    and_then (unless_same 2 allowed.Workers (codes "workers") second) (λ same. and_then (node_within 3 MAX_NODES workers) (λ w. Ok (record { workers = w; lines = 1 })))
+rest_of_board words = Err (Count (form.Header script.Board))
+
+abbrev pub rest_of_bank : List (List ℕ) → Result WorkHeader Reason
+rest_of_bank (second ∷ workers ∷ fourth ∷ lines ∷ []) =
+    and_then (unless_same 2 allowed.Workers (codes "workers") second) (λ same. and_then (unless_same 4 allowed.Lines (codes "lines") fourth) (λ also. and_then (node_within 3 MAX_NODES workers) (λ w. and_then (number_within 5 1 MAX_LINES lines) (λ l. Ok (record { workers = w; lines = l })))))
+rest_of_bank words = Err (Count (form.Header script.Bank))
+
 -- the header that these words are: `board workers W`, of a board's one line, or `bank workers W lines L`
-abbrev pub board_header : List (List ℕ) → Result WorkHeader LineFault
-board_header (first ∷ second ∷ workers ∷ []) =
-    if bytes_eq first (codes "board") && bytes_eq second (codes "workers") then and_then (number_within 1 MAX_NODES workers) (λ w. Ok (record { workers = w; lines = 1 })) else Err Bad
-board_header words = Err Bad
+abbrev pub board_header : List (List ℕ) → Result WorkHeader Reason
+board_header [] = Err (Count (form.Header script.Board))
+board_header (first ∷ rest) = if bytes_eq first (codes "board") then rest_of_board rest else Err (Begin script.Board)
 
-abbrev pub bank_header : List (List ℕ) → Result WorkHeader LineFault
-bank_header (first ∷ second ∷ workers ∷ fourth ∷ lines ∷ []) =
-    if bytes_eq first (codes "bank") && bytes_eq second (codes "workers") && bytes_eq fourth (codes "lines") then and_then (sizes_of workers lines) (λ sizes. Ok (record { workers = sizes.0; lines = sizes.1 })) else Err Bad
-bank_header words = Err Bad
+abbrev pub bank_header : List (List ℕ) → Result WorkHeader Reason
+bank_header [] = Err (Count (form.Header script.Bank))
+bank_header (first ∷ rest) = if bytes_eq first (codes "bank") then rest_of_bank rest else Err (Begin script.Bank)
 
-abbrev pub work_header_of : WorkKind → List (List ℕ) → Result WorkHeader LineFault
+abbrev pub work_header_of : WorkKind → List (List ℕ) → Result WorkHeader Reason
 work_header_of Board words = board_header words
 work_header_of Bank words = bank_header words

@@ -6,6 +6,7 @@ pub use Rattle.qolb_model.specs.Histories
 pub use Rattle.qolb_model.specs.Queue
 pub use Rattle.qolb_model.specs.OneOwner
 pub use Rattle.qolb_model.specs.Plain
+pub mod Refusals
 pub mod Text
 pub mod Commands
 pub mod Made
@@ -20,6 +21,7 @@ pub mod Stepped
 pub mod StepScript
 pub mod StepReply
 pub mod Jobs
+pub mod Headers
 pub mod WorkScript
 pub mod Reports
 pub mod Errors

@@ -1,13 +1,17 @@
 -- The script that some bytes are, or the first fault in them. (Of this project.)
-use Rattle.std.specs.Prelude.{ℕ, ◌+◌, ◌<◌, ◌≤◌, nat_le, if◌then◌else◌, List, [], ◌∷◌, All, Option, Result, Ok, Err}
+use Rattle.std.specs.Prelude.{ℕ, ◌+◌, ◌<◌, ◌≤◌, nat_le, if◌then◌else◌, List, [], ◌∷◌, All, take, Option, Result, Ok, Err, IsOk}
 use Rattle.qolb_script.specs.declared.command.Command.{Command}
 use Rattle.qolb_script.specs.declared.error.ScriptError.{ScriptError}
-use Rattle.qolb_script.specs.declared.error.ScriptError.TheVariants as error
 use Rattle.qolb_script.specs.declared.command_reader.Header.{Header}
-use Rattle.qolb_script.specs.declared.text.LineFault.{LineFault}
-use Rattle.qolb_script.specs.declared.text.LineFault.TheVariants.{Bad, Number}
+use Rattle.qolb_script.specs.declared.reason.Reason.{Reason}
+use Rattle.qolb_script.specs.declared.reason.Reason.TheVariants.{Empty, TooMany}
+use Rattle.qolb_script.specs.declared.reason.Refusal.{Refusal}
+use Rattle.qolb_script.specs.declared.reason.Refusal.TheVariants.{Line}
+use Rattle.qolb_script.specs.declared.reason.ScriptKind.TheVariants.{Schedule}
 use Rattle.qolb_script.specs.declared.schedule.TheConstants.{MAX_COMMANDS}
 use Rattle.qolb_script.specs.Text.{numbered_lines, worded}
+use Rattle.qolb_script.specs.Refusals.{of_line, with_error}
+use Rattle.qolb_script.specs.Headers.{header_at}
 use Rattle.qolb_script.specs.Commands.{header_of, command_of, read_line, node_of, line_of}
 
 -- a schedule: its numbers of nodes and lines, the lease of each line, if it has one, and the commands in order
@@ -21,45 +25,48 @@ pub record Script : Type 0 where
 abbrev pub IsInRange : Script → Type 0
 IsInRange script = All (λ c. (1 ≤ node_of c) × (node_of c ≤ script.nodes) × (line_of c < script.lines)) script.commands
 
--- the fault of line n
-abbrev pub fault_at : ℕ → LineFault → ScriptError
-fault_at n Bad = error.BadLine n
-fault_at n Number = error.Number n
-
-abbrev pub found_at : {A : Type 0} → ℕ → Result A LineFault → Result A ScriptError
-found_at n (Ok a) = Ok a
-found_at n (Err fault) = Err (fault_at n fault)
-
 -- an item and those after it
-abbrev pub followed_by : {A : Type 0} → Result A ScriptError → Result (List A) ScriptError → Result (List A) ScriptError
-followed_by (Err error) rest = Err error
-followed_by (Ok item) (Err error) = Err error
+abbrev pub followed_by : {A : Type 0} → Result A Refusal → Result (List A) Refusal → Result (List A) Refusal
+followed_by (Err why) rest = Err why
+followed_by (Ok item) (Err why) = Err why
 followed_by (Ok item) (Ok items) = Ok (item ∷ items)
 
 -- the items that the words of these lines are, below `before` items; a line past the largest number of items is refused unread
-abbrev pub items_of : {A : Type 0} → (List (List ℕ) → Result A LineFault) → ℕ → List (ℕ × List ℕ) → Result (List A) ScriptError
+abbrev pub items_of : {A : Type 0} → (List (List ℕ) → Result A Reason) → ℕ → List (ℕ × List ℕ) → Result (List A) Refusal
 items_of item_of before [] = Ok []
 items_of item_of before (line ∷ rest) =
     followed_by
-    (if nat_le MAX_COMMANDS before then Err (error.TooMany line.0) else found_at line.0 (read_line item_of line.1))
+    (if nat_le MAX_COMMANDS before then Err (Line line.0 TooMany) else of_line line.0 (read_line item_of line.1))
     (items_of item_of (before + 1) rest)
 
--- the commands
-abbrev pub commands_of : Header → ℕ → List (ℕ × List ℕ) → Result (List Command) ScriptError
-commands_of header before lines = items_of (command_of header.nodes header.lines) before lines
+-- a script made of the items, if there are some
+abbrev pub made_of : {A S : Type 0} → (A → S) → Result A Refusal → Result S Refusal
+made_of make (Err why) = Err why
+made_of make (Ok items) = Ok (make items)
 
-abbrev pub with_commands : Header → Result (List Command) ScriptError → Result Script ScriptError
-with_commands header (Err error) = Err error
-with_commands header (Ok commands) = Ok (record { nodes = header.nodes; lines = header.lines; lease = header.lease; commands = commands })
+-- the script of a header and of the items on the lines below it
+abbrev pub script_under : {H A S : Type 0} → (H → List (List ℕ) → Result A Reason) → (H → List A → S) → Result H Refusal → List (ℕ × List ℕ) → Result S Refusal
+script_under item_of make (Err why) rest = Err why
+script_under item_of make (Ok header) rest = made_of (make header) (items_of (item_of header) 0 rest)
 
-abbrev pub under_header : Result Header ScriptError → List (ℕ × List ℕ) → Result Script ScriptError
-under_header (Err error) rest = Err error
-under_header (Ok header) rest = with_commands header (commands_of header 0 rest)
+abbrev pub item_under : Header → List (List ℕ) → Result Command Reason
+item_under header words = command_of header.nodes header.lines words
+
+abbrev pub schedule_by : Header → List Command → Script
+schedule_by header commands = record { nodes = header.nodes; lines = header.lines; lease = header.lease; commands = commands }
 
 -- lines without words count, and are skipped; the first of the others is the header
-abbrev pub script_from : List (ℕ × List ℕ) → Result Script ScriptError
-script_from [] = Err (error.BadLine 1)
-script_from (line ∷ rest) = under_header (found_at line.0 (read_line header_of line.1)) rest
+abbrev pub schedule_from : List (ℕ × List ℕ) → Result Script Refusal
+schedule_from [] = Err (Line 1 (Empty Schedule))
+schedule_from (line ∷ rest) = script_under item_under schedule_by (header_at Schedule header_of line) rest
+
+-- the schedule that these bytes are, or why they are none
+abbrev pub parsed_schedule : List ℕ → Result Script Refusal
+parsed_schedule text = schedule_from (worded (numbered_lines text))
 
 abbrev pub script_of : List ℕ → Result Script ScriptError
-script_of text = script_from (worded (numbered_lines text))
+script_of text = with_error (parsed_schedule text)
+
+-- neither the header nor the first line below it is refused
+abbrev pub IsBegun : List ℕ → Type 0
+IsBegun text = IsOk (schedule_from (take 2 (worded (numbered_lines text))))

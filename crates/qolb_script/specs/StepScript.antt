@@ -1,14 +1,19 @@
 -- The step script that some bytes are, or the first fault in them. (Of this project.)
-use Rattle.std.specs.Prelude.{ℕ, ◌≤◌, List, [], ◌∷◌, All, Option, Result, Ok, Err}
+use Rattle.std.specs.Prelude.{ℕ, ◌≤◌, List, [], ◌∷◌, All, take, Option, Result, Ok, Err, IsOk}
 use Rattle.link_core.specs.declared.event.Event.{Event}
 use Rattle.link_core.specs.Steps.{node_of}
 use Rattle.qolb_script.specs.declared.event_reader.StepHeader.{StepHeader}
 use Rattle.qolb_script.specs.declared.error.ScriptError.{ScriptError}
-use Rattle.qolb_script.specs.declared.error.ScriptError.TheVariants as error
+use Rattle.qolb_script.specs.declared.reason.Reason.{Reason}
+use Rattle.qolb_script.specs.declared.reason.Reason.TheVariants.{Empty}
+use Rattle.qolb_script.specs.declared.reason.Refusal.{Refusal}
+use Rattle.qolb_script.specs.declared.reason.Refusal.TheVariants.{Line}
+use Rattle.qolb_script.specs.declared.reason.ScriptKind.TheVariants.{Steps}
 use Rattle.qolb_script.specs.Text.{numbered_lines, worded}
-use Rattle.qolb_script.specs.Commands.{read_line}
+use Rattle.qolb_script.specs.Refusals.{with_error}
+use Rattle.qolb_script.specs.Headers.{header_at}
 use Rattle.qolb_script.specs.Events.{event_of, step_header_of}
-use Rattle.qolb_script.specs.Script.{found_at, items_of}
+use Rattle.qolb_script.specs.Script.{script_under}
 
 -- a step script: its number of nodes, the line's lease, if it has one, and the events in order
 pub record StepScript : Type 0 where
@@ -20,22 +25,24 @@ pub record StepScript : Type 0 where
 abbrev pub IsOfItsNodes : StepScript → Type 0
 IsOfItsNodes script = All (λ e. (1 ≤ node_of e) × (node_of e ≤ script.nodes)) script.events
 
--- the events on these lines, below `before` events
-abbrev pub events_of : ℕ → ℕ → List (ℕ × List ℕ) → Result (List Event) ScriptError
-events_of nodes before lines = items_of (event_of nodes) before lines
+abbrev pub item_under : StepHeader → List (List ℕ) → Result Event Reason
+item_under header words = event_of header.nodes words
 
-abbrev pub with_events : StepHeader → Result (List Event) ScriptError → Result StepScript ScriptError
-with_events header (Err error) = Err error
-with_events header (Ok events) = Ok (record { nodes = header.nodes; lease = header.lease; events = events })
-
-abbrev pub under_step_header : Result StepHeader ScriptError → List (ℕ × List ℕ) → Result StepScript ScriptError
-under_step_header (Err error) rest = Err error
-under_step_header (Ok header) rest = with_events header (events_of header.nodes 0 rest)
+abbrev pub steps_by : StepHeader → List Event → StepScript
+steps_by header events = record { nodes = header.nodes; lease = header.lease; events = events }
 
 -- lines without words count, and are skipped; the first of the others is the header
-abbrev pub steps_from : List (ℕ × List ℕ) → Result StepScript ScriptError
-steps_from [] = Err (error.BadLine 1)
-steps_from (line ∷ rest) = under_step_header (found_at line.0 (read_line step_header_of line.1)) rest
+abbrev pub steps_from : List (ℕ × List ℕ) → Result StepScript Refusal
+steps_from [] = Err (Line 1 (Empty Steps))
+steps_from (line ∷ rest) = script_under item_under steps_by (header_at Steps step_header_of line) rest
+
+-- the step script that these bytes are, or why they are none
+abbrev pub parsed_steps : List ℕ → Result StepScript Refusal
+parsed_steps text = steps_from (worded (numbered_lines text))
 
 abbrev pub steps_of : List ℕ → Result StepScript ScriptError
-steps_of text = steps_from (worded (numbered_lines text))
+steps_of text = with_error (parsed_steps text)
+
+-- neither the header nor the first line below it is refused
+abbrev pub AreBegun : List ℕ → Type 0
+AreBegun text = IsOk (steps_from (take 2 (worded (numbered_lines text))))

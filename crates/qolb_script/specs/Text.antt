@@ -3,8 +3,8 @@ use Rattle.std.specs.Prelude.{ℕ, ◌==◌, ◌&&◌, ◌^◌, nat_le, nat_lt, 
 use Rattle.std.specs.List.{slice_split, list_all, enumerate_from}
 use Rattle.std.specs.Str.{all_ascii_digits}
 use Rattle.std.specs.Str.Parse.{digits_value}
-use Rattle.qolb_script.specs.declared.text.LineFault.{LineFault}
-use Rattle.qolb_script.specs.declared.text.LineFault.TheVariants.{Number}
+use Rattle.qolb_script.specs.declared.reason.Reason.{Reason}
+use Rattle.qolb_script.specs.declared.reason.Reason.TheVariants.{Number}
 
 -- the lines of a text, without their newlines and with their numbers, from 1
 abbrev pub numbered_lines : List ℕ → List (ℕ × List ℕ)
@@ -29,10 +29,10 @@ number_of word =
     then Some (digits_value 10 word)
     else None
 
--- this number, if it is from `low` to `high`
-abbrev pub between : ℕ → ℕ → Option ℕ → Result ℕ LineFault
-between low high None = Err Number
-between low high (Some n) = if nat_le low n && nat_le n high then Ok n else Err Number
+-- the number of the word at this place, if it is from `low` to `high`
+abbrev pub between : ℕ → ℕ → ℕ → Option ℕ → Result ℕ Reason
+between place low high None = Err (Number place low high)
+between place low high (Some n) = if nat_le low n && nat_le n high then Ok n else Err (Number place low high)
 
-abbrev pub number_within : ℕ → ℕ → List ℕ → Result ℕ LineFault
-number_within low high word = between low high (number_of word)
+abbrev pub number_within : ℕ → ℕ → ℕ → List ℕ → Result ℕ Reason
+number_within place low high word = between place low high (number_of word)

@@ -1,14 +1,18 @@
 -- The work script that some bytes are, or the first fault in them. (Of this project.)
-use Rattle.std.specs.Prelude.{ℕ, ◌≤◌, List, [], ◌∷◌, All, Result, Ok, Err}
+use Rattle.std.specs.Prelude.{ℕ, ◌≤◌, List, [], ◌∷◌, All, take, Result, Ok, Err, IsOk}
 use Rattle.qolb_script.specs.declared.job.Job.{Job}
 use Rattle.qolb_script.specs.declared.job.WorkKind.{WorkKind}
 use Rattle.qolb_script.specs.declared.job_reader.WorkHeader.{WorkHeader}
 use Rattle.qolb_script.specs.declared.error.ScriptError.{ScriptError}
-use Rattle.qolb_script.specs.declared.error.ScriptError.TheVariants as error
+use Rattle.qolb_script.specs.declared.reason.Reason.{Reason}
+use Rattle.qolb_script.specs.declared.reason.Reason.TheVariants.{Empty}
+use Rattle.qolb_script.specs.declared.reason.Refusal.{Refusal}
+use Rattle.qolb_script.specs.declared.reason.Refusal.TheVariants.{Line}
 use Rattle.qolb_script.specs.Text.{numbered_lines, worded}
-use Rattle.qolb_script.specs.Commands.{read_line}
+use Rattle.qolb_script.specs.Refusals.{with_error}
+use Rattle.qolb_script.specs.Headers.{header_at, script_kind}
 use Rattle.qolb_script.specs.Jobs.{worker_of, IsOfKind, job_of, work_header_of}
-use Rattle.qolb_script.specs.Script.{found_at, items_of}
+use Rattle.qolb_script.specs.Script.{script_under}
 
 -- a work script: its kind, its numbers of workers and of lines, and the jobs in order
 pub record WorkScript : Type 0 where
@@ -21,22 +25,24 @@ pub record WorkScript : Type 0 where
 abbrev pub AreOfIts : WorkScript → Type 0
 AreOfIts work = All (λ job. (1 ≤ worker_of job) × (worker_of job ≤ work.workers) × IsOfKind work.kind work.lines job) work.jobs
 
--- the jobs on these lines, below `before` jobs
-abbrev pub jobs_of : WorkKind → WorkHeader → ℕ → List (ℕ × List ℕ) → Result (List Job) ScriptError
-jobs_of kind header before lines = items_of (job_of kind header.workers header.lines) before lines
+abbrev pub item_under : WorkKind → WorkHeader → List (List ℕ) → Result Job Reason
+item_under kind header words = job_of kind header.workers header.lines words
 
-abbrev pub with_jobs : WorkKind → WorkHeader → Result (List Job) ScriptError → Result WorkScript ScriptError
-with_jobs kind header (Err error) = Err error
-with_jobs kind header (Ok jobs) = Ok (record { kind = kind; workers = header.workers; lines = header.lines; jobs = jobs })
-
-abbrev pub under_work_header : WorkKind → Result WorkHeader ScriptError → List (ℕ × List ℕ) → Result WorkScript ScriptError
-under_work_header kind (Err error) rest = Err error
-under_work_header kind (Ok header) rest = with_jobs kind header (jobs_of kind header 0 rest)
+abbrev pub work_by : WorkKind → WorkHeader → List Job → WorkScript
+work_by kind header jobs = record { kind = kind; workers = header.workers; lines = header.lines; jobs = jobs }
 
 -- lines without words count, and are skipped; the first of the others is the header
-abbrev pub work_from : WorkKind → List (ℕ × List ℕ) → Result WorkScript ScriptError
-work_from kind [] = Err (error.BadLine 1)
-work_from kind (line ∷ rest) = under_work_header kind (found_at line.0 (read_line (work_header_of kind) line.1)) rest
+abbrev pub work_from : WorkKind → List (ℕ × List ℕ) → Result WorkScript Refusal
+work_from kind [] = Err (Line 1 (Empty (script_kind kind)))
+work_from kind (line ∷ rest) = script_under (item_under kind) (work_by kind) (header_at (script_kind kind) (work_header_of kind) line) rest
+
+-- the work script that these bytes are, or why they are none
+abbrev pub parsed_work : WorkKind → List ℕ → Result WorkScript Refusal
+parsed_work kind text = work_from kind (worded (numbered_lines text))
 
 abbrev pub work_of : WorkKind → List ℕ → Result WorkScript ScriptError
-work_of kind text = work_from kind (worded (numbered_lines text))
+work_of kind text = with_error (parsed_work kind text)
+
+-- neither the header nor the first line below it is refused
+abbrev pub IsWorkBegun : WorkKind → List ℕ → Type 0
+IsWorkBegun kind text = IsOk (work_from kind (take 2 (worded (numbered_lines text))))

@@ -1,16 +1,16 @@
-ghost use Rattle.std.specs.Prelude.{◌≡◌, ◌≤◌, ◌<◌, IfOk, MatchResult, find};
-ghost use Rattle.std.specs.Option.{option_copied};
+ghost use Rattle.std.specs.Prelude.{◌≡◌, ◌≤◌, ◌<◌, IfOk, find};
 ghost use Rattle.std.specs.Str.{bytes_eq};
 ghost use Rattle.qolb_model.specs.Opening.{AreNodes};
 ghost use Rattle.qolb_model.specs.Leases.{IsLease};
 ghost use Rattle.hex.specs.Hex.{decode_of};
 ghost use Rattle.qolb_script.specs.Commands as spec;
 ghost use Rattle.qolb_script.specs.Made.{word_of, made};
-ghost use Rattle.qolb_script.specs.Reading.{words_left, lease_words, IsNoLease};
+ghost use Rattle.qolb_script.specs.Reading.{words_left};
 
 use crate::command::Command;
+use crate::reason::{Allowed, Form, Reason, ScriptKind, same_word};
 use crate::schedule::MAX_LINES;
-use crate::text::{LineFault, ReadItem, Words, number_within};
+use crate::text::{ReadItem, Words, number_within};
 use hex::decode_to_slice;
 use line_lanes::{Line64, Mask, placed};
 use qolb_model::MAX_NODES;
@@ -115,182 +115,197 @@ impl ReadItem for CommandReader {
     ghost in_range = { λ r c. (1 ≤ spec.node_of c) × (spec.node_of c ≤ r.nodes)
         × (spec.line_of c < r.lines) };
 
-    fn read_item(&self, line: &[u8]) -> Result<Command, LineFault> {
+    fn read_item(&self, line: &[u8]) -> Result<Command, Reason> {
         read_command(self.nodes, self.lines, line)
     }
 }
 
 /// Reads a header line: the numbers of nodes and of lines, and the lease if there is one.
-pub fn read_header(line: &[u8]) -> Result<Header, LineFault>
+pub fn read_header(line: &[u8]) -> Result<Header, Reason>
     ensures header { result ≡ spec.read_line spec.header_of line.now }
     ensures nodes { IfOk result (λ header. AreNodes header.nodes) }
     ensures lines { IfOk result (λ header. (1 ≤ header.lines) × (header.lines ≤ MAX_LINES)) }
     ensures lease { IfOk result (λ header. IsLease header.lease) }
 {
     let mut words = Words::of_line(line)?;
-    let nodes = words.named(NODES)?;
-    let lines = words.named(LINES)?;
-    let lease = lease_word(words)?;
-    let (nodes, lines) = read_sizes(nodes, lines)?;
-    let lease = read_lease(lease)?;
+    match words.next() {
+        Some(first) if first == NODES => read_rest_of_header(words),
+        Some(_) => Err(Reason::Begin(ScriptKind::Schedule)),
+        None => Err(Reason::Count(Form::Header(ScriptKind::Schedule))),
+    }
+}
+
+/// Reads a header behind its first word.
+fn read_rest_of_header(mut words: Words) -> Result<Header, Reason>
+    ensures header { result ≡ spec.rest_of_header (words_left words.entry) }
+    ensures nodes { IfOk result (λ header. AreNodes header.nodes) }
+    ensures lines { IfOk result (λ header. (1 ≤ header.lines) × (header.lines ≤ MAX_LINES)) }
+    ensures lease { IfOk result (λ header. IsLease header.lease) }
+{
+    let (Some(nodes), Some(third), Some(lines)) = (words.next(), words.next(), words.next()) else {
+        return Err(Reason::Count(Form::Header(ScriptKind::Schedule)));
+    };
+    match (words.next(), words.next(), words.next()) {
+        (None, _, _) => read_sizes(nodes, third, lines),
+        (Some(fifth), Some(lease), None) => read_leased(nodes, third, lines, fifth, lease),
+        _ => Err(Reason::Count(Form::Header(ScriptKind::Schedule))),
+    }
+}
+
+/// Reads a header without a lease.
+fn read_sizes(nodes: &[u8], third: &[u8], lines: &[u8]) -> Result<Header, Reason>
+    ensures header { result ≡ spec.sizes_header nodes.now third.now lines.now }
+    ensures nodes { IfOk result (λ header. AreNodes header.nodes) }
+    ensures lines { IfOk result (λ header. (1 ≤ header.lines) × (header.lines ≤ MAX_LINES)) }
+    ensures lease { IfOk result (λ header. IsLease header.lease) }
+{
+    same_word(3, Allowed::Lines, LINES, third)?;
     Ok(Header {
-        nodes,
-        lines,
-        lease,
+        nodes: node_within(2, MAX_NODES, nodes)?,
+        lines: number_within(4, 1, MAX_LINES, lines)?,
+        lease: None,
     })
 }
 
-/// Returns the word for the lease, or `None` if it is left out. No other word may be at the end of a header.
-pub fn lease_word<'a>(mut words: Words<'a>) -> Result<Option<&'a [u8]>, LineFault>
-    ensures { MatchResult result
-        (λ lease. words_left words.entry ≡ lease_words (option_copied lease))
-        (λ fault. (fault ≡ LineFault.Bad) × IsNoLease (words_left words.entry)) }
+/// Reads a header with a lease.
+fn read_leased(
+    nodes: &[u8],
+    third: &[u8],
+    lines: &[u8],
+    fifth: &[u8],
+    lease: &[u8],
+) -> Result<Header, Reason>
+    ensures header { result ≡ spec.leased_header nodes.now third.now lines.now
+        fifth.now lease.now }
+    ensures nodes { IfOk result (λ header. AreNodes header.nodes) }
+    ensures lines { IfOk result (λ header. (1 ≤ header.lines) × (header.lines ≤ MAX_LINES)) }
+    ensures lease { IfOk result (λ header. IsLease header.lease) }
 {
-    match (words.next(), words.next(), words.next()) {
-        (None, _, _) => Ok(None),
-        (Some(name), Some(word), None) if name == LEASE => Ok(Some(word)),
-        _ => Err(LineFault::Bad),
-    }
+    same_word(3, Allowed::Lines, LINES, third)?;
+    same_word(5, Allowed::Lease, LEASE, fifth)?;
+    Ok(Header {
+        nodes: node_within(2, MAX_NODES, nodes)?,
+        lines: number_within(4, 1, MAX_LINES, lines)?,
+        lease: Some(lease_within(6, lease)?),
+    })
 }
 
-/// Reads the numbers of nodes and of lines.
-pub fn read_sizes(nodes: &[u8], lines: &[u8]) -> Result<(u64, u64), LineFault>
-    ensures sizes { result ≡ spec.sizes_of nodes.now lines.now }
-    ensures nodes { IfOk result (λ sizes. AreNodes sizes.0) }
-    ensures lines { IfOk result (λ sizes. (1 ≤ sizes.1) × (sizes.1 ≤ MAX_LINES)) }
-{
-    let nodes = number_within(1, MAX_NODES, nodes)?;
-    let lines = number_within(1, MAX_LINES, lines)?;
-    Ok((nodes, lines))
-}
-
-/// Reads the lease, if there is a word for it.
-pub fn read_lease(word: Option<&[u8]>) -> Result<Option<u64>, LineFault>
-    ensures lease { result ≡ spec.lease_of (option_copied word.entry) }
-    ensures range { IfOk result (λ lease. IsLease lease) }
-{
-    match word {
-        Some(word) => Ok(Some(lease_within(word)?)),
-        None => Ok(None),
-    }
-}
-
-/// Reads a lease of at least one turn.
-fn lease_within(word: &[u8]) -> Result<u64, LineFault>
-    ensures lease { result ≡ spec.lease_within word.now }
+/// Reads a lease of at least one turn, from the word at this place.
+pub fn lease_within(place: u64, word: &[u8]) -> Result<u64, Reason>
+    ensures lease { result ≡ spec.lease_within place word.now }
     ensures range { IfOk result (λ turns. 1 ≤ turns) }
 {
-    number_within(1, u64::MAX, word)
+    number_within(place, 1, u64::MAX, word)
 }
 
 /// Reads the command on a line, under a header of these numbers.
-fn read_command(nodes: u64, lines: u64, text: &[u8]) -> Result<Command, LineFault>
+fn read_command(nodes: u64, lines: u64, text: &[u8]) -> Result<Command, Reason>
     requires { 1 ≤ lines }
     ensures command { result ≡ spec.read_line (spec.command_of nodes lines) text.now }
     ensures range { IfOk result (λ c. (1 ≤ spec.node_of c) × (spec.node_of c ≤ nodes)
         × (spec.line_of c < lines)) }
 {
     let mut words = Words::of_line(text)?;
-    let (Some(first), Some(node), Some(line)) = (words.next(), words.next(), words.next()) else {
-        return Err(LineFault::Bad);
+    let Some(first) = words.next() else {
+        return Err(Reason::Count(Form::Call));
     };
-    match (words.next(), words.next(), words.next()) {
-        (None, _, _) => read_named_command(nodes, lines, first, node, line),
-        (Some(off), Some(hex), None) if first == WRITE => read_write(
-            nodes, lines, node, line, off, hex,
-        ),
-        _ => Err(LineFault::Bad),
+    if first == WRITE {
+        return read_write(nodes, lines, words);
+    }
+    match Verb::named(first) {
+        Some(verb) => read_call(nodes, lines, verb, words),
+        None => Err(Reason::Word {
+            place: 1,
+            allowed: Allowed::Commands,
+        }),
     }
 }
 
-/// Reads a node, from 1 to `nodes`.
-pub fn node_within(nodes: u64, word: &[u8]) -> Result<u64, LineFault>
-    ensures node { result ≡ spec.node_within nodes word.now }
+/// Reads a node, from 1 to `nodes`, from the word at this place.
+pub fn node_within(place: u64, nodes: u64, word: &[u8]) -> Result<u64, Reason>
+    ensures node { result ≡ spec.node_within place nodes word.now }
     ensures range { IfOk result (λ n. (1 ≤ n) × (n ≤ nodes)) }
 {
-    number_within(1, nodes, word)
+    number_within(place, 1, nodes, word)
 }
 
-/// Reads a line number, from 0 to `lines` - 1.
-fn line_within(lines: u64, word: &[u8]) -> Result<u64, LineFault>
+/// Reads a line number, from 0 to `lines` - 1, from the third word.
+fn line_within(lines: u64, word: &[u8]) -> Result<u64, Reason>
     requires { 1 ≤ lines }
     ensures line { result ≡ spec.line_within lines word.now }
     ensures range { IfOk result (λ l. l < lines) }
 {
-    number_within(0, lines - 1, word)
+    number_within(3, 0, lines - 1, word)
 }
 
-/// Reads the command of a node and a line that a first word names.
-fn read_named_command(
-    nodes: u64,
-    lines: u64,
-    first: &[u8],
-    node: &[u8],
-    line: &[u8],
-) -> Result<Command, LineFault>
+/// Reads a call behind its first word.
+fn read_call(nodes: u64, lines: u64, verb: Verb, mut words: Words) -> Result<Command, Reason>
     requires { 1 ≤ lines }
-    ensures command { result ≡ spec.command_at nodes lines
-        (spec.named_command first.now) node.now line.now }
+    ensures command { result ≡ spec.call_at nodes lines (made verb) (words_left words.entry) }
     ensures range { IfOk result (λ c. (1 ≤ spec.node_of c) × (spec.node_of c ≤ nodes)
         × (spec.line_of c < lines)) }
 {
-    let Some(verb) = Verb::named(first) else {
-        return Err(LineFault::Bad);
+    match (words.next(), words.next(), words.next()) {
+        (Some(node), Some(line), None) => {
+            let node = node_within(2, nodes, node)?;
+            let line = line_within(lines, line)?;
+            Ok(verb.command(node, line))
+        }
+        _ => Err(Reason::Count(Form::Call)),
+    }
+}
+
+/// Reads a write of hex bytes from a place of a line on, behind its first word.
+fn read_write(nodes: u64, lines: u64, mut words: Words) -> Result<Command, Reason>
+    requires { 1 ≤ lines }
+    ensures command { result ≡ spec.write_of nodes lines (words_left words.entry) }
+    ensures range { IfOk result (λ c. (1 ≤ spec.node_of c) × (spec.node_of c ≤ nodes)
+        × (spec.line_of c < lines)) }
+{
+    let (Some(node), Some(line)) = (words.next(), words.next()) else {
+        return Err(Reason::Count(Form::Write));
     };
-    let node = node_within(nodes, node)?;
-    let line = line_within(lines, line)?;
-    Ok(verb.command(node, line))
+    match (words.next(), words.next(), words.next()) {
+        (Some(off), Some(hex), None) => {
+            let node = node_within(2, nodes, node)?;
+            let line = line_within(lines, line)?;
+            let (mask, bytes) = read_placed(4, off, hex)?;
+            Ok(Command::Write {
+                node,
+                line,
+                mask,
+                bytes,
+            })
+        }
+        _ => Err(Reason::Count(Form::Write)),
+    }
 }
 
-/// Reads a write of hex bytes from a place of a line on.
-fn read_write(
-    nodes: u64,
-    lines: u64,
-    node: &[u8],
-    line: &[u8],
-    off: &[u8],
-    hex: &[u8],
-) -> Result<Command, LineFault>
-    requires { 1 ≤ lines }
-    ensures command { result ≡ spec.write_command nodes lines node.now line.now off.now hex.now }
-    ensures range { IfOk result (λ c. (1 ≤ spec.node_of c) × (spec.node_of c ≤ nodes)
-        × (spec.line_of c < lines)) }
+/// Reads the mask and the bytes of a write, from its words for place and bytes. The first of them is word `place` of its line.
+pub fn read_placed(place: u64, off: &[u8], hex: &[u8]) -> Result<(Mask, Line64), Reason>
+    requires { place < 10 }
+    ensures { result ≡ spec.placed_of place off.now hex.now }
 {
-    let node = node_within(nodes, node)?;
-    let line = line_within(lines, line)?;
-    let (mask, bytes) = read_placed(off, hex)?;
-    Ok(Command::Write {
-        node,
-        line,
-        mask,
-        bytes,
-    })
+    let off = number_within(place, 0, LAST_PLACE, off)?;
+    placed_at(place + 1, off as usize, hex)
 }
 
-/// Reads the mask and the bytes of a write, from its words for place and bytes.
-pub fn read_placed(off: &[u8], hex: &[u8]) -> Result<(Mask, Line64), LineFault>
-    ensures { result ≡ spec.placed_of off.now hex.now }
-{
-    let off = number_within(0, LAST_PLACE, off)?;
-    placed_at(off as usize, hex)
-}
-
-/// Reads the mask and the bytes of a write of hex bytes from place `off` on, if they fit into a line.
-fn placed_at(off: usize, hex: &[u8]) -> Result<(Mask, Line64), LineFault>
+/// Reads the mask and the bytes of a write of hex bytes from place `off` on, if they fit into a line. The bytes are word `place` of its line.
+fn placed_at(place: u64, off: usize, hex: &[u8]) -> Result<(Mask, Line64), Reason>
     requires { off < 64 }
-    ensures { result ≡ spec.placed_at off (decode_of hex.now) }
+    ensures { result ≡ spec.placed_at place off hex.now (decode_of hex.now) }
 {
     let len = hex.len() / 2;
     if len > MAX_BYTES {
-        return Err(LineFault::Bad);
+        return Err(Reason::Fit(place));
     }
     let mut buffer = [0; MAX_BYTES];
     let bytes = &mut buffer[..len];
     if decode_to_slice(hex, bytes).is_err() {
-        return Err(LineFault::Bad);
+        return Err(Reason::Hex(place));
     }
     let Some((mask, bytes)) = placed(off, bytes) else {
-        return Err(LineFault::Bad);
+        return Err(Reason::Fit(place));
     };
     Ok((mask, bytes))
 }

@@ -3,11 +3,14 @@ ghost use Rattle.qolb_model.specs.Opening.{AreNodes};
 ghost use Rattle.qolb_model.specs.Leases.{IsLease};
 ghost use Rattle.qolb_script.specs.Commands.{read_line};
 ghost use Rattle.qolb_script.specs.Events as spec;
+ghost use Rattle.qolb_script.specs.Reading.{words_left};
+ghost use Rattle.qolb_script.specs.Stepped.{event_of};
 ghost use Rattle.link_core.specs.Steps.{node_of};
 
-use crate::command_reader::{NODES, WRITE, lease_word, node_within, read_lease, read_placed};
+use crate::command_reader::{LEASE, NODES, WRITE, lease_within, node_within, read_placed};
+use crate::reason::{Allowed, Form, Reason, ScriptKind, same_word};
 use crate::step::Step;
-use crate::text::{LineFault, ReadItem, Words, number_within};
+use crate::text::{ReadItem, Words};
 use link_core::Event;
 use qolb_model::MAX_NODES;
 
@@ -24,7 +27,7 @@ impl ReadItem for EventReader {
 
     ghost in_range = { λ r e. (1 ≤ node_of e) × (node_of e ≤ r.nodes) };
 
-    fn read_item(&self, line: &[u8]) -> Result<Event, LineFault> {
+    fn read_item(&self, line: &[u8]) -> Result<Event, Reason> {
         read_event(self.nodes, line)
     }
 }
@@ -37,52 +40,97 @@ pub struct StepHeader {
 }
 
 /// Reads the header line of a step script: the number of nodes, and the lease if there is one.
-pub fn read_step_header(text: &[u8]) -> Result<StepHeader, LineFault>
+pub fn read_step_header(text: &[u8]) -> Result<StepHeader, Reason>
     ensures header { result ≡ read_line spec.step_header_of text.now }
     ensures nodes { IfOk result (λ header. AreNodes header.nodes) }
     ensures lease { IfOk result (λ header. IsLease header.lease) }
 {
     let mut words = Words::of_line(text)?;
-    let nodes = words.named(NODES)?;
-    let lease = lease_word(words)?;
-    let nodes = number_within(1, MAX_NODES, nodes)?;
-    let lease = read_lease(lease)?;
-    Ok(StepHeader { nodes, lease })
+    match words.next() {
+        Some(first) if first == NODES => read_rest_of_header(words),
+        Some(_) => Err(Reason::Begin(ScriptKind::Steps)),
+        None => Err(Reason::Count(Form::Header(ScriptKind::Steps))),
+    }
+}
+
+/// Reads a header behind its first word.
+fn read_rest_of_header(mut words: Words) -> Result<StepHeader, Reason>
+    ensures header { result ≡ spec.rest_of_step_header (words_left words.entry) }
+    ensures nodes { IfOk result (λ header. AreNodes header.nodes) }
+    ensures lease { IfOk result (λ header. IsLease header.lease) }
+{
+    let Some(nodes) = words.next() else {
+        return Err(Reason::Count(Form::Header(ScriptKind::Steps)));
+    };
+    match (words.next(), words.next(), words.next()) {
+        (None, _, _) => Ok(StepHeader {
+            nodes: node_within(2, MAX_NODES, nodes)?,
+            lease: None,
+        }),
+        (Some(third), Some(lease), None) => read_leased(nodes, third, lease),
+        _ => Err(Reason::Count(Form::Header(ScriptKind::Steps))),
+    }
+}
+
+/// Reads a header with a lease.
+fn read_leased(nodes: &[u8], third: &[u8], lease: &[u8]) -> Result<StepHeader, Reason>
+    ensures header { result ≡ spec.leased_steps nodes.now third.now lease.now }
+    ensures nodes { IfOk result (λ header. AreNodes header.nodes) }
+    ensures lease { IfOk result (λ header. IsLease header.lease) }
+{
+    same_word(3, Allowed::Lease, LEASE, third)?;
+    Ok(StepHeader {
+        nodes: node_within(2, MAX_NODES, nodes)?,
+        lease: Some(lease_within(4, lease)?),
+    })
 }
 
 /// Reads the event on a line, of one of `nodes` nodes.
-fn read_event(nodes: u64, text: &[u8]) -> Result<Event, LineFault>
+fn read_event(nodes: u64, text: &[u8]) -> Result<Event, Reason>
     ensures event { result ≡ read_line (spec.event_of nodes) text.now }
     ensures range { IfOk result (λ e. (1 ≤ node_of e) × (node_of e ≤ nodes)) }
 {
     let mut words = Words::of_line(text)?;
-    let (Some(first), Some(node)) = (words.next(), words.next()) else {
-        return Err(LineFault::Bad);
+    let Some(first) = words.next() else {
+        return Err(Reason::Count(Form::Event));
     };
-    match (words.next(), words.next(), words.next()) {
-        (None, _, _) => named_event(nodes, first, node),
-        (Some(off), Some(hex), None) if first == WRITE => write_event(nodes, node, off, hex),
-        _ => Err(LineFault::Bad),
+    if first == WRITE {
+        return read_write(nodes, words);
+    }
+    match Step::named(first) {
+        Some(step) => read_step(nodes, step, words),
+        None => Err(Reason::Word {
+            place: 1,
+            allowed: Allowed::Events,
+        }),
     }
 }
 
-/// Reads the event of a node that a first word names.
-fn named_event(nodes: u64, first: &[u8], node: &[u8]) -> Result<Event, LineFault>
-    ensures event { result ≡ spec.event_at nodes (spec.named_event first.now) node.now }
+/// Reads an event behind its first word.
+fn read_step(nodes: u64, step: Step, mut words: Words) -> Result<Event, Reason>
+    ensures event { result ≡ spec.step_at nodes (event_of step) (words_left words.entry) }
     ensures range { IfOk result (λ e. (1 ≤ node_of e) × (node_of e ≤ nodes)) }
 {
-    let Some(step) = Step::named(first) else {
-        return Err(LineFault::Bad);
-    };
-    Ok(step.event(node_within(nodes, node)?))
+    match (words.next(), words.next()) {
+        (Some(node), None) => Ok(step.event(node_within(2, nodes, node)?)),
+        _ => Err(Reason::Count(Form::Event)),
+    }
 }
 
-/// Reads a write of hex bytes from a place on, into the bytes of a holder.
-fn write_event(nodes: u64, node: &[u8], off: &[u8], hex: &[u8]) -> Result<Event, LineFault>
-    ensures event { result ≡ spec.write_event nodes node.now off.now hex.now }
+/// Reads a write of hex bytes from a place on, into the bytes of a holder, behind its first word.
+fn read_write(nodes: u64, mut words: Words) -> Result<Event, Reason>
+    ensures event { result ≡ spec.step_write nodes (words_left words.entry) }
     ensures range { IfOk result (λ e. (1 ≤ node_of e) × (node_of e ≤ nodes)) }
 {
-    let node = node_within(nodes, node)?;
-    let (mask, bytes) = read_placed(off, hex)?;
-    Ok(Event::Write(node, mask, bytes))
+    let Some(node) = words.next() else {
+        return Err(Reason::Count(Form::StepWrite));
+    };
+    match (words.next(), words.next(), words.next()) {
+        (Some(off), Some(hex), None) => {
+            let node = node_within(2, nodes, node)?;
+            let (mask, bytes) = read_placed(3, off, hex)?;
+            Ok(Event::Write(node, mask, bytes))
+        }
+        _ => Err(Reason::Count(Form::StepWrite)),
+    }
 }

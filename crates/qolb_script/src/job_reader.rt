@@ -1,14 +1,16 @@
 //! Reading the header and the jobs of a work script.
 ghost use Rattle.std.specs.Prelude.{◌≡◌, ◌≤◌, ◌<◌, ◌*◌, IfOk};
 ghost use Rattle.qolb_model.specs.Opening.{AreNodes};
-ghost use Rattle.qolb_script.specs.Commands.{read_line, sizes_of};
+ghost use Rattle.qolb_script.specs.Commands.{read_line};
 ghost use Rattle.qolb_script.specs.Jobs as spec;
+ghost use Rattle.qolb_script.specs.Reading.{words_left};
 ghost use Rattle.qolb_script.specs.declared.schedule.TheConstants.{MAX_LINES};
 
-use crate::command_reader::{LINES, node_within, read_sizes};
+use crate::command_reader::{LINES, node_within};
 use crate::job::{ACCOUNTS_A_LINE, Job, WorkKind};
+use crate::reason::{Allowed, Form, Reason, ScriptKind, same_word};
 use crate::schedule::MAX_LINES;
-use crate::text::{LineFault, ReadItem, Words, number_within};
+use crate::text::{ReadItem, Words, number_within};
 use qolb_model::MAX_NODES;
 
 /// The words of headers.
@@ -54,7 +56,7 @@ impl ReadItem for JobReader {
     ghost in_range = { λ r job. (1 ≤ spec.worker_of job) × (spec.worker_of job ≤ r.workers)
         × spec.IsOfKind r.kind r.lines job };
 
-    fn read_item(&self, line: &[u8]) -> Result<Job, LineFault> {
+    fn read_item(&self, line: &[u8]) -> Result<Job, Reason> {
         match self.kind {
             WorkKind::Board => read_board_job(self.workers, line),
             WorkKind::Bank => read_bank_job(self.workers, self.lines, line),
@@ -63,7 +65,7 @@ impl ReadItem for JobReader {
 }
 
 /// Reads the header line of a work script of this kind.
-pub fn read_work_header(kind: WorkKind, text: &[u8]) -> Result<WorkHeader, LineFault>
+pub fn read_work_header(kind: WorkKind, text: &[u8]) -> Result<WorkHeader, Reason>
     ensures header { result ≡ read_line (spec.work_header_of kind) text.now }
     ensures workers { IfOk result (λ header. AreNodes header.workers) }
     ensures lines { IfOk result (λ header. (1 ≤ header.lines) × (header.lines ≤ MAX_LINES)) }
@@ -76,60 +78,133 @@ pub fn read_work_header(kind: WorkKind, text: &[u8]) -> Result<WorkHeader, LineF
 }
 
 /// Reads the header of a board's work.
-fn read_board_header(text: &[u8]) -> Result<WorkHeader, LineFault>
+fn read_board_header(text: &[u8]) -> Result<WorkHeader, Reason>
     ensures header { result ≡ read_line spec.board_header text.now }
     ensures workers { IfOk result (λ header. AreNodes header.workers) }
     ensures one { IfOk result (λ header. header.lines ≡ 1) }
 {
     let mut words = Words::of_line(text)?;
-    words.pass(BOARD)?;
-    let workers = words.named(WORKERS)?;
-    words.end()?;
-    Ok(WorkHeader {
-        workers: number_within(1, MAX_NODES, workers)?,
-        lines: 1,
-    })
+    match words.next() {
+        Some(first) if first == BOARD => read_rest_of_board(words),
+        Some(_) => Err(Reason::Begin(ScriptKind::Board)),
+        None => Err(Reason::Count(Form::Header(ScriptKind::Board))),
+    }
+}
+
+/// Reads a board's header behind its first word.
+fn read_rest_of_board(mut words: Words) -> Result<WorkHeader, Reason>
+    ensures header { result ≡ spec.rest_of_board (words_left words.entry) }
+    ensures workers { IfOk result (λ header. AreNodes header.workers) }
+    ensures one { IfOk result (λ header. header.lines ≡ 1) }
+{
+    match (words.next(), words.next(), words.next()) {
+        (Some(second), Some(workers), None) => {
+            same_word(2, Allowed::Workers, WORKERS, second)?;
+            Ok(WorkHeader {
+                workers: node_within(3, MAX_NODES, workers)?,
+                lines: 1,
+            })
+        }
+        _ => Err(Reason::Count(Form::Header(ScriptKind::Board))),
+    }
 }
 
 /// Reads the header of a bank's work.
-fn read_bank_header(text: &[u8]) -> Result<WorkHeader, LineFault>
+fn read_bank_header(text: &[u8]) -> Result<WorkHeader, Reason>
     ensures header { result ≡ read_line spec.bank_header text.now }
     ensures workers { IfOk result (λ header. AreNodes header.workers) }
     ensures lines { IfOk result (λ header. (1 ≤ header.lines) × (header.lines ≤ MAX_LINES)) }
 {
     let mut words = Words::of_line(text)?;
-    words.pass(BANK)?;
-    let workers = words.named(WORKERS)?;
-    let lines = words.named(LINES)?;
-    words.end()?;
-    let (workers, lines) = read_sizes(workers, lines)?;
-    Ok(WorkHeader { workers, lines })
+    match words.next() {
+        Some(first) if first == BANK => read_rest_of_bank(words),
+        Some(_) => Err(Reason::Begin(ScriptKind::Bank)),
+        None => Err(Reason::Count(Form::Header(ScriptKind::Bank))),
+    }
+}
+
+/// Reads a bank's header behind its first word.
+fn read_rest_of_bank(mut words: Words) -> Result<WorkHeader, Reason>
+    ensures header { result ≡ spec.rest_of_bank (words_left words.entry) }
+    ensures workers { IfOk result (λ header. AreNodes header.workers) }
+    ensures lines { IfOk result (λ header. (1 ≤ header.lines) × (header.lines ≤ MAX_LINES)) }
+{
+    let (Some(second), Some(workers)) = (words.next(), words.next()) else {
+        return Err(Reason::Count(Form::Header(ScriptKind::Bank)));
+    };
+    match (words.next(), words.next(), words.next()) {
+        (Some(fourth), Some(lines), None) => {
+            same_word(2, Allowed::Workers, WORKERS, second)?;
+            same_word(4, Allowed::Lines, LINES, fourth)?;
+            Ok(WorkHeader {
+                workers: node_within(3, MAX_NODES, workers)?,
+                lines: number_within(5, 1, MAX_LINES, lines)?,
+            })
+        }
+        _ => Err(Reason::Count(Form::Header(ScriptKind::Bank))),
+    }
 }
 
 /// Reads the job on a line, at a board.
-fn read_board_job(workers: u64, text: &[u8]) -> Result<Job, LineFault>
+fn read_board_job(workers: u64, text: &[u8]) -> Result<Job, Reason>
     ensures job { result ≡ read_line (spec.board_job workers) text.now }
     ensures range { IfOk result (λ job. (1 ≤ spec.worker_of job) × (spec.worker_of job ≤ workers)
         × spec.IsOfKind WorkKind.Board 1 job) }
 {
     let mut words = Words::of_line(text)?;
     let (Some(worker), Some(verb)) = (words.next(), words.next()) else {
-        return Err(LineFault::Bad);
+        return Err(Reason::Count(Form::Job(ScriptKind::Board)));
     };
+    if verb == TAKE {
+        read_take(workers, worker, words)
+    } else if verb == PUT {
+        read_put(workers, worker, words)
+    } else {
+        Err(no_job(Allowed::BoardJobs, workers, worker))
+    }
+}
+
+/// Returns the reason why a line is no job if its second word names none.
+fn no_job(allowed: Allowed, workers: u64, worker: &[u8]) -> Reason
+    ensures { result ≡ spec.no_job allowed workers worker.now }
+{
+    match worker_within(workers, worker) {
+        Ok(_) => Reason::Word { place: 2, allowed },
+        Err(_) => Reason::NoWorker(workers),
+    }
+}
+
+/// Reads a job behind `take`.
+fn read_take(workers: u64, worker: &[u8], mut words: Words) -> Result<Job, Reason>
+    ensures job { result ≡ spec.take_of workers worker.now (words_left words.entry) }
+    ensures range { IfOk result (λ job. (1 ≤ spec.worker_of job) × (spec.worker_of job ≤ workers)
+        × spec.IsOfKind WorkKind.Board 1 job) }
+{
+    match words.next() {
+        None => Ok(Job::Take {
+            worker: worker_within(workers, worker)?,
+        }),
+        Some(_) => Err(Reason::Count(Form::Take)),
+    }
+}
+
+/// Reads a job behind `put`.
+fn read_put(workers: u64, worker: &[u8], mut words: Words) -> Result<Job, Reason>
+    ensures job { result ≡ spec.put_of workers worker.now (words_left words.entry) }
+    ensures range { IfOk result (λ job. (1 ≤ spec.worker_of job) × (spec.worker_of job ≤ workers)
+        × spec.IsOfKind WorkKind.Board 1 job) }
+{
     match (words.next(), words.next()) {
-        (None, _) if verb == TAKE => Ok(Job::Take {
-            worker: node_within(workers, worker)?,
+        (Some(task), None) => Ok(Job::Put {
+            worker: worker_within(workers, worker)?,
+            task: any_number(3, task)?,
         }),
-        (Some(task), None) if verb == PUT => Ok(Job::Put {
-            worker: node_within(workers, worker)?,
-            task: any_number(task)?,
-        }),
-        _ => Err(LineFault::Bad),
+        _ => Err(Reason::Count(Form::Put)),
     }
 }
 
 /// Reads the job on a line, at a bank of `lines` lines.
-fn read_bank_job(workers: u64, lines: u64, text: &[u8]) -> Result<Job, LineFault>
+fn read_bank_job(workers: u64, lines: u64, text: &[u8]) -> Result<Job, Reason>
     requires not_zero { 1 ≤ lines }
     requires in_range { lines ≤ MAX_LINES }
     ensures job { result ≡ read_line (spec.bank_job workers lines) text.now }
@@ -137,119 +212,103 @@ fn read_bank_job(workers: u64, lines: u64, text: &[u8]) -> Result<Job, LineFault
         × spec.IsOfKind WorkKind.Bank lines job) }
 {
     let mut words = Words::of_line(text)?;
-    let (Some(worker), Some(verb), Some(third), Some(fourth)) = (
-        words.next(),
-        words.next(),
-        words.next(),
-        words.next(),
-    ) else {
-        return Err(LineFault::Bad);
+    let (Some(worker), Some(verb)) = (words.next(), words.next()) else {
+        return Err(Reason::Count(Form::Job(ScriptKind::Bank)));
     };
-    match (words.next(), words.next()) {
-        (None, _) => read_payment_job(workers, lines, verb, worker, third, fourth),
-        (Some(fifth), None) if verb == MOVE => read_move_job(
-            workers, lines, worker, third, fourth, fifth,
-        ),
-        _ => Err(LineFault::Bad),
-    }
-}
-
-/// Reads the payment that a second word names.
-fn read_payment_job(
-    workers: u64,
-    lines: u64,
-    verb: &[u8],
-    worker: &[u8],
-    account: &[u8],
-    amount: &[u8],
-) -> Result<Job, LineFault>
-    requires not_zero { 1 ≤ lines }
-    requires in_range { lines ≤ MAX_LINES }
-    ensures job { result ≡ spec.payment_job workers lines verb.now worker.now
-        account.now amount.now }
-    ensures range { IfOk result (λ job. (1 ≤ spec.worker_of job) × (spec.worker_of job ≤ workers)
-        × spec.IsOfKind WorkKind.Bank lines job) }
-{
-    let payment = read_payment(workers, lines, worker, account, amount);
     if verb == PAY_IN {
-        let (worker, account, amount) = payment?;
+        let (worker, account, amount) = read_payment(workers, lines, worker, words)?;
         Ok(Job::PayIn {
             worker,
             account,
             amount,
         })
     } else if verb == PAY_OUT {
-        let (worker, account, amount) = payment?;
+        let (worker, account, amount) = read_payment(workers, lines, worker, words)?;
         Ok(Job::PayOut {
             worker,
             account,
             amount,
         })
+    } else if verb == MOVE {
+        read_move(workers, lines, worker, words)
     } else {
-        Err(LineFault::Bad)
+        Err(no_job(Allowed::BankJobs, workers, worker))
     }
 }
 
-/// Reads the worker, the account and the amount of a payment.
+/// Reads the worker, the account and the amount of a payment, behind its second word.
 fn read_payment(
     workers: u64,
     lines: u64,
     worker: &[u8],
-    account: &[u8],
-    amount: &[u8],
-) -> Result<(u64, u64, u64), LineFault>
+    mut words: Words,
+) -> Result<(u64, u64, u64), Reason>
     requires not_zero { 1 ≤ lines }
     requires in_range { lines ≤ MAX_LINES }
-    ensures payment { result ≡ spec.payment_of workers lines worker.now account.now amount.now }
+    ensures payment { result ≡ spec.payment_of workers lines worker.now (words_left words.entry) }
     ensures range { IfOk result (λ p. (1 ≤ p.0) × (p.0 ≤ workers)
         × (p.1 < ACCOUNTS_A_LINE * lines)) }
 {
-    let worker = node_within(workers, worker)?;
-    let account = account_within(lines, account)?;
-    let amount = any_number(amount)?;
-    Ok((worker, account, amount))
+    match (words.next(), words.next(), words.next()) {
+        (Some(account), Some(amount), None) => {
+            let worker = worker_within(workers, worker)?;
+            let account = account_within(3, lines, account)?;
+            let amount = any_number(4, amount)?;
+            Ok((worker, account, amount))
+        }
+        _ => Err(Reason::Count(Form::Payment)),
+    }
 }
 
-/// Reads the move of an amount from one account to another.
-fn read_move_job(
-    workers: u64,
-    lines: u64,
-    worker: &[u8],
-    source: &[u8],
-    target: &[u8],
-    amount: &[u8],
-) -> Result<Job, LineFault>
+/// Reads the move of an amount from one account to another, behind its second word.
+fn read_move(workers: u64, lines: u64, worker: &[u8], mut words: Words) -> Result<Job, Reason>
     requires not_zero { 1 ≤ lines }
     requires in_range { lines ≤ MAX_LINES }
-    ensures job { result ≡ spec.move_job workers lines worker.now source.now target.now amount.now }
+    ensures job { result ≡ spec.move_of workers lines worker.now (words_left words.entry) }
     ensures range { IfOk result (λ job. (1 ≤ spec.worker_of job) × (spec.worker_of job ≤ workers)
         × spec.IsOfKind WorkKind.Bank lines job) }
 {
-    let worker = node_within(workers, worker)?;
-    let source = account_within(lines, source)?;
-    let target = account_within(lines, target)?;
-    let amount = any_number(amount)?;
-    Ok(Job::Move {
-        worker,
-        source,
-        target,
-        amount,
-    })
+    let Some(source) = words.next() else {
+        return Err(Reason::Count(Form::Move));
+    };
+    match (words.next(), words.next(), words.next()) {
+        (Some(target), Some(amount), None) => {
+            let worker = worker_within(workers, worker)?;
+            let source = account_within(3, lines, source)?;
+            let target = account_within(4, lines, target)?;
+            let amount = any_number(5, amount)?;
+            Ok(Job::Move {
+                worker,
+                source,
+                target,
+                amount,
+            })
+        }
+        _ => Err(Reason::Count(Form::Move)),
+    }
 }
 
-/// Reads any number.
-fn any_number(word: &[u8]) -> Result<u64, LineFault>
-    ensures { result ≡ spec.any_number word.now }
+/// Reads a worker, from the first word.
+fn worker_within(workers: u64, word: &[u8]) -> Result<u64, Reason>
+    ensures worker { result ≡ spec.worker_within workers word.now }
+    ensures range { IfOk result (λ n. (1 ≤ n) × (n ≤ workers)) }
 {
-    number_within(0, u64::MAX, word)
+    node_within(1, workers, word)
 }
 
-/// Reads an account of one of `lines` lines.
-fn account_within(lines: u64, word: &[u8]) -> Result<u64, LineFault>
+/// Reads any number, from the word at this place.
+fn any_number(place: u64, word: &[u8]) -> Result<u64, Reason>
+    ensures { result ≡ spec.any_number place word.now }
+{
+    number_within(place, 0, u64::MAX, word)
+}
+
+/// Reads an account of one of `lines` lines, from the word at this place.
+fn account_within(place: u64, lines: u64, word: &[u8]) -> Result<u64, Reason>
     requires not_zero { 1 ≤ lines }
     requires in_range { lines ≤ MAX_LINES }
-    ensures account { result ≡ spec.account_within lines word.now }
+    ensures account { result ≡ spec.account_within place lines word.now }
     ensures range { IfOk result (λ a. a < ACCOUNTS_A_LINE * lines) }
 {
-    number_within(0, ACCOUNTS_A_LINE * lines - 1, word)
+    number_within(place, 0, ACCOUNTS_A_LINE * lines - 1, word)
 }

@@ -1,9 +1,11 @@
 ghost use Rattle.std.specs.Prelude.{◌≡◌, ◌≢◌, IfOk, IfErr};
-ghost use Rattle.qolb_script.specs.Script.{script_of};
+ghost use Rattle.qolb_script.specs.Script.{IsBegun, parsed_schedule, script_of};
 
 use crate::command::Command;
 use crate::command_reader::{CommandReader, Header, read_header};
 use crate::error::ScriptError;
+use crate::header::unless_other;
+use crate::reason::{Reason, Refusal, ScriptKind};
 use crate::text::NumberedLines;
 use std::alloc::{Allocator, Global};
 use std::marker::Model;
@@ -90,16 +92,35 @@ pub fn read_schedule<A: Allocator>(alloc: A, text: &[u8]) -> Result<Schedule<A>,
     ensures ok { IfOk result (λ schedule. script_of text.now ≡ Ok schedule) }
     ensures refused { IfErr result (λ error. error ≢ ScriptError.Memory
         → script_of text.now ≡ Err error) }
+    ensures memory { IfErr result (λ error. error ≡ ScriptError.Memory → IsBegun text.now) }
+{
+    match parse_schedule(alloc, text) {
+        Ok(schedule) => Ok(schedule),
+        Err(why) => Err(why.error()),
+    }
+}
+
+/// Reads a schedule as `read_schedule` does, and tells why a line is refused.
+pub fn parse_schedule<A: Allocator>(alloc: A, text: &[u8]) -> Result<Schedule<A>, Refusal>
+    ensures ok { IfOk result (λ schedule. parsed_schedule text.now ≡ Ok schedule) }
+    ensures refused { IfErr result (λ why. why ≢ Refusal.Memory
+        → parsed_schedule text.now ≡ Err why) }
+    ensures memory { IfErr result (λ why. why ≡ Refusal.Memory → IsBegun text.now) }
 {
     let mut rest = NumberedLines::new(text);
     let Some((number, line)) = rest.next() else {
-        return Err(ScriptError::BadLine(1));
+        return Err(Refusal::Line(1, Reason::Empty(ScriptKind::Schedule)));
     };
     let Header {
         nodes,
         lines,
         lease,
-    } = read_header(line).map_err(|fault| fault.at(number))?;
+    } = match read_header(line) {
+        Ok(header) => header,
+        Err(why) => {
+            return Err(Refusal::Line(number, unless_other(ScriptKind::Schedule, line, why)));
+        }
+    };
     let commands = rest.read_items(alloc, &CommandReader { nodes, lines })?;
     Ok(Schedule {
         nodes,

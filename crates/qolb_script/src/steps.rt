@@ -1,8 +1,10 @@
 ghost use Rattle.std.specs.Prelude.{◌≡◌, ◌≢◌, IfOk, IfErr};
-ghost use Rattle.qolb_script.specs.StepScript.{steps_of};
+ghost use Rattle.qolb_script.specs.StepScript.{AreBegun, parsed_steps, steps_of};
 
 use crate::error::ScriptError;
 use crate::event_reader::{EventReader, StepHeader, read_step_header};
+use crate::header::unless_other;
+use crate::reason::{Reason, Refusal, ScriptKind};
 use crate::text::NumberedLines;
 use link_core::Event;
 use std::alloc::{Allocator, Global};
@@ -66,12 +68,30 @@ pub fn read_steps<A: Allocator>(alloc: A, text: &[u8]) -> Result<Steps<A>, Scrip
     ensures ok { IfOk result (λ steps. steps_of text.now ≡ Ok steps) }
     ensures refused { IfErr result (λ error. error ≢ ScriptError.Memory
         → steps_of text.now ≡ Err error) }
+    ensures memory { IfErr result (λ error. error ≡ ScriptError.Memory → AreBegun text.now) }
+{
+    match parse_steps(alloc, text) {
+        Ok(steps) => Ok(steps),
+        Err(why) => Err(why.error()),
+    }
+}
+
+/// Reads a step script as `read_steps` does, and tells why a line is refused.
+pub fn parse_steps<A: Allocator>(alloc: A, text: &[u8]) -> Result<Steps<A>, Refusal>
+    ensures ok { IfOk result (λ steps. parsed_steps text.now ≡ Ok steps) }
+    ensures refused { IfErr result (λ why. why ≢ Refusal.Memory → parsed_steps text.now ≡ Err why) }
+    ensures memory { IfErr result (λ why. why ≡ Refusal.Memory → AreBegun text.now) }
 {
     let mut rest = NumberedLines::new(text);
     let Some((number, line)) = rest.next() else {
-        return Err(ScriptError::BadLine(1));
+        return Err(Refusal::Line(1, Reason::Empty(ScriptKind::Steps)));
     };
-    let StepHeader { nodes, lease } = read_step_header(line).map_err(|fault| fault.at(number))?;
+    let StepHeader { nodes, lease } = match read_step_header(line) {
+        Ok(header) => header,
+        Err(why) => {
+            return Err(Refusal::Line(number, unless_other(ScriptKind::Steps, line, why)));
+        }
+    };
     let events = rest.read_items(alloc, &EventReader { nodes })?;
     Ok(Steps {
         nodes,

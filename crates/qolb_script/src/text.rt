@@ -4,36 +4,14 @@ ghost use Rattle.std.specs.List.{slice_split};
 ghost use Rattle.std.specs.Option.{ForSome};
 ghost use Rattle.qolb_script.specs.Text as spec;
 ghost use Rattle.qolb_script.specs.Text.{words_of, is_plain};
-ghost use Rattle.qolb_script.specs.Script.{fault_at};
 
-use crate::error::ScriptError;
+use crate::reason::{Reason, Refusal};
 use crate::schedule::MAX_COMMANDS;
 use std::alloc::Allocator;
 use std::str;
 
 /// The largest number of digits of a number.
 const MAX_DIGITS: usize = 20;
-
-/// The fault of a line.
-#[derive(Clone, Copy, Debug, PartialEq, Eq)]
-pub enum LineFault {
-    /// The line is none of such a script.
-    Bad,
-    /// A word of the line is no number, or out of its range.
-    Number,
-}
-
-impl LineFault {
-    /// Returns the error for this fault of line `number`.
-    pub fn at(self, number: u64) -> ScriptError
-        ensures { result ≡ fault_at number self }
-    {
-        match self {
-            LineFault::Bad => ScriptError::BadLine(number),
-            LineFault::Number => ScriptError::Number(number),
-        }
-    }
-}
 
 /// Returns the bytes before the first separator, and those after it if there is one.
 pub fn split_once(bytes: &[u8], separator: u8) -> (&[u8], Option<&[u8]>)
@@ -73,7 +51,7 @@ pub struct NumberedLines<'a> {
 }
 
 impl<'a> NumberedLines<'a> {
-    ghost use Rattle.std.specs.Prelude.{◌≡◌, ◌≢◌, ◌≤◌, All, IfErr, IfOk, length};
+    ghost use Rattle.std.specs.Prelude.{◌≡◌, ◌≢◌, ◌≤◌, All, IfErr, IfOk, IsOk, length, take};
     ghost use Rattle.qolb_script.specs.Script.{items_of};
     ghost use Rattle.qolb_script.specs.Text.{numbered_lines, worded};
     ghost use Rattle.qolb_script.specs.Reading.{lines_left};
@@ -88,27 +66,32 @@ impl<'a> NumberedLines<'a> {
         }
     }
 
-    /// Reads the items on these lines.
-    pub fn read_items<R: ReadItem, A: Allocator>(
+    /// Reads the items on these lines. Memory is refused only if the first of them has an item.
+    pub(crate) fn read_items<R: ReadItem, A: Allocator>(
         self,
         alloc: A,
         reader: &R,
-    ) -> Result<Vec<R::Item, A>, ScriptError>
+    ) -> Result<Vec<R::Item, A>, Refusal>
         ensures ok { IfOk result (λ items. items_of (R.item_of reader.now) 0 (lines_left self.entry)
             ≡ Ok items.items) }
-        ensures refused { IfErr result (λ error. error ≢ ScriptError.Memory
-            → items_of (R.item_of reader.now) 0 (lines_left self.entry) ≡ Err error) }
+        ensures refused { IfErr result (λ why. why ≢ Refusal.Memory
+            → items_of (R.item_of reader.now) 0 (lines_left self.entry) ≡ Err why) }
+        ensures memory { IfErr result (λ why. why ≡ Refusal.Memory
+            → IsOk (items_of (R.item_of reader.now) 0 (take 1 (lines_left self.entry)))) }
         ensures range { IfOk result (λ items. All (R.in_range reader.now) items.items) }
         ensures most { IfOk result (λ items. length items.items ≤ MAX_COMMANDS) }
     {
         let mut items = Vec::new(alloc);
         for (number, line) in self {
             if items.len() as u64 >= MAX_COMMANDS {
-                return Err(ScriptError::TooMany(number));
+                return Err(Refusal::Line(number, Reason::TooMany));
             }
-            let item = reader.read_item(line).map_err(|fault| fault.at(number))?;
+            let item = match reader.read_item(line) {
+                Ok(item) => item,
+                Err(why) => return Err(Refusal::Line(number, why)),
+            };
             let Ok(()) = items.push(item) else {
-                return Err(ScriptError::Memory);
+                return Err(Refusal::Memory);
             };
         }
         Ok(items)
@@ -146,9 +129,9 @@ pub struct Words<'a> {
 }
 
 impl<'a> Words<'a> {
-    ghost use Rattle.std.specs.Prelude.{◌≡◌, [], ◌∷◌, true, false, MatchResult};
+    ghost use Rattle.std.specs.Prelude.{◌≡◌, true, false, MatchResult};
     ghost use Rattle.qolb_script.specs.Text.{words_of, is_plain};
-    ghost use Rattle.qolb_script.specs.Reading.{words_left, Lacks, LacksNamed, AreSome};
+    ghost use Rattle.qolb_script.specs.Reading.{words_left};
 
     /// Returns the words of a line.
     pub fn new(line: &'a [u8]) -> Words<'a>
@@ -158,58 +141,15 @@ impl<'a> Words<'a> {
     }
 
     /// Returns the words of a line that has no byte but a script's.
-    pub fn of_line(line: &'a [u8]) -> Result<Words<'a>, LineFault>
+    pub fn of_line(line: &'a [u8]) -> Result<Words<'a>, Reason>
         ensures { MatchResult result
             (λ words. (is_plain line.now ≡ true) × (words_left words ≡ words_of line.now))
-            (λ fault. (fault ≡ LineFault.Bad) × (is_plain line.now ≡ false)) }
+            (λ why. (why ≡ Reason.Byte) × (is_plain line.now ≡ false)) }
     {
         if is_plain_line(line) {
             Ok(Words::new(line))
         } else {
-            Err(LineFault::Bad)
-        }
-    }
-
-    /// Takes the next word.
-    pub fn word(&mut self) -> Result<&'a [u8], LineFault>
-        ensures { MatchResult result
-            (λ word. words_left self.old ≡ word.now ∷ words_left self.new)
-            (λ fault. (fault ≡ LineFault.Bad) × (words_left self.old ≡ [])) }
-    {
-        self.next().ok_or(LineFault::Bad)
-    }
-
-    /// Takes the next word, which has to be `name`.
-    pub fn pass(&mut self, name: &[u8]) -> Result<(), LineFault>
-        ensures { MatchResult result
-            (λ _. words_left self.old ≡ name.now ∷ words_left self.new)
-            (λ fault. (fault ≡ LineFault.Bad) × Lacks name.now (words_left self.old)) }
-    {
-        match self.next() {
-            Some(word) if word == name => Ok(()),
-            _ => Err(LineFault::Bad),
-        }
-    }
-
-    /// Takes the next word, which has to be `name`, and returns the word behind it.
-    pub fn named(&mut self, name: &[u8]) -> Result<&'a [u8], LineFault>
-        ensures { MatchResult result
-            (λ word. words_left self.old ≡ name.now ∷ word.now ∷ words_left self.new)
-            (λ fault. (fault ≡ LineFault.Bad) × LacksNamed name.now (words_left self.old)) }
-    {
-        self.pass(name)?;
-        self.word()
-    }
-
-    /// Checks that no word is left.
-    pub fn end(mut self) -> Result<(), LineFault>
-        ensures { MatchResult result
-            (λ _. words_left self.entry ≡ [])
-            (λ fault. (fault ≡ LineFault.Bad) × AreSome (words_left self.entry)) }
-    {
-        match self.next() {
-            None => Ok(()),
-            Some(_) => Err(LineFault::Bad),
+            Err(Reason::Byte)
         }
     }
 }
@@ -242,33 +182,33 @@ fn number(word: &[u8]) -> Option<u64>
     str::from_utf8(word).ok()?.parse().ok()
 }
 
-/// Returns the number that a word writes, if it is from `low` to `high`.
-pub fn number_within(low: u64, high: u64, word: &[u8]) -> Result<u64, LineFault>
-    ensures number { result ≡ spec.number_within low high word.now }
+/// Returns the number that a word writes, if it is from `low` to `high`. The word is at this place of its line.
+pub fn number_within(place: u64, low: u64, high: u64, word: &[u8]) -> Result<u64, Reason>
+    ensures number { result ≡ spec.number_within place low high word.now }
     ensures range { IfOk result (λ n. (low ≤ n) × (n ≤ high)) }
 {
     match number(word) {
         Some(n) if low <= n && n <= high => Ok(n),
-        _ => Err(LineFault::Number),
+        _ => Err(Reason::Number { place, low, high }),
     }
 }
 
 /// A reader of the lines below a header, each of which is an item.
 pub trait ReadItem {
     ghost use Rattle.std.specs.Prelude.{◌≡◌, ℕ, List, Result, IfOk};
-    ghost use Rattle.qolb_script.specs.declared.text.LineFault.{LineFault};
+    ghost use Rattle.qolb_script.specs.declared.reason.Reason.{Reason};
     ghost use Rattle.qolb_script.specs.Commands.{read_line};
 
     type Item: Drop;
 
     /// The item that these words are.
-    ghost item_of: { Self → List (List ℕ) → Result Self.Item LineFault };
+    ghost item_of: { Self → List (List ℕ) → Result Self.Item Reason };
 
     /// The item's numbers are in the ranges that the header gives.
     ghost in_range: { Self → Self.Item → Type 0 };
 
     /// Reads the item on a line.
-    fn read_item(&self, line: &[u8]) -> Result<Self::Item, LineFault>
+    fn read_item(&self, line: &[u8]) -> Result<Self::Item, Reason>
         ensures item { result ≡ read_line (item_of self.now) line.now }
         ensures range { IfOk result (λ item. in_range self.now item) };
 }

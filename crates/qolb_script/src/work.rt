@@ -1,10 +1,12 @@
 //! Work scripts: what workers do on a board or at a bank.
 ghost use Rattle.std.specs.Prelude.{◌≡◌, ◌≢◌, IfOk, IfErr};
-ghost use Rattle.qolb_script.specs.WorkScript.{work_of};
+ghost use Rattle.qolb_script.specs.WorkScript.{IsWorkBegun, parsed_work, work_of};
 
 use crate::error::ScriptError;
+use crate::header::{script_kind, unless_other};
 use crate::job::{Job, WorkKind};
 use crate::job_reader::{JobReader, WorkHeader, read_work_header};
+use crate::reason::{Reason, Refusal};
 use crate::schedule::MAX_LINES;
 use crate::text::NumberedLines;
 use std::alloc::{Allocator, Global};
@@ -85,14 +87,32 @@ pub fn read_work<A: Allocator>(
     ensures ok { IfOk result (λ work. work_of kind text.now ≡ Ok work) }
     ensures refused { IfErr result (λ error. error ≢ ScriptError.Memory
         → work_of kind text.now ≡ Err error) }
+    ensures memory { IfErr result (λ error. error ≡ ScriptError.Memory
+        → IsWorkBegun kind text.now) }
+{
+    match parse_work(alloc, text, kind) {
+        Ok(work) => Ok(work),
+        Err(why) => Err(why.error()),
+    }
+}
+
+/// Reads a work script as `read_work` does, and tells why a line is refused.
+pub fn parse_work<A: Allocator>(alloc: A, text: &[u8], kind: WorkKind) -> Result<Work<A>, Refusal>
+    ensures ok { IfOk result (λ work. parsed_work kind text.now ≡ Ok work) }
+    ensures refused { IfErr result (λ why. why ≢ Refusal.Memory
+        → parsed_work kind text.now ≡ Err why) }
+    ensures memory { IfErr result (λ why. why ≡ Refusal.Memory → IsWorkBegun kind text.now) }
 {
     let mut rest = NumberedLines::new(text);
     let Some((number, line)) = rest.next() else {
-        return Err(ScriptError::BadLine(1));
+        return Err(Refusal::Line(1, Reason::Empty(script_kind(kind))));
     };
-    let WorkHeader { workers, lines } = read_work_header(kind, line).map_err(|fault| fault.at(
-        number,
-    ))?;
+    let WorkHeader { workers, lines } = match read_work_header(kind, line) {
+        Ok(header) => header,
+        Err(why) => {
+            return Err(Refusal::Line(number, unless_other(script_kind(kind), line, why)));
+        }
+    };
     let reader = JobReader {
         kind,
         workers,

@@ -1,15 +1,23 @@
 -- The meaning of an outcome for its subcommand.
-use Rattle.std.proofs.Common.{◌≡◌, ℕ, List, Option, Some, None, IfSome, inl, inr, subst, arith}
-use Rattle.qolb_run.specs.declared.each_lock.AnyKind.TheVariants.{Plain}
+use Rattle.std.proofs.Common.{◌≡◌, ◌≢◌, ℕ, Bool, List, Option, Some, None, Result, Ok, Err, IfSome, inl, inr, refl, subst, ◌∙◌, arith}
+use Rattle.line_kinds.specs.declared.Lock.{Lock}
+use Rattle.qolb_script.specs.declared.report.Report.{Report}
+use Rattle.qolb_script.specs.declared.error.ScriptError.{ScriptError}
+use Rattle.qolb_script.specs.Script.{IsBegun, Script, script_of}
+use Rattle.qolb_script.specs.Reply.{replied}
+use Rattle.qolb_script.specs.WorkScript.{WorkScript}
+use Rattle.qolb_script.proofs.Begun.{schedule_begun, steps_begun, work_begun}
+use Rattle.qolb_replay.specs.declared.replay.ReplayError.{ReplayError}
+use Rattle.qolb_replay.specs.declared.replay.ReplayError.TheVariants as replay
 use Rattle.qolb_run.specs.declared.task.TaskError.{TaskError}
 use Rattle.qolb_run.specs.declared.task.TaskError.TheVariants as ending
 use Rattle.qolb_replay.specs.declared.steps.Detail.TheVariants.{Words}
 use Rattle.qolb_run.specs.declared.task.Task.{Task}
-use Rattle.qolb_run.specs.declared.task.Task.TheVariants.{Replay, Steps}
-use Rattle.qolb_run.specs.Outcome.{MayEnd, IsRefused}
+use Rattle.qolb_run.specs.declared.task.Task.TheVariants.{Replay, Steps, Work}
+use Rattle.qolb_run.specs.Outcome.{MayEnd, IsRefused, replay_ending}
 use Rattle.qolb_serve.specs.declared.command_line.Subcommand.{Subcommand}
 use Rattle.qolb_serve.specs.declared.command_line.Subcommand.TheVariants.{Answer, Draw, DrawSteps}
-use Rattle.qolb_serve.specs.Subcommands.{IsDenied, MayDeny}
+use Rattle.qolb_serve.specs.Subcommands.{HasAnswer, HasBegun, IsAnswered, IsDenied, MayDeny, Performs}
 use Rattle.qolb_serve.specs.Status.{status_of}
 
 fault : (task : Task) (e : TaskError) (input : List ℕ) → MayEnd task input e → status_of e ≡ 1 → IsRefused task input
@@ -20,12 +28,51 @@ fault task (ending.Script why) input h one = inr (why, h.1)
 fault task ending.Write input h one = absurd (omega arith)
 fault task (ending.Stalled worker) input h one = absurd (omega arith)
 
-denied : (subcommand : Subcommand) (e : TaskError) (input : List ℕ) → MayDeny subcommand input e → status_of e ≡ 1 → IsDenied subcommand input
+pub denied : (subcommand : Subcommand) (e : TaskError) (input : List ℕ) → MayDeny subcommand input e → status_of e ≡ 1 → IsDenied subcommand input
 denied (Answer task) e input h one = fault task e input h one
-denied (Draw form) e input h one = fault (Replay Plain) e input h one
+denied (Draw form) e input h one = fault (Replay None) e input h one
 denied (DrawSteps form) e input h one = fault (Steps Words) e input h one
 
--- a script that was read is refused, if the status is 1
-pub known_denied : (subcommand : Subcommand) (e : TaskError) (script : List ℕ) (known : Option (List ℕ)) → IfSome known (λ rest. script ≡ rest) → MayDeny subcommand script e → status_of e ≡ 1 → IfSome known (IsDenied subcommand)
-known_denied subcommand e script None is h one = tt
-known_denied subcommand e script (Some rest) is h one = subst (IsDenied subcommand) is (denied subcommand e script h one)
+-- what holds of a script that was read holds of the reader's bytes, if they are known
+known : (P : List ℕ → Type 0) (script slice : List ℕ) (bytes : Option (List ℕ)) → IfSome bytes (λ rest. script ≡ rest) → slice ≡ script → P slice → IfSome bytes P
+known P script slice None is same h = tt
+known P script slice (Some rest) is same h = subst P (same ∙ is) h
+
+pub known_denied : (subcommand : Subcommand) (script slice : List ℕ) (bytes : Option (List ℕ)) → IfSome bytes (λ rest. script ≡ rest) → slice ≡ script → IsDenied subcommand slice → IfSome bytes (IsDenied subcommand)
+known_denied subcommand script slice bytes is same h = known (IsDenied subcommand) script slice bytes is same h
+
+pub known_answer : (KindSpec : Lock → WorkScript → Report → Type 0) (subcommand : Subcommand) (script slice : List ℕ) (bytes : Option (List ℕ)) → IfSome bytes (λ rest. script ≡ rest) → slice ≡ script
+    → HasAnswer KindSpec subcommand slice → IfSome bytes (HasAnswer KindSpec subcommand)
+known_answer KindSpec subcommand script slice bytes is same h = known (HasAnswer KindSpec subcommand) script slice bytes is same h
+
+pub known_answered : (KindSpec : Lock → WorkScript → Report → Type 0) (subcommand : Subcommand) (explain : Bool) (before after : Option (List ℕ)) (script slice : List ℕ) (bytes : Option (List ℕ))
+    → IfSome bytes (λ rest. script ≡ rest) → slice ≡ script → IsAnswered KindSpec subcommand explain before after slice → IfSome bytes (IsAnswered KindSpec subcommand explain before after)
+known_answered KindSpec subcommand explain before after script slice bytes is same h = known (IsAnswered KindSpec subcommand explain before after) script slice bytes is same h
+
+-- a script that was answered has begun
+replied_begun : (input text : List ℕ) (script : Result Script ScriptError) → script_of input ≡ script → replied script ≡ Ok text → IsBegun input
+replied_begun input text (Ok script) same e = schedule_begun input script same
+replied_begun input text (Err why) same e = cc
+
+pub answered_begun : (KindSpec : Lock → WorkScript → Report → Type 0) (subcommand : Subcommand) (input text : List ℕ) → Performs KindSpec subcommand input text → HasBegun subcommand input
+answered_begun KindSpec (Answer (Replay lock)) input text h = replied_begun input text (script_of input) refl h.reply
+answered_begun KindSpec (Answer (Steps detail)) input text h = steps_begun input h.script h.read
+answered_begun KindSpec (Answer (Work kind lock waits)) input text h = work_begun kind input h.work h.is.read
+answered_begun KindSpec (Draw form) input text h = tt
+answered_begun KindSpec (DrawSteps form) input text h = tt
+
+-- the status 3 without a stalled worker is that of a refused growth
+pub replay_memory : (e : ReplayError) → status_of (replay_ending e) ≡ 3 → e ≡ replay.Memory
+replay_memory replay.Memory three = refl
+replay_memory replay.Read three = absurd (omega arith)
+replay_memory replay.Long three = absurd (omega arith)
+replay_memory (replay.Script why) three = absurd (omega arith)
+replay_memory replay.Write three = absurd (omega arith)
+
+pub task_memory : (e : TaskError) → status_of e ≡ 3 → ((worker : ℕ) → e ≢ ending.Stalled worker) → e ≡ ending.Memory
+task_memory ending.Memory three never = refl
+task_memory ending.Read three never = absurd (omega arith)
+task_memory ending.Long three never = absurd (omega arith)
+task_memory (ending.Script why) three never = absurd (omega arith)
+task_memory ending.Write three never = absurd (omega arith)
+task_memory (ending.Stalled worker) three never = absurd (never worker refl)

@@ -7,13 +7,11 @@ use Rattle.clap.specs.Words.{App, Row, Rule, Text, first_of, new_app, new_rule, 
 use Rattle.clap.specs.declared.builder.ArgAction.TheVariants.{Set, SetTrue}
 use Rattle.clap.specs.declared.builder.value_parser.ValueParser.TheVariants as parser
 use Rattle.qolb_script.specs.declared.job.WorkKind.TheVariants.{Board, Bank}
-use Rattle.qolb_run.specs.declared.each_lock.AnyKind.{AnyKind}
-use Rattle.qolb_run.specs.declared.each_lock.AnyKind.TheVariants as kind
 use Rattle.line_kinds.specs.Locks.{lock_named, lock_names}
 use Rattle.line_kinds.specs.declared.Lock.{Lock}
 use Rattle.line_kinds.specs.declared.Lock.TheVariants as lock
-use Rattle.qolb_shapes.specs.declared.form.Form.{Form}
-use Rattle.qolb_shapes.specs.declared.form.Form.TheVariants as form
+use Rattle.qolb_draw.specs.declared.form.Form.{Form}
+use Rattle.qolb_draw.specs.declared.form.Form.TheVariants as form
 use Rattle.qolb_serve.specs.declared.command_line.Subcommand.{Subcommand}
 use Rattle.qolb_serve.specs.declared.command_line.Subcommand.TheVariants.{Answer, Draw, DrawSteps}
 use Rattle.qolb_replay.specs.declared.steps.Detail.{Detail}
@@ -97,14 +95,10 @@ any_answer names = with_workers (replay_or_steps names.replayed) names.shared
 abbrev pub the_command : KindNames → App
 the_command names = with_subcommand (any_answer names) draw_command.top
 
--- the kind of this name
-abbrev pub kind_of_lock : Option Lock → AnyKind
-kind_of_lock None = kind.Plain
-kind_of_lock (Some lock) = kind.Shared lock
-
-abbrev pub kind_of_name : Option Text → AnyKind
-kind_of_name None = kind.Plain
-kind_of_name (Some name) = kind_of_lock (lock_named name)
+-- the lock of the lines that replay a schedule, by the name of their kind; the plain reference has none
+abbrev pub replayed_by : Option Text → Option Lock
+replayed_by None = None
+replayed_by (Some name) = lock_named name
 
 -- the lock of this name
 abbrev pub lock_of_name : Option Text → Lock
@@ -135,7 +129,7 @@ task_by name kind detail waits =
     if bytes_eq name (codes "steps") then task.Steps detail
     else if bytes_eq name (codes "board") then task.Work Board (lock_of_name kind) waits
     else if bytes_eq name (codes "bank") then task.Work Bank (lock_of_name kind) waits
-    else task.Replay (kind_of_name kind)
+    else task.Replay (replayed_by kind)
 
 abbrev pub task_at : Text × List Row → Task
 task_at entered = task_by entered.0 (first_of (codes "kind") entered.1) (detail_of (first_of (codes "rank") entered.1)) (waits_of (first_of (codes "sleep") entered.1))

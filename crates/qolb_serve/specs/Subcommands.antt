@@ -1,18 +1,20 @@
 -- The answer of a subcommand to the bytes on standard input.
-use Rattle.std.specs.Prelude.{◌≡◌, ℕ, Bool, true, false, List, [], Option}
+use Rattle.std.specs.Prelude.{◌≡◌, ℕ, Bool, true, false, List, [], ◌++◌, Option, None, Err}
+use Rattle.std.specs.Io.KnownBytes.{Appends}
 use Rattle.line_kinds.specs.declared.Lock.{Lock}
 use Rattle.qolb_script.specs.declared.report.Report.{Report}
-use Rattle.qolb_script.specs.WorkScript.{WorkScript}
-use Rattle.qolb_run.specs.declared.each_lock.AnyKind.TheVariants.{Plain}
+use Rattle.qolb_script.specs.declared.reason.Refusal.{Refusal}
+use Rattle.qolb_script.specs.Script.{parsed_schedule}
+use Rattle.qolb_script.specs.StepScript.{parsed_steps}
+use Rattle.qolb_script.specs.WorkScript.{WorkScript, parsed_work}
 use Rattle.qolb_explain.specs.Notes.{AreStepNotes, schedule_notes}
-use Rattle.qolb_explain.specs.Reasons.{Complaint, schedule_complaint, steps_complaint, work_complaint}
 use Rattle.qolb_replay.specs.declared.steps.Detail.TheVariants.{Words}
 use Rattle.qolb_run.specs.declared.task.Task.{Task}
 use Rattle.qolb_run.specs.declared.task.Task.TheVariants.{Replay, Steps, Work}
 use Rattle.qolb_run.specs.declared.task.TaskError.{TaskError}
-use Rattle.qolb_run.specs.Outcome.{Answers, IsRefused, MayEnd}
+use Rattle.qolb_run.specs.Outcome.{Answers, HasBegunFor, IsRefused, MayEnd}
 use Rattle.qolb_draw.specs.Pictures.{IsPicture}
-use Rattle.qolb_draw_steps.specs.StepPictures.{IsStepPicture}
+use Rattle.qolb_draw.specs.StepPictures.{IsStepPicture}
 use Rattle.qolb_serve.specs.declared.command_line.Subcommand.{Subcommand}
 use Rattle.qolb_serve.specs.declared.command_line.Subcommand.TheVariants.{Answer, Draw, DrawSteps}
 
@@ -21,6 +23,11 @@ abbrev pub Performs : (Lock → WorkScript → Report → Type 0) → Subcommand
 Performs KindSpec (Answer task) input text = Answers KindSpec task input text
 Performs KindSpec (Draw form) input text = IsPicture form input text
 Performs KindSpec (DrawSteps form) input text = IsStepPicture form input text
+
+-- the bytes have an answer
+pub record HasAnswer (KindSpec : Lock → WorkScript → Report → Type 0) (subcommand : Subcommand) (input : List ℕ) : Type 0 where
+  pub text : List ℕ
+  pub performs : Performs KindSpec subcommand input text
 
 -- the text is the notes behind the answer: of a replay, the note on each misuse; of a step script, on each refused event; else there are none
 abbrev pub AreNotesOn : Subcommand → List ℕ → List ℕ → Type 0
@@ -34,25 +41,39 @@ AreNotesOn (DrawSteps form) input text = text ≡ []
 abbrev pub AreNotesIf : Bool → Subcommand → List ℕ → List ℕ → Type 0
 AreNotesIf asked subcommand input text = (asked ≡ true → AreNotesOn subcommand input text) × (asked ≡ false → text ≡ [])
 
+-- the answer to the bytes was written behind what a writer had, and behind the answer the notes, if they are asked for
+pub record IsAnswered (KindSpec : Lock → WorkScript → Report → Type 0) (subcommand : Subcommand) (explain : Bool) (before after : Option (List ℕ)) (input : List ℕ) : Type 0 where
+  pub text : List ℕ
+  pub notes : List ℕ
+  pub performs : Performs KindSpec subcommand input text
+  pub noted : AreNotesIf explain subcommand input notes
+  pub written : Appends before after (text ++ notes)
+
 -- the bytes are too many, or have a first fault; for a drawing the faults are those of a replay
 abbrev pub IsDenied : Subcommand → List ℕ → Type 0
 IsDenied (Answer task) input = IsRefused task input
-IsDenied (Draw form) input = IsRefused (Replay Plain) input
+IsDenied (Draw form) input = IsRefused (Replay None) input
 IsDenied (DrawSteps form) input = IsRefused (Steps Words) input
 
 -- when a subcommand may end with each error: as its task, and a drawing as the replay of the script
 abbrev pub MayDeny : Subcommand → List ℕ → TaskError → Type 0
 MayDeny (Answer task) input error = MayEnd task input error
-MayDeny (Draw form) input error = MayEnd (Replay Plain) input error
+MayDeny (Draw form) input error = MayEnd (Replay None) input error
 MayDeny (DrawSteps form) input error = MayEnd (Steps Words) input error
 
--- the complaint about the bytes, as a script of the subcommand, if they are refused
-abbrev pub complaint_of_task : Task → List ℕ → Option Complaint
-complaint_of_task (Replay kind) input = schedule_complaint input
-complaint_of_task (Steps detail) input = steps_complaint input
-complaint_of_task (Work kind lock waits) input = work_complaint kind input
+-- neither the header of the bytes nor the first line below it is refused, as in a script of the subcommand's task
+abbrev pub HasBegun : Subcommand → List ℕ → Type 0
+HasBegun (Answer task) input = HasBegunFor task input
+HasBegun (Draw form) input = Unit {0}
+HasBegun (DrawSteps form) input = Unit {0}
 
-abbrev pub complaint : Subcommand → List ℕ → Option Complaint
-complaint (Answer task) input = complaint_of_task task input
-complaint (Draw form) input = schedule_complaint input
-complaint (DrawSteps form) input = steps_complaint input
+-- the reader of the subcommand's scripts refuses the bytes for this
+abbrev pub IsRefusedTask : Task → List ℕ → Refusal → Type 0
+IsRefusedTask (Replay lock) input why = parsed_schedule input ≡ Err why
+IsRefusedTask (Steps detail) input why = parsed_steps input ≡ Err why
+IsRefusedTask (Work kind lock waits) input why = parsed_work kind input ≡ Err why
+
+abbrev pub IsRefusedFor : Subcommand → List ℕ → Refusal → Type 0
+IsRefusedFor (Answer task) input why = IsRefusedTask task input why
+IsRefusedFor (Draw form) input why = IsRefusedTask (Replay None) input why
+IsRefusedFor (DrawSteps form) input why = IsRefusedTask (Steps Words) input why

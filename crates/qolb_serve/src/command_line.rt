@@ -7,27 +7,27 @@ ghost use Rattle.qolb_serve.specs.CommandLine.{KindNames, NamesFlag, NamesWish, 
 use clap::error::ErrorKind;
 use clap::{Arg, ArgAction, ArgMatches, Command, Error};
 use line_kinds::{LOCKS, Lock, NAMES, lock_names};
-use qolb_run::{AnyKind, Detail, Task, WaitMode};
+use qolb_draw::Form;
+use qolb_run::{Detail, Task, WaitMode};
 use qolb_script::WorkKind;
-use qolb_shapes::Form;
 use std::alloc::{AllocError, Global};
 
 /// The names of the kinds of lines that replay a schedule.
 static REPLAYED: [&str; LOCKS + 1] = lock_names!(array, "plain");
 
 const REPLAYED_HELP: &str =
-    "What represents the lines: the plain reference with one\nowner, or lines that nodes share, by the name of their\nlock";
+    "The plain reference, which has one owner, or the lock of\nlines that nodes share";
 
-const SHARED_HELP: &str = "The lock of the lines that the workers share, by its\nname";
+const SHARED_HELP: &str = "The lock of the lines that the workers share";
 
-const MISUSE_EXPLAINED: &str = "Explains a refused line, and each answer of misuse";
+const MISUSE_EXPLAINED: &str = "Explains a refused line, and each answer `misuse`";
 
-const REFUSALS_EXPLAINED: &str = "Explains a refused line, and each answer of refused";
+const REFUSALS_EXPLAINED: &str = "Explains a refused line, and each answer `refused`";
 
 const LINE_EXPLAINED: &str = "Explains a refused line";
 
 const ABOUT: &str =
-    "Queued line locks: nodes queue at a line of 64 bytes, and a release hands lock\nand line to the next";
+    "Queued line locks: nodes queue for a line of 64 bytes, and a release hands the\nlock and the line to the next node";
 
 /// What `--version` says after the name: the version, which `tools/sources` compares, and the kinds of lines. A program can't know which kit
 /// built it, nor whether it was proved: the script `qolb` adds that.
@@ -37,7 +37,7 @@ const STATUSES: &str = "Exit statuses:
   0  done
   1  the script was refused: `bad line N` or `script too long` on standard error
   2  the command line was refused, or asked for help or the version
-  3  want of memory: `out of memory`; or worker W gave up: `stalled W`
+  3  out of memory: `out of memory`; or worker W gave up: `stalled W`
   4  a failed read or write: `read fault` or `write fault`";
 
 const REPLAY: &str = "The script, on standard input:
@@ -57,9 +57,9 @@ it prints granted, ok, released, and the counts of the line.";
 const STEPS: &str = "The script, on standard input:
   nodes N                     its first line: 1 to 200 nodes
   nodes N lease C             the same; the line closes at its C-th served turn
-  EVENT n                     a word step of node n: reset, prepend, link, load,
-                              home, done, grant, roll or freed; or close, in a
-                              holder's hand
+  EVENT n                     an atomic step of node n: reset, prepend, link,
+                              load, home, done, grant, roll or freed; or close,
+                              which only a holder makes
   write n OFFSET HEX          the holder writes these bytes into the line
 
 Example: with
@@ -76,8 +76,8 @@ const BOARD: &str = "The script, on standard input:
                               board
   w take                      worker w takes the oldest task off the board
 
-The board holds seven tasks. Each worker does its jobs in the script's order;
-nothing is said of the order between workers.
+The board holds seven tasks. Each worker does its jobs in the script's order.
+The order of jobs of different workers is not determined.
 
 Example: with
   board workers 1
@@ -93,9 +93,9 @@ const BANK: &str = "The script, on standard input:
   w out ACCOUNT AMOUNT        worker w pays it out
   w move FROM TO AMOUNT       worker w moves it from one account to another
 
-An account holds 0 to 2^48; a job that would go beyond that changes nothing.
-Each worker does its jobs in the script's order; nothing is said of the order
-between workers.
+An account holds 0 to 2^48. A job that would leave that range changes nothing.
+Each worker does its jobs in the script's order. The order of jobs of different
+workers is not determined.
 
 Example: with
   bank workers 1 lines 1
@@ -104,11 +104,12 @@ Example: with
   1 out 3 1
 it prints in 10, out 1, total 9.";
 
-const DRAW: &str = "The script, on standard input, is a schedule, as of `qolb replay`. Each line is
-drawn as a row for each node that calls on it, with a letter for each command on
-the line: how the node stands after it. A step script is drawn as a line for
-each event: a letter for each node, its point after the event; what the event
-told; and where the line lies.
+const DRAW: &str = "The script on standard input is a schedule, as `qolb replay` takes it. Each line
+is drawn with a row for each node that calls on it. A row has a letter for each
+command on the line, which shows the node's state after the command. With
+--steps, the script is a step script, as `qolb steps` takes it. It is drawn with
+a line of text for each event, which has a letter for each node, the word that
+the event told, and the place of the line.
 
 Example: with
   nodes 2 lines 1
@@ -270,18 +271,15 @@ fn task_of(name: &str, kind: Option<&str>, detail: Detail, waits: WaitMode) -> T
     } else if name == "bank" {
         Task::Work(WorkKind::Bank, lock_named(kind), waits)
     } else {
-        Task::Replay(kind_named(kind))
+        Task::Replay(replayed_by(kind))
     }
 }
 
-/// Returns the kind of this name.
-fn kind_named(name: Option<&str>) -> AnyKind
-    ensures { result ≡ spec.kind_of_name (option_map (λ n. n.now) name.entry) }
+/// Returns the lock of the lines that replay a schedule, by the name of their kind, or `None` for the plain reference.
+fn replayed_by(kind: Option<&str>) -> Option<Lock>
+    ensures { result ≡ spec.replayed_by (option_map (λ n. n.now) kind.entry) }
 {
-    match name.and_then(Lock::named) {
-        Some(lock) => AnyKind::Shared(lock),
-        None => AnyKind::Plain,
-    }
+    kind.and_then(Lock::named)
 }
 
 /// Returns the lock of this name.
@@ -379,12 +377,12 @@ fn work<'a>(
         .arg(flag(
             alloc,
             "sleep",
-            "Workers sleep until they are woken, in place of looking\nagain and again",
+            "Workers sleep until they are woken, instead of polling",
         ))?
         .arg(flag(
             alloc,
             "progress",
-            "Says on standard error, once a second, how many of all jobs\nare done",
+            "Reports on standard error, once a second, how many of all\njobs are done",
         ))?
         .arg(explain(alloc, LINE_EXPLAINED))
 }
@@ -398,12 +396,8 @@ fn draw<'a>(alloc: Global) -> Result<Command<'a>, AllocError>
             "Draws the schedule script on standard input: how each node stands\nafter each command",
         )
         .after_help(DRAW)
-        .arg(flag(alloc, "svg", "Draws an SVG in place of plain text"))?
-        .arg(flag(
-            alloc,
-            "steps",
-            "Draws a step script, as of `qolb steps`, in place of a schedule",
-        ))?
+        .arg(flag(alloc, "svg", "Draws an SVG instead of plain text"))?
+        .arg(flag(alloc, "steps", "Draws a step script instead of a schedule"))?
         .arg(explain(alloc, LINE_EXPLAINED))
 }
 

@@ -2,7 +2,9 @@
 #![tactic(auto)]
 
 mod command_line;
+mod process;
 mod program;
 
 pub use command_line::{Args, Subcommand, parse_args};
+pub use process::run;
 pub use program::{fail, refuse_words, serve};

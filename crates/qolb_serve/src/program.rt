@@ -1,28 +1,25 @@
 //! Does what the words ask for, and reports how that ended.
-ghost use Rattle.std.specs.Prelude.{◌≡◌, ◌≢◌, ◌≤◌, ◌++◌, [], ℕ, Bool, true, false, List, length, Err, Some, None, codes, map, string_bytes, IfSome, IfErr, IfOk, MatchOption};
-ghost use Rattle.std.specs.Io.KnownBytes.{Appends};
+ghost use Rattle.std.specs.Prelude.{◌≡◌, ◌≢◌, ◌≤◌, ◌⊎◌, ◌++◌, [], ℕ, Bool, true, false, List, length, Err, codes, map, string_bytes, IfSome, IfErr, IfOk};
 ghost use Rattle.std.specs.IoError.{error_kind};
 ghost use Rattle.std.specs.declared.io.ErrorKind.TheVariants as io_kind;
 ghost use Rattle.qolb_replay.specs.declared.input.TheConstants.{MAX_BYTES};
 ghost use Rattle.qolb_serve.specs.CommandLine.{NamesFlag, NamesWish, IsNotTaken};
 ghost use Rattle.qolb_serve.specs.declared.command_line.Subcommand.{Subcommand};
 ghost use Rattle.qolb_run.specs.Outcome.{IsReplyOver, HasNoReport};
-ghost use Rattle.qolb_serve.specs.Subcommands.{AreNotesIf, AreNotesOn, Performs, IsDenied, MayDeny, complaint};
+ghost use Rattle.qolb_script.specs.WorkScript.{IsWorkBegun};
+ghost use Rattle.qolb_serve.specs.Subcommands.{AreNotesIf, AreNotesOn, HasAnswer, HasBegun, IsAnswered, IsDenied, IsRefusedFor, MayDeny, Performs};
 ghost use Rattle.qolb_serve.specs.Status.{status_of};
 
 use crate::command_line::{Args, Subcommand, parse_args};
 use clap::error::ErrorKind;
-use qolb_draw::draw_schedule;
-use qolb_draw_steps::draw_steps;
-use qolb_explain::{
-    Complaint, explain_schedule, explain_steps, explain_work, notes_of_schedule, notes_of_steps,
-};
+use qolb_draw::{draw_schedule, draw_steps};
+use qolb_explain::{complaint_about, notes_of_schedule, notes_of_steps};
 use qolb_replay::MAX_BYTES;
 use qolb_run::{
     AlwaysOpen, KindSpec, Lock, Locks, Progress, Task, TaskError, WaitMode, answer_schedule,
     answer_steps, answer_work, read_all,
 };
-use qolb_script::{Watched, WorkKind};
+use qolb_script::{Refusal, Watched, WorkKind, parse_schedule, parse_steps, parse_work};
 use std::alloc::{AllocError, Global};
 use std::io::{self, Read, Write};
 use std::rt::Clock;
@@ -42,20 +39,20 @@ pub fn serve<T: Threads + Wait + Clock + Eprint + Sync, R: Read, W: Write, E: Wr
     err: &mut E,
 ) -> u8
     ensures statuses { result ≤ 4 }
-    // The notes are those of `--explain`.
     ensures done { result ≡ 0 → (subcommand : Subcommand) × (explain : Bool)
         × NamesWish (map string_bytes words.now) subcommand
         × NamesFlag (codes "explain") (map string_bytes words.now) explain
-        × IfSome (R.remaining reader.old) (λ script.
-        (text notes : List ℕ) × Performs ⟦<Locks as KindSpec>⟧.done_over subcommand script text
-        × AreNotesIf explain subcommand script notes
-        × Appends (W.contents out.old) (W.contents out.new) (text ++ notes)) }
+        × IfSome (R.remaining reader.old) (IsAnswered ⟦<Locks as KindSpec>⟧.done_over
+        subcommand explain (W.contents out.old) (W.contents out.new)) }
     ensures refused { result ≡ 1 → (subcommand : Subcommand)
         × NamesWish (map string_bytes words.now) subcommand
         × IfSome (R.remaining reader.old) (IsDenied subcommand) }
     ensures usage { result ≡ 2 → IsNotTaken (map string_bytes words.now) }
+    // A read failed, and nothing was written; or the bytes have an answer, and a write failed.
     ensures fault { result ≡ 4 → (subcommand : Subcommand)
-        × NamesWish (map string_bytes words.now) subcommand }
+        × NamesWish (map string_bytes words.now) subcommand
+        × ((out.new ≡ out.old) ⊎ IfSome (R.remaining reader.old)
+        (HasAnswer ⟦<Locks as KindSpec>⟧.done_over subcommand)) }
     ensures silent { result ≡ 0 → err.new ≡ err.old }
     ensures unread { result ≡ 2 → reader.new ≡ reader.old }
     ensures unwritten { 1 ≤ result → result ≤ 3 → out.new ≡ out.old }
@@ -74,11 +71,34 @@ pub fn serve<T: Threads + Wait + Clock + Eprint + Sync, R: Read, W: Write, E: Wr
         Ok(script) => script,
         Err(error) => return refuse_input(err, request.explain, error.into()),
     };
-    let text = match answer(rt, alloc, request, &script) {
+    respond(rt, alloc, request, &script, out, err)
+}
+
+/// Writes the answer to a request, or complains that there is none. Returns the exit status.
+fn respond<T: Threads + Wait + Clock + Eprint + Sync, W: Write, E: Write>(
+    rt: &T,
+    alloc: Global,
+    request: Args,
+    script: &[u8],
+    out: &mut W,
+    err: &mut E,
+) -> u8
+    requires fits { length script.now ≤ MAX_BYTES }
+    ensures statuses { (result ≤ 4) × (result ≢ 2) }
+    ensures done { result ≡ 0 → IsAnswered ⟦<Locks as KindSpec>⟧.done_over request.subcommand
+        request.explain (W.contents out.old) (W.contents out.new) script.now }
+    ensures refused { result ≡ 1 → IsDenied request.subcommand script.now }
+    ensures memory { result ≡ 3 → HasBegun request.subcommand script.now }
+    ensures fault { result ≡ 4
+        → HasAnswer ⟦<Locks as KindSpec>⟧.done_over request.subcommand script.now }
+    ensures silent { result ≡ 0 → err.new ≡ err.old }
+    ensures unwritten { 1 ≤ result → result ≤ 3 → out.new ≡ out.old }
+{
+    let text = match answer(rt, alloc, request, script) {
         Ok(text) => text,
-        Err(error) => return refuse(err, request, &script, error),
+        Err(error) => return refuse(alloc, err, request, script, error),
     };
-    let Ok(text) = with_notes(alloc, request, &script, text) else {
+    let Ok(text) = with_notes(alloc, request, script, text) else {
         return fail(err, TaskError::Memory);
     };
     if out.write_all(&text).is_err() {
@@ -98,6 +118,8 @@ fn answer<T: Threads + Wait + Clock + Eprint + Sync>(
     ensures granted { IfOk result (λ text.
         Performs ⟦<Locks as KindSpec>⟧.done_over request.subcommand script.now text.items) }
     ensures denied { IfErr result (MayDeny request.subcommand script.now) }
+    ensures memory { IfErr result (λ error. status_of error ≡ 3
+        → HasBegun request.subcommand script.now) }
     ensures no_fault { IfErr result (λ error. status_of error ≢ 4) }
 {
     match request.subcommand {
@@ -169,6 +191,7 @@ fn work<T: Threads + Wait + Clock + Eprint + Sync>(
     ensures ok { IfOk result (λ text. length script.now ≤ MAX_BYTES
         → IsReplyOver (⟦<Locks as KindSpec>⟧.done_over lock) kind script.now text.items) }
     ensures refused { IfErr result (HasNoReport kind script.now) }
+    ensures memory { result ≡ Err TaskError.Memory → IsWorkBegun kind script.now }
     ensures never_stalls { (worker : ℕ) → result ≢ Err (TaskError.Stalled worker) }
 {
     if progress {
@@ -191,29 +214,39 @@ fn refuse_input<E: Write>(err: &mut E, explain: bool, error: TaskError) -> u8
     status
 }
 
-/// Writes the error and, if that is asked for and the script is refused, its fault. Returns the exit status.
-fn refuse<E: Write>(err: &mut E, request: Args, script: &[u8], error: TaskError) -> u8
+/// Writes the error and, if that is asked for and the script is refused, what may stand there. Returns the exit status.
+fn refuse<E: Write>(
+    alloc: Global,
+    err: &mut E,
+    request: Args,
+    script: &[u8],
+    error: TaskError,
+) -> u8
     ensures { result ≡ status_of error }
 {
     let status = fail(err, error);
     if status == 1 && request.explain {
-        if let Some(complaint) = complaint_of(request.subcommand, script) {
-            let _ = writeln!(err, "{complaint}");
+        if let Some(why) = refusal_of(alloc, request.subcommand, script) {
+            if let Some(complaint) = complaint_about(script, why) {
+                let _ = writeln!(err, "{complaint}");
+            }
         }
     }
     status
 }
 
-/// Returns the complaint about the script of a subcommand, if it is refused.
-fn complaint_of<'a>(subcommand: Subcommand, script: &'a [u8]) -> Option<Complaint<'a>>
-    ensures { MatchOption result
-        (complaint subcommand script.now ≡ None)
-        (λ it. complaint subcommand script.now ≡ Some (it.number, it.line.now, it.reason)) }
+/// Returns why the script of a subcommand is refused, by its reader; `None` if it is not.
+fn refusal_of(alloc: Global, subcommand: Subcommand, script: &[u8]) -> Option<Refusal>
+    ensures { IfSome result (λ why. why ≢ Refusal.Memory → IsRefusedFor subcommand script.now why) }
 {
     match subcommand {
-        Subcommand::Answer(Task::Replay(_)) | Subcommand::Draw(_) => explain_schedule(script),
-        Subcommand::Answer(Task::Steps(_)) | Subcommand::DrawSteps(_) => explain_steps(script),
-        Subcommand::Answer(Task::Work(kind, _, _)) => explain_work(script, kind),
+        Subcommand::Answer(Task::Replay(_)) | Subcommand::Draw(_) => {
+            parse_schedule(alloc, script).err()
+        }
+        Subcommand::Answer(Task::Steps(_)) | Subcommand::DrawSteps(_) => {
+            parse_steps(alloc, script).err()
+        }
+        Subcommand::Answer(Task::Work(kind, _, _)) => parse_work(alloc, script, kind).err(),
     }
 }
 

@@ -3,7 +3,7 @@ ghost use Rattle.std.specs.Prelude.{◌≡◌, ◌≤◌, ℕ, [], All, Err, IfO
 ghost use Rattle.qolb_script.specs.declared.schedule.TheConstants.{MAX_COMMANDS};
 ghost use Rattle.qolb_model.specs.declared.config.TheConstants.{MAX_NODES};
 ghost use Rattle.qolb_model.specs.Opening.{AreNodes};
-ghost use Rattle.line_accounts.specs.Desks.{IsDeskOver};
+ghost use Rattle.line_accounts.specs.Desks.{ArePatient, IsDeskOver};
 ghost use Rattle.line_accounts.specs.Settled.{all_paid_in, all_paid_out};
 ghost use Rattle.qolb_work.specs.Workers.{AreDone, AreFresh, HasEnded, MayStop, IsWithinLimits};
 ghost use Rattle.qolb_work.specs.Jobs.{IsBankJob};
@@ -66,6 +66,7 @@ fn try_once<L: LineSync<AccountLaw>>(lines: &[L], desk: &mut Desk<L>, job: &Job)
     ensures asks { Asks L.view (length lines.now) job.now desk.old desk.new result }
     ensures pays { PaysOneAmount desk.old desk.new }
     ensures amount { IsAmount job.now }
+    ensures patient { ArePatient L.counters PATIENCE desk.old.ports desk.new.ports }
 {
     match *job {
         Job::PayIn {

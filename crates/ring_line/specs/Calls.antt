@@ -1,4 +1,5 @@
--- What a release, and the walk over withdrawn requests in it, require and ensure of the holder's seat: one record for each.
+-- What a release requires and ensures of the holder's seat, and what the walk over withdrawn requests in it does. There
+-- is one record for each of the two.
 use Rattle.std.specs.Prelude.{◌≡◌, ◌≢◌, ℕ, ◌+◌, ◌*◌, ◌≤◌, List, [], ◌∷◌, length}
 use Rattle.atomic_table.specs.Seated.{TableId}
 use Rattle.qolb_model.specs.declared.config.TheConstants.{MAX_NODES}
@@ -24,7 +25,7 @@ pub record IsReleaser (allows : List ℕ → List ℕ → Type 0) (id : TableId)
   pub nodes : 1 ≤ (ghost_of s).view.config.nodes
   pub payload : (y : Payload) × HasSlot s y × IsNextPayload allows (ghost_of s) y
 
--- after `release`: the line is released, by this handoff
+-- what `release` ensures: the line is released, with this outcome
 pub record HasReleased (allows : List ℕ → List ℕ → Type 0) (old new : ArraySeat) (handoff : Handoff) : Type 0 where
   pub no_slot : HasNoSlot new
   pub advances : SeatAdvances allows old new handoff.steps
@@ -45,7 +46,7 @@ pub record MayWalk (id : TableId) (cell found : ℕ) (s : ArraySeat) : Type 0 wh
   pub nodes : (2 ≤ (ghost_of s).view.config.nodes) × ((ghost_of s).view.config.nodes ≤ MAX_NODES)
   pub payload : (y : Payload) × HasSlot s y × MatchesEnds (ghost_of s) y × ((ghost_of s).view.state ≡ state_after y.closed)
 
--- after `walk`: the withdrawn requests are passed, by this handoff
+-- what `walk` ensures: the withdrawn requests are passed, with this outcome
 pub record HasWalked (allows : List ℕ → List ℕ → Type 0) (old new : ArraySeat) (handoff : Handoff) : Type 0 where
   pub no_slot : HasNoSlot new
   pub advances : SeatAdvances allows old new handoff.steps

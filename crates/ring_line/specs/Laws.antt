@@ -1,5 +1,5 @@
--- What a ring adds to the laws of a table of tickets and cells. It is in `specs`, since the proof of a law may name
--- nothing of `proofs`.
+-- What a ring adds to the theorems about tables of tickets and cells. This file is in `specs`, because the proof of a
+-- theorem may not name anything of `proofs`.
 use Rattle.std.proofs.Common.{◌≡◌, ℕ, ◌+◌, ◌^◌, ◌<◌, ◌≤◌, List, false, arith}
 use Rattle.qolb_model.specs.declared.config.TheConstants.{MAX_NODES}
 use Rattle.line_cells.specs.declared.layout.TheConstants.{CELLS}

@@ -7,8 +7,8 @@ use Rattle.line_cells.specs.SlotLayout.{one_slot}
 use Rattle.line_cells.specs.Array.{ArrayState, ArrayRule}
 use Rattle.ring_line.specs.declared.layout.TheConstants.{WITHDRAWN_UNIT}
 
--- The words of the cells. The cell at its turn is blank once it is cleared, and granted if no node has the line; a
--- later one has the mark of its request.
+-- The words of the cells. The cell at its turn is blank once it is cleared, and granted if no node has the line. A
+-- later cell has the mark of its request.
 pub record RingCells (ended holder : ℕ) (cleared : Bool) (marks says : ℕ → ℕ) : Type 0 where
   pub blank : cleared ≡ true → says (cell_of ended) ≡ 0
   pub granted : holder ≡ 0 → says (cell_of ended) ≡ 1

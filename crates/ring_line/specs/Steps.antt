@@ -1,4 +1,4 @@
--- What each word step of a port tells it, as far as it depends on the ring.
+-- What each atomic step tells the port that takes it, as far as that depends on the ring.
 use Rattle.std.specs.Prelude.{◌≡◌, ◌≢◌, ℕ, ◌+◌, ◌%◌, ◌^◌, List, [], ◌∷◌, length}
 use Rattle.atomic_table.specs.Table.{Step}
 use Rattle.atomic_table.specs.Seated.{TableId}
@@ -12,19 +12,19 @@ use Rattle.line_cells.specs.Steps as array
 use Rattle.line_cells.specs.Steps.{ArraySeat, SeatContents, single, ghost_of}
 use Rattle.ring_line.specs.Layout as layout
 
--- the cell of the node's last request, and the one at its turn, as far as the node knows
+-- the cell of the node's last request, and the cell at its turn, as far as the node knows
 abbrev pub own_cell : ArraySeat → ℕ
 own_cell seat = cell_of (ghost_of seat).own.place
 
 abbrev pub turn_cell : ArraySeat → ℕ
 turn_cell seat = cell_of (length (ghost_of seat).view.ends)
 
--- the seat is of the table of a line of n nodes, and has the entry of this node
+-- the seat belongs to the table of a line of n nodes, and has the entry of this node
 abbrev pub IsSeatOfNode : ℕ → TableId → ℕ → ArraySeat → Type 0
 IsSeatOfNode nodes table_id node seat = array.IsSeatOfNode (λ _. CELLS) nodes table_id node seat
 
--- A port's token is its cell. The request is not at its turn, and not withdrawn; it is at its turn; it is not at its
--- turn, and withdrawn.
+-- A port's token is its cell. The request is not at its turn and not withdrawn; or it is at its turn; or it is not at
+-- its turn and withdrawn.
 abbrev pub IsStillQueued : ℕ → ArrayGhost → Type 0
 IsStillQueued cell w = array.IsStillQueued cell_of cell w
 
@@ -41,21 +41,21 @@ after_clear v = record v { own = record v.own { point = Cleared }; steps = v.ste
 abbrev pub cleared : Step Payload → SeatContents → ℕ → SeatContents → Type 0
 cleared st m n m' = m' ≡ (after_clear (single m.0) ∷ [], m.1)
 
--- an own cell that is blank is not granted
+-- the node's own cell is blank, so it is not granted
 abbrev pub is_blank : ℕ → ℕ → Type 0
 is_blank place found = found ≡ 0
 
 abbrev pub is_granted : ℕ → ℕ → Type 0
 is_granted place found = found ≢ 0
 
--- an own cell with a blank lower half is not granted
+-- the lower half of the node's own cell is blank, so the cell is not granted
 abbrev pub is_blank_half : ℕ → ℕ → Type 0
 is_blank_half place found = found % 2 ^ 32 ≡ 0
 
 abbrev pub is_granted_half : ℕ → ℕ → Type 0
 is_granted_half place found = found % 2 ^ 32 ≢ 0
 
--- a blank next cell has no withdrawn request; another one has the number of the node that withdrew
+-- a next cell that is blank has no withdrawn request; any other has the number of the node that withdrew there
 abbrev pub seen : ℕ → ℕ → ℕ
 seen place found = found
 

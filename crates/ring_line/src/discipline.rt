@@ -1,4 +1,4 @@
-//! The ring as a queue discipline.
+//! The queue discipline of the ring.
 ghost use Rattle.std.specs.Prelude.{◌≡◌};
 ghost use Rattle.qolb_model.specs.PortStates as states;
 ghost use Rattle.ring_line.specs.Layout.{word_count, cell_of};
@@ -75,7 +75,8 @@ impl<K: Keep> Discipline<K> for RingQueue {
         take_from_closed(closed)
     }
 
-    /// Takes a ticket and loads its cell: two word steps; four after a withdrawal; one if busy.
+    /// Takes a ticket and loads its cell. Takes two atomic steps, or four after a withdrawal, or one if the node is
+    /// busy.
     #[inline]
     fn ask(
         table: &SharedTable<K>,
@@ -104,7 +105,7 @@ impl<K: Keep> Discipline<K> for RingQueue {
         }
     }
 
-    /// Returns `true` unless the node's last request was withdrawn and is not passed yet.
+    /// Returns `true` unless the node's last request was withdrawn and has not been passed yet.
     #[inline]
     fn look_at_rest(
         table: &SharedTable<K>,
@@ -200,7 +201,7 @@ impl<K: Keep> Discipline<K> for RingQueue {
         0) one_last id words xs };
 }
 
-/// The state of a port after its turn, if that closed the line or not.
+/// The state of a port after its turn, depending on whether the turn closed the line.
 #[inline]
 fn state_after(closed: bool) -> PortState
     ensures { result ≡ states.state_after closed }

@@ -1,4 +1,4 @@
-//! The queue discipline of a ring, its ghost state and its invariant.
+//! The type of the ring's queue discipline, its ghost state, and its invariant.
 ghost use Rattle.line_generic.specs.Slots.{in_single_slot, open_in_single_slot};
 ghost use Rattle.ring_line.specs.Layout.{cell_of};
 ghost use Rattle.line_cells.specs.declared.layout.TheConstants.{CELLS};
@@ -13,10 +13,11 @@ use qolb_model::Keep;
 
 /// An array queue lock (Anderson 1990) that also hands over the line, with withdrawal.
 ///
-/// Nodes take tickets, and each waits on a cell of its own. Invariant: (1) the requests form one order, and a prefix of them has ended; (2)
-/// if no node has the line, its bytes after those ends are in the slot, and the cell of the request at its turn is granted; (3) a later
-/// cell is blank, or has the number of the node that withdrew there. Each port's view is a prefix of this history. A node has at most one
-/// open request, so there are always more cells than open requests.
+/// Nodes take tickets, and each node waits on a cell of its own. The invariant says: (1) The requests form one order,
+/// and a prefix of them has ended. (2) While no node has the line, its bytes after those ends are in the slot, and the
+/// cell of the request at its turn is granted. (3) A later cell is blank, or has the number of the node that withdrew
+/// there. Each port's view is a prefix of this history. A node has at most one open request, so there are always more
+/// cells than open requests.
 pub struct RingQueue;
 
 impl DisciplineSpec for RingQueue {
@@ -63,7 +64,7 @@ impl<K: Keep> DisciplineInvariant<K> for RingQueue {
 /// A line whose nodes queue by tickets in a ring of cells.
 pub type RingLine<K, W = Parking> = line_generic::Line<K, RingQueue, W>;
 
-/// A node's handle of a `RingLine`.
+/// The port of a node of a `RingLine`.
 pub type Port<W = Parking> = line_generic::Port<RingQueue, W>;
 
 /// The table of a ring, as all its nodes share it.

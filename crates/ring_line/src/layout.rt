@@ -10,7 +10,8 @@ use std::alloc::{AllocError, Global};
 /// The number that a grant adds to a cell.
 pub(crate) const GRANTED: u64 = 1;
 
-/// The unit of a withdrawal: a cell gets it times the number of the node that withdraws there. The grant's bit is below it.
+/// The unit of a withdrawal. A node that withdraws adds this unit times its own number to its cell. The bit of a grant
+/// is below it.
 pub(crate) const WITHDRAWN_UNIT: u64 = 256;
 
 /// Returns the cell of a ticket.
@@ -21,7 +22,7 @@ pub(crate) fn cell_of(ticket: u64) -> u64
     ticket % CELLS
 }
 
-/// Returns the cell behind this one.
+/// Returns the next cell after this one.
 #[inline]
 pub(crate) fn cell_after(cell: u64) -> u64
     requires { cell < CELLS }
@@ -54,7 +55,7 @@ pub(crate) fn withdrawn_by(word: u64) -> u64
     word / WITHDRAWN_UNIT
 }
 
-/// Allocates the words of a new line: cell 0 is granted.
+/// Allocates the words of a new line, in which cell 0 is granted.
 pub(crate) fn first_words(alloc: Global, count: usize) -> Result<Vec<u64>, AllocError>
     requires { count ≡ layout.word_count }
     ensures wide { IfOk result (λ words. length words.items ≡ layout.word_count) }

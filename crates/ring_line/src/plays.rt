@@ -1,4 +1,4 @@
-//! The ghost updates of the word steps on a cell.
+//! The ghost updates of the atomic steps on a cell.
 ghost use Rattle.ring_line.specs.Steps.{loaded, rolled, cleared, granted};
 
 use atomic_table::Play;

@@ -1,4 +1,4 @@
-//! The release of the line.
+//! The release of the line: the holder clears its cell, grants the next one, and passes withdrawn requests.
 ghost use Rattle.std.specs.Prelude.{◌≡◌, ◌≢◌, ◌+◌, [], length};
 ghost use Rattle.qolb_model.specs.declared.config.TheConstants.{MAX_NODES};
 ghost use Rattle.line_generic.specs.Steps.{IsSeatOf};
@@ -16,15 +16,17 @@ use arrayvec::ArrayVec;
 use line_cells::is_freed;
 use qolb_model::{Keep, MAX_NODES, PortState};
 
-/// The maximum number of requests that a release passes: those of all nodes but its own.
+/// The maximum number of requests that a release passes: one for each node except its own.
 const MAX_PASSED: usize = MAX_NODES as usize - 1;
 
-/// A release has room for the nodes of all requests that it may pass, and for no more. A law: the contract of a function that does nothing.
+/// A release has room for the nodes of all requests that it may pass, and for no more. This theorem is the contract of
+/// a function that does nothing.
 pub fn passed_nodes_have_room()
     ensures { MAX_PASSED + 1 ≡ MAX_NODES }
 {}
 
-/// The word steps taken, and the cell granted last. The request there is at its turn: its node may be parked, or may not have made it yet.
+/// The outcome of a release: the atomic steps taken, and the cell that was granted last. The request there is at its
+/// turn; its node may be parked, or may not have made the request yet.
 #[derive(Clone, Copy)]
 pub(crate) struct Handoff {
     pub(crate) steps: u64,
@@ -33,8 +35,9 @@ pub(crate) struct Handoff {
 
 /// Sets the node's own word back to 0 for a new request, if the last one is clear.
 ///
-/// Returns the word steps taken: `Some(0)` if the last request was not withdrawn, or there was none; `Some(2)` if it was withdrawn and is
-/// clear. Returns `None`, after one step, if it is not clear yet.
+/// Returns the atomic steps taken. They are `Some(0)` if the last request was not withdrawn or there was none, and
+/// `Some(2)` if it was withdrawn and is clear. The call returns `None`, after one step, if the last request is not
+/// clear yet.
 #[inline]
 pub(crate) fn try_reset<K: Keep>(
     table: &SharedTable<K>,
@@ -59,9 +62,9 @@ pub(crate) fn try_reset<K: Keep>(
     Some(2)
 }
 
-/// Gives the line to the next request that is not withdrawn, made already or not.
+/// Gives the line to the next request that is not withdrawn, whether or not that request was already made.
 ///
-/// Two word steps, and three more for each passed request. Does not block.
+/// The release takes two atomic steps, and three more for each passed request. It does not block.
 #[inline]
 pub(crate) fn release<K: Keep>(table: &SharedTable<K>, seat: &mut RingSeat, cell: u64) -> Handoff
     requires { IsReleaser K.allows table.now.table_id cell seat.old }
@@ -84,9 +87,11 @@ pub(crate) fn release<K: Keep>(table: &SharedTable<K>, seat: &mut RingSeat, cell
     }
 }
 
-/// Passes withdrawn requests, up to the first cell without a withdrawal, and frees their nodes. Three word steps for each.
+/// Passes withdrawn requests, up to the first cell without a withdrawal, and frees their nodes. Takes three atomic
+/// steps for each request.
 ///
-/// Cold and not inlined: it has an array of the passed nodes, which a release without withdrawn successors should not set up.
+/// The function is cold and not inlined, because it has an array of the passed nodes, which a release without withdrawn
+/// successors should not set up.
 #[cold]
 #[inline(never)]
 fn walk<K: Keep>(table: &SharedTable<K>, seat: &mut RingSeat, cell: u64, found: u64) -> Handoff
@@ -102,7 +107,8 @@ fn walk<K: Keep>(table: &SharedTable<K>, seat: &mut RingSeat, cell: u64, found: 
         found = grant(table, seat, cell);
         cell = cell_after(cell);
     }
-    // Freed only now: a freed node may request again, so a walk that freed early might pass it again and again.
+    // The nodes are freed only now. A freed node may request again, so a walk that freed nodes early might pass such a
+    // node again and again.
     free_passed(table, seat, &passed);
     Handoff {
         steps: 3 * passed.len() as u64,

@@ -1,17 +1,19 @@
-//! The word steps: each is one atomic operation on one word, sequentially consistent. The operation's type argument is its play: the ghost
-//! transition, which counts the step.
+//! The atomic steps. Each step is one sequentially consistent operation on one word. The type argument of the operation
+//! is its play, which is the ghost transition that counts the step.
 //!
-//! - A *node* is a participant. To *free* a node is to set its *node word*, which is 0 before: then its withdrawn request is clear.
-//! - A *seat* is a node's access to the shared table: its node's ghost state (`me.0`, a list of one: `IsOfOneNode`), and
-//!   the slot with the line while the seat has it (`me.1`).
-//! - A *cell* is the word at which a request waits (a slot of Anderson's): 0, `GRANTED`, the node that withdrew there times
-//!   `WITHDRAWN_UNIT`, or the sum. The *slot* has the line's 64 bytes, and whether the line is closed.
-//! - A request is *at its turn* once its cell is granted. Its node's seat *has* the line from the step that finds this. Its port *holds*
-//!   the line only if the line is not closed.
-//! - To *pass* a withdrawn request is to go on from its cell with the line. Each grant ends the request at its turn: at first the releasing
-//!   node's own, then each that was passed.
-//! - A node's last request is *clear* if no other node will use the node's word on account of it. The next request is then not answered
-//!   `Busy`.
+//! - A *node* is a participant. To *free* a node is to set its *node word*, which is 0 until then. Afterwards the
+//!   node's withdrawn request is clear.
+//! - A *seat* is a node's access to the shared table. It has the ghost state of the node (`me.0`, a list of one:
+//!   `IsOfOneNode`), and the slot with the line while the seat has it (`me.1`).
+//! - A *cell* is the word at which a request waits (a slot of Anderson's). It is 0, `GRANTED`, `WITHDRAWN_UNIT` times
+//!   the node that withdrew there, or the sum of the last two. The *slot* has the line's 64 bytes, and whether the line
+//!   is closed.
+//! - A request is *at its turn* once its cell is granted. Its node's seat *has* the line from the step that finds this
+//!   grant. Its port *holds* the line only if the line is not closed.
+//! - To *pass* a withdrawn request is to go on from its cell with the line. Each grant ends the request at its turn:
+//!   first the releasing node's own request, then each request that was passed.
+//! - A node's last request is *clear* once no other node will use the node's word because of it. The node's next
+//!   request is then not answered `Busy`.
 //! - A view's `count` is the number of its node's requests.
 ghost use Rattle.std.specs.Prelude.{◌≡◌, ◌≢◌, ◌⊎◌, ℕ, ◌≤◌, ◌∷◌, [], List, true, false};
 ghost use Rattle.qolb_model.specs.declared.request.Request.{Request};
@@ -33,10 +35,12 @@ use crate::plays::{Clear, Grant, Load, Roll};
 use line_cells::{FreeNode, LoadNode, Reset, TICKET_WORD, TakeTicket, cell_word, node_word};
 use qolb_model::Keep;
 
-/// Takes a ticket and returns its cell. The linearization point of a request: it puts the request into the order.
+/// Takes a ticket and returns its cell. This step is the linearization point of a request, because it puts the request
+/// into the order.
 ///
-/// No two requests that have not ended share a cell: each node has at most one, there are more cells than nodes, and their number divides
-/// that of the tickets, so this holds when the counter wraps, too.
+/// No two requests that have not ended share a cell, because each node has at most one such request and there are more
+/// cells than nodes. This also holds when the counter wraps around, because the number of cells divides the number of
+/// tickets.
 pub(crate) fn take_ticket<K: Keep>(table: &SharedTable<K>, seat: &mut RingSeat) -> u64
     requires table { IsSeatOf word_count table.now.table_id seat.old }
     requires point { IsAt Idle seat.old }
@@ -48,7 +52,8 @@ pub(crate) fn take_ticket<K: Keep>(table: &SharedTable<K>, seat: &mut RingSeat) 
     cell_of(table.fetch_add::<TakeTicket<K>>(seat, TICKET_WORD, 1))
 }
 
-/// Loads the request's cell. Returns `true` if it is granted: the request is at its turn, and the line's slot is the caller's.
+/// Loads the request's cell. Returns `true` if the cell is granted: the request is then at its turn, and the line's
+/// slot is the caller's.
 pub(crate) fn load<K: Keep>(table: &SharedTable<K>, seat: &mut RingSeat, cell: u64) -> bool
     requires table { IsSeatOf word_count table.now.table_id seat.old }
     requires point { IsAt Queued seat.old }
@@ -63,10 +68,10 @@ pub(crate) fn load<K: Keep>(table: &SharedTable<K>, seat: &mut RingSeat, cell: u
     is_granted(table.load::<Load<K>>(seat, cell_word(cell)))
 }
 
-/// Adds a withdrawal to the request's cell. The linearization point of a withdrawal.
+/// Adds a withdrawal to the request's cell. This step is the linearization point of a withdrawal.
 ///
-/// Returns `true` if the grant was there first: the request is at its turn, and no other node reads what was added, as the node clears the
-/// cell before it grants the next one. `false`: the request is withdrawn.
+/// Returns `true` if the grant was there first. The request is then at its turn, and no other node reads what was
+/// added, because the node clears the cell before it grants the next one. Returns `false` if the request is withdrawn.
 pub(crate) fn roll<K: Keep>(
     table: &SharedTable<K>,
     seat: &mut RingSeat,
@@ -86,7 +91,7 @@ pub(crate) fn roll<K: Keep>(
     is_granted(table.fetch_add::<Roll<K>>(seat, cell_word(cell), WITHDRAWN_UNIT * node))
 }
 
-/// Sets the cell of the request at its turn to 0: the caller's, or one that it passes.
+/// Sets the cell of the request at its turn to 0. That request is the caller's, or one that it passes.
 pub(crate) fn clear<K: Keep>(table: &SharedTable<K>, seat: &mut RingSeat, cell: u64)
     requires table { IsSeatOf word_count table.now.table_id seat.old }
     requires point { IsAt Holding seat.old ⊎ IsAt Passing seat.old }
@@ -97,10 +102,12 @@ pub(crate) fn clear<K: Keep>(table: &SharedTable<K>, seat: &mut RingSeat, cell: 
     table.store::<Clear>(seat, cell_word(cell), 0);
 }
 
-/// Ends the request at its turn, the caller's or one that it passes, and grants the next cell. The linearization point of an end.
+/// Ends the request at its turn, which is the caller's or one that it passes, and grants the next cell. This step is
+/// the linearization point of an end.
 ///
-/// Returns the old word of that next cell. 0: its request has the line, whether it was made already or not. Else the cell names the node
-/// that withdrew there (`withdrawn_by`): the caller still has the line, and must pass that request.
+/// Returns the old word of that next cell. If it is 0, the cell's request has the line, whether or not it was already
+/// made. Otherwise the cell names the node that withdrew there (`withdrawn_by`); the caller still has the line, and
+/// must pass that request.
 pub(crate) fn grant<K: Keep>(table: &SharedTable<K>, seat: &mut RingSeat, cell: u64) -> u64
     requires table { IsSeatOf word_count table.now.table_id seat.old }
     requires point { IsAt Cleared seat.old }
@@ -118,7 +125,7 @@ pub(crate) fn grant<K: Keep>(table: &SharedTable<K>, seat: &mut RingSeat, cell: 
     table.fetch_add::<Grant<K>>(seat, cell_word(cell_after(cell)), GRANTED)
 }
 
-/// Frees the node of the first passed request whose node is not freed yet: it may request again.
+/// Frees the node of the first passed request whose node is not freed yet. That node may then make another request.
 pub(crate) fn free<K: Keep>(table: &SharedTable<K>, seat: &mut RingSeat, node: u64)
     requires table { IsSeatOf word_count table.now.table_id seat.old }
     requires point { IsAt Freeing seat.old }
@@ -135,7 +142,8 @@ pub(crate) fn free<K: Keep>(table: &SharedTable<K>, seat: &mut RingSeat, node: u
     table.store::<FreeNode<K>>(seat, node_word(node), 1);
 }
 
-/// Loads the node's own word: not 0 if its withdrawn request was passed and the node freed, so that the request is clear.
+/// Loads the node's own word. The word is not 0 if the node's withdrawn request was passed and the node was freed, so
+/// that the request is clear.
 pub(crate) fn load_node<K: Keep>(table: &SharedTable<K>, seat: &mut RingSeat, node: u64) -> u64
     requires seat { IsSeatOfNode table.now.key.config.nodes table.now.table_id node seat.old }
     requires point { IsAt Rolled seat.old }

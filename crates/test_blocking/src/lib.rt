@@ -1,6 +1,6 @@
-//! Tests of parking, wake-ups, timeouts and fairness: the examples, over each lock.
+//! Tests of parking, wake-ups, timeouts and fairness: the examples run over each kind of line.
 //!
-//! The crate is read for its tests alone, so that it is proved once.
+//! The modules of this crate are compiled only for its tests, so that they are proved once.
 #![tactic(auto)]
 
 #[cfg(test)]

@@ -1,5 +1,5 @@
-//! The examples and waiters, over all lines. The tests are generic over the line, and the locks are named in one place, because the prover
-//! needs some seconds to see that a lock is a line, wherever it is named.
+//! The examples and waiters, over all lines. The tests are generic over the line. The kinds are named in one place
+//! only, because the prover needs some seconds to see that a kind is a line, wherever it is named.
 ghost use Rattle.std.specs.Prelude.{◌≡◌, IsTrue};
 ghost use Rattle.qolb_model.specs.PortStates.{may_ask};
 
@@ -284,7 +284,7 @@ fn a_value_lies_in_its_lane(rt: HostRuntime) -> Result<(), Fail> {
 
 #[test]
 fn no_more_seats_are_sold_than_there_are(rt: HostRuntime) -> Result<(), Fail> {
-    // What a law allows does not depend on the lock.
+    // What a data invariant allows does not depend on the lock.
     the_house_is_sold_out::<HostRuntime, TicketLine<SeatLimit>>(&rt, rt.alloc());
     Ok(())
 }

@@ -1,4 +1,4 @@
-//! A line with its ports, called by node number. A call is made only if the port's state allows it.
+//! A line with its ports, which a test calls by node number. It makes a call only if the port's state allows the call.
 ghost use Rattle.std.specs.Prelude.{◌≡◌, All, IfErr, IsTrue};
 ghost use Rattle.qolb_model.specs.PortStates.{may_ask};
 
@@ -11,9 +11,9 @@ use qolb_model::{
 use std::alloc::{Allocator, Global};
 use std::marker::Model;
 
-/// A line that counts word steps and sleepers, and that any allocator can finish.
+/// A line that counts atomic steps and sleepers, and that any allocator can finish.
 pub trait Instrumented: OpenLine<Free> {
-    /// The word steps of the port's last call; 0 before the first.
+    /// The atomic steps of the port's last call; 0 before the first.
     fn steps(&self, port: &Self::Port) -> u64;
 
     /// The number of waiters that sleep or are about to.
@@ -307,7 +307,7 @@ where
         CheckedLine::<L>::open(alloc, 7, config)
     }
 
-    /// The word steps of the last call of the node's port.
+    /// The atomic steps of the last call of the node's port.
     pub fn steps(&self, node: u64) -> Option<u64> {
         let port = self.ports.iter().find(|port| L::node(port) == node)?;
         Some(self.line.steps(port))

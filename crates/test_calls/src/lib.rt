@@ -1,6 +1,6 @@
-//! The calls of each lock, made by one thread, node by node.
+//! The calls of each kind of line, made by one thread, node by node.
 //!
-//! The crate is read for its tests alone, so that it is proved once.
+//! The modules of this crate are compiled only for its tests, so that they are proved once.
 #![tactic(auto)]
 
 #[cfg(test)]

@@ -1,5 +1,6 @@
-//! Each call of each lock. The answers are written once, over any line. A lock is named by its queue discipline: the prover sees once that a
-//! line of any discipline is a line, and at each named line again.
+//! Each call of each kind of line. The answers are written once, over any line. A test names a kind by its queue
+//! discipline, because the prover then sees only once that a line of any discipline is a line; it would see that again
+//! at each named line.
 
 mod asleep;
 mod did;
@@ -20,8 +21,8 @@ use std::process::Abort;
 use std::sync::Wait;
 use std::test::Fail;
 
-/// What differs between the locks: the word steps of a release that passes two withdrawn nodes of three, and of one that passes 199 of 200;
-/// and the bytes of the table of a line with four nodes.
+/// What differs between the locks: the atomic steps of a release that passes two withdrawn nodes of three, and of one
+/// that passes 199 of 200; and the bytes of the table of a line with four nodes.
 #[derive(Drop)]
 struct Known {
     few: u64,

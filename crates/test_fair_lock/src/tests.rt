@@ -1,4 +1,4 @@
-//! The tests, and the threads that they run.
+//! The tests of the fair lock, and the threads that they run.
 mod answers;
 mod order;
 mod threads;

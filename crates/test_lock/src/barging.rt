@@ -89,7 +89,7 @@ fn go_out<R: Wait>(rt: &R, field: &Field, seat: &mut TicketSeat, barging_limit: 
     unreachable!()
 }
 
-/// Makes one request: barges if it can, and else waits in the queue. Returns 1 if it was served.
+/// Makes one request: barges if it can, and otherwise waits in the queue. Returns 1 if it was served.
 fn turn_or_none<R: Wait>(
     rt: &R,
     field: &Field,

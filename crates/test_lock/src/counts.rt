@@ -1,4 +1,5 @@
-//! What threads count in their critical sections. Only the caller that is served writes, so a plain load and store lose nothing.
+//! Counts of what threads do in their critical sections. Only the thread that is served writes, so plain loads and
+//! stores lose nothing.
 use std::sync::atomic::{AtomicU64, Ordering};
 
 /// What was seen in critical sections.

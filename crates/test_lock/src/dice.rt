@@ -1,4 +1,4 @@
-//! Numbers by which a thread chooses its next call.
+//! Pseudorandom numbers by which a thread chooses its next call.
 
 /// A row of numbers, the same for the same seed (Marsaglia's xorshift).
 #[derive(Drop)]

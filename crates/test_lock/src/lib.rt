@@ -1,6 +1,6 @@
-//! Tests of the lock's core: threads that share a lock, and each answer to one caller.
+//! Tests of the lock's core: threads share a lock, and each answer is given to one caller.
 //!
-//! The crate is read for its tests alone, so that it is proved once.
+//! The modules of this crate are compiled only for its tests, so that they are proved once.
 #![tactic(auto)]
 
 #[cfg(test)]

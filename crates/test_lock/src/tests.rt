@@ -1,4 +1,4 @@
-//! The tests.
+//! The tests of the lock's core.
 
 mod answers;
 mod lock_word;

@@ -1,6 +1,7 @@
-//! Boards, desks and programs of threads over any line, with their tests. The tests of a line need only to open it.
+//! Boards, desks and programs of threads over any line, with their tests. The tests only need a line that they can
+//! open.
 //!
-//! What only the tests of this crate call is read for them alone, so that it is proved once.
+//! The modules that only these tests call are compiled only for the tests, so that they are proved once.
 #![tactic(auto)]
 
 #[cfg(test)]

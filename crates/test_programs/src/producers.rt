@@ -1,4 +1,4 @@
-//! A board between threads: two producers put numbered tasks, and two consumers take them until all are taken.
+//! A board between threads. Two producers put numbered tasks, and two consumers take tasks until all are taken.
 ghost use Rattle.std.specs.Prelude.{◌*◌, ◌<◌, ◌^◌, All, IfSome, IsTrue};
 ghost use Rattle.qolb_model.specs.PortStates.{may_ask};
 ghost use Rattle.line_accounts.specs.NewDesks.{IsNewPort};

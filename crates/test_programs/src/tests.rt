@@ -1,4 +1,4 @@
-//! Each test over each lock. The answers are written once, over any line.
+//! Each test, over each kind of line. The answers are written once, over any line.
 
 mod boards;
 mod counts;

@@ -1,4 +1,5 @@
-//! Desks in threads: each pays in, and then transfers at random between all accounts. The settled total is what was paid in.
+//! Desks in threads. Each desk pays in, and then transfers at random between all accounts. The settled total is what
+//! was paid in.
 ghost use Rattle.std.specs.Prelude.{All, IfSome};
 ghost use Rattle.line_accounts.specs.Desks.{IsDeskOver};
 ghost use Rattle.line_accounts.specs.NewDesks.{IsNewPort};

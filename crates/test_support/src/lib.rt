@@ -1,4 +1,5 @@
-//! For tests: takes a process's memory away, so that allocations are refused, and calls hooks beside a line's own calls.
+//! Helpers for tests: one takes a process's memory away, so that allocations are refused, and one calls hooks beside a
+//! line's own calls.
 #![tactic(auto)]
 
 mod hooked_line;

@@ -1,4 +1,4 @@
--- What the steps on cells leave them to say.
+-- What a cell says after each step on a cell.
 use Rattle.std.proofs.Math.Nat.{add-mod_right}
 use Rattle.std.proofs.Common.{◌≡◌, ◌≢◌, ℕ, ◌+◌, ◌-◌, ◌/◌, ◌%◌, ◌^◌, ◌<◌, ◌≤◌, Bool, sym, refl, ap, ◌∙◌, subst, arith}
 use mathlib.Core.Logic.{dite}
@@ -47,7 +47,7 @@ later_at : (nodes : ℕ) (ended holder place : ℕ) (cleared : Bool) (marks says
 later_at nodes ended holder place cleared marks says below near c = let k : ended + (place - ended) ≡ place = omega arith in
     subst (λ q. IsLater nodes q (marks q) (says (cell_of nodes q))) k (c.later (place - ended) (omega arith) (omega arith))
 
--- so neither it nor its lower half shows a grant
+-- therefore neither it nor its lower half shows a grant
 pub stays_half : (nodes : ℕ) (place : ℕ) → StaysBehind (cells_for nodes) (TicketCells nodes) is_granted_half place
 stays_half nodes place ended holder cleared marks says below near free c e = not_granted_half nodes place (marks place) (says (cell_of nodes place)) (later_at nodes ended holder place cleared marks says below near c) free (e ∙ ap (λ k. k % 2 ^ 32) (granted_ticket place))
 

@@ -1,4 +1,4 @@
--- Numbers of tickets, and what a cell tells of them.
+-- The numbers of tickets, and what a cell tells about them.
 use Rattle.std.proofs.Common.{◌≡◌, ◌≢◌, ℕ, ◌+◌, ◌-◌, ◌*◌, ◌/◌, ◌%◌, ◌^◌, ◌<◌, ◌≤◌, Bool, if◌then◌else◌, sym, ap, ◌∙◌, arith, eq-eqb, ne_eqb}
 use native.Mathlib.Nat.{mod-add-mod}
 use lib.Pow.{mod-mod-pow}
@@ -40,7 +40,7 @@ number_of_withdrawn p n word high e = omega arith
 numbers_differ : (nodes p : ℕ) → number_before nodes p ≢ number p
 numbers_differ nodes p e = let some = some_cells nodes in let few = few_cells nodes in let same = one_turn (p + 1 - cells_for nodes) (p + 1) NUMBERS (omega arith) (omega arith) e in omega arith
 
--- so a cell that is not granted yet is not taken for granted
+-- therefore a cell that is not granted yet is not taken for granted
 pub not_granted : (nodes p token word : ℕ) → IsLater nodes p token word → token ≡ 0 → word ≢ granted_word p
 not_granted nodes p token word l none e = numbers_differ nodes p (sym (l.before none) ∙ number_of_granted p word e)
 
@@ -48,7 +48,7 @@ not_granted nodes p token word l none e = numbers_differ nodes p (sym (l.before 
 pub not_granted_half : (nodes p token word : ℕ) → IsLater nodes p token word → token ≡ 0 → word % 2 ^ 32 ≢ granted_word p % 2 ^ 32
 not_granted_half nodes p token word l none e = let b = l.before none in let some = some_cells nodes in let few = few_cells nodes in absurd (omega arith)
 
--- so a grant finds the node that had withdrawn there, and 0 if none had
+-- therefore a grant finds the node that had withdrawn there, and 0 if none had
 pub by_nobody : (nodes p token word : ℕ) → IsLater nodes p token word → token ≡ 0 → withdrawn_by (ticket_of p) word ≡ 0
 by_nobody nodes p token word l none = ap (λ (b : Bool). if b then word % NUMBER_UNIT else 0) (ne_eqb (word / NUMBER_UNIT) (number (ticket_of p)) (λ e. numbers_differ nodes p (sym (l.before none) ∙ e ∙ number_ticket p)))
 

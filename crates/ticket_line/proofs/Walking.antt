@@ -1,4 +1,4 @@
--- A walk over withdrawn requests, ticket by ticket.
+-- A release walks over withdrawn requests, ticket by ticket.
 use Rattle.std.proofs.Common.{◌≡◌, ◌≢◌, ℕ, ◌+◌, ◌≤◌, List, [], ◌∷◌, ◌++◌, length, sym, ap, ◌∙◌, subst, length-append}
 use Rattle.qolb_model.specs.declared.config.TheConstants.{MAX_NODES}
 use Rattle.qolb_model.specs.PortStates.{state_after}

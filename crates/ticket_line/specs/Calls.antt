@@ -1,4 +1,5 @@
--- What each step of a release requires and ensures of the holder's seat: one record for each, by the table `t` and the law `allows`.
+-- What each step of a release requires and ensures of the holder's seat. There is one record for each step, over the
+-- table `t` and the line's rule `allows`.
 use Rattle.std.specs.Prelude.{◌≡◌, ◌≢◌, ◌⊎◌, ℕ, ◌+◌, ◌*◌, ◌≤◌, List, [], ◌∷◌, length}
 use Rattle.qolb_model.specs.declared.config.TheConstants.{MAX_NODES}
 use Rattle.qolb_model.specs.declared.request.Request.{Request}
@@ -37,7 +38,7 @@ module _ {P : Type 0} (t : LineTable Local P) where
     pub nodes : 1 ≤ (ghost_of s).view.config.nodes
     pub payload : (y : Payload) × SlotsAtRelease t.key.config.nodes turn s y × IsNextPayload allows (ghost_of s) y
 
-  -- the seat of a holder whose successor had withdrawn as this node
+  -- the seat of a holder whose successor, this node, had withdrawn
   pub record MayWalk (mask turn node : ℕ) (s : ArraySeat) : Type 0 where
     pub table : IsSeatOf (word_count t.key.config.nodes) t.table_id s
     pub point : IsAt Passing s
@@ -51,7 +52,7 @@ module _ {P : Type 0} (t : LineTable Local P) where
     pub nodes : (2 ≤ (ghost_of s).view.config.nodes) × ((ghost_of s).view.config.nodes ≤ MAX_NODES)
     pub payload : (y : Payload) × SlotsAtGrant t.key.config.nodes turn s y × MatchesEnds (ghost_of s) y × ((ghost_of s).view.state ≡ state_after y.closed)
 
-  -- the seat has passed requests of these nodes, none of them freed yet
+  -- the seat has passed requests of these nodes, none of which is freed yet
   pub record MayFreeAll (passed : List ℕ) (s : ArraySeat) : Type 0 where
     pub table : IsSeatOf (word_count t.key.config.nodes) t.table_id s
     pub point : IsAt Freeing s
@@ -69,19 +70,19 @@ module _ {P : Type 0} (t : LineTable Local P) where
     pub next : ticket ≡ next_ticket s
     pub payload : (y : Payload) × SlotsAtRelease t.key.config.nodes (turn_ticket s) s y × IsNextPayload allows (ghost_of s) y
 
-  -- after `grant`: the turn has ended, and the line is home or passes a request
+  -- what `grant` ensures: the turn has ended, and either the line is home or the seat passes a request
   pub record HasGranted (allows : List ℕ → List ℕ → Type 0) (ticket : ℕ) (old new : ArraySeat) (node : ℕ) : Type 0 where
     pub advances : SeatAdvances allows old new 1
     pub ended : (y : Payload) → SlotsAtRelease t.key.config.nodes (turn_ticket old) old y → Ended (ghost_of old) (ghost_of new) y
     pub handed_over : node ≡ 0 → HasNoSlot new × IsHandedOver (ghost_of old) (ghost_of new)
     pub passes : node ≢ 0 → ((y : Payload) → SlotsAtRelease t.key.config.nodes (turn_ticket old) old y → SlotsAtGrant t.key.config.nodes ticket new y) × Passes (ghost_of old) node (ghost_of new)
 
-  -- after `copy_to_next_slot`: the granted line is in the successor's slot, too
+  -- what `copy_to_next_slot` ensures: the granted line is in the successor's slot, too
   pub record HasCopied (ticket : ℕ) (old new : ArraySeat) : Type 0 where
     pub seat : IsSameSeat old new × (new.me.0 ≡ old.me.0)
     pub stored : (y : Payload) → SlotsAtGrant t.key.config.nodes ticket old y → SlotsAtRelease t.key.config.nodes ticket new y
 
-  -- after `release`: the line is released, by this handoff
+  -- what `release` ensures: the line is released, with this outcome
   pub record HasReleased (allows : List ℕ → List ℕ → Type 0) (ticket : ℕ) (old new : ArraySeat) (handoff : Handoff) : Type 0 where
     pub no_slot : HasNoSlot new
     pub advances : SeatAdvances allows old new handoff.steps
@@ -91,7 +92,7 @@ module _ {P : Type 0} (t : LineTable Local P) where
     pub bound : handoff.steps + 1 ≤ 2 * (ghost_of old).view.config.nodes
 
 module _ (allows : List ℕ → List ℕ → Type 0) where
-  -- after `walk`: the withdrawn requests are passed, by this handoff
+  -- what `walk` ensures: the withdrawn requests are passed, with this outcome
   pub record HasWalked (old new : ArraySeat) (handoff : Handoff) : Type 0 where
     pub no_slot : HasNoSlot new
     pub advances : SeatAdvances allows old new handoff.steps
@@ -100,7 +101,7 @@ module _ (allows : List ℕ → List ℕ → Type 0) where
     pub steps : handoff.steps + 2 * length (ghost_of old).view.ends ≡ 2 * length (ghost_of new).view.ends
     pub bound : handoff.steps + 2 ≤ 2 * (ghost_of old).view.config.nodes
 
-  -- after `free_passed`: the nodes of all passed requests are freed
+  -- what `free_passed` ensures: the nodes of all passed requests are freed
   pub record HasFreedAll (passed : List ℕ) (old new : ArraySeat) : Type 0 where
     pub keeps_slot : new.me.1 ≡ old.me.1
     pub advances : SeatAdvances allows old new (length passed)

@@ -1,5 +1,5 @@
--- What tickets add to the laws of a table of tickets and cells. It is in `specs`, since the proof of a law may name
--- nothing of `proofs`.
+-- What tickets add to the theorems about tables of tickets and cells. This file is in `specs`, because the proof of a
+-- theorem may not name anything of `proofs`.
 use Rattle.std.proofs.Common.{◌≡◌, ℕ, ◌+◌, ◌-◌, ◌/◌, ◌%◌, ◌^◌, ◌<◌, ◌≤◌, List, [], ◌∷◌, Option, set, slice_index, false, refl, sym, ap, ◌∙◌, subst, arith, length-set, mod-lt}
 use Rattle.std.proofs.Math.Nat.{mod-eq_of_lt}
 use mathlib.Core.Option.{some}

@@ -1,4 +1,4 @@
--- The slots of a ticket line of n nodes: one for each cell.
+-- The slots of a ticket line of n nodes: one slot for each cell.
 use Rattle.std.specs.Prelude.{◌≡◌, ◌⊎◌, ℕ, List, [], ◌∷◌, Option, slice_index, false}
 use Rattle.line_generic.specs.declared.table.Payload.{Payload}
 use Rattle.line_generic.specs.Slots.{Slots}
@@ -39,6 +39,6 @@ slot_layout nodes = record {
   slots_at_release = λ ended. slots_at_release nodes (ticket_of ended);
 }
 
--- at the end the line is in the slot of the ticket that would be taken next
+-- at the end, the line is in the slot of the ticket that would be taken next
 abbrev pub last : ℕ → List ℕ → ℕ
 last nodes words = slot_of nodes (slice_index words ticket_at)

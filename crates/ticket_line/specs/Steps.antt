@@ -1,4 +1,4 @@
--- What each word step of a port tells it, as far as it depends on tickets.
+-- What each atomic step tells the port that takes it, as far as that depends on ticket numbers.
 use Rattle.std.specs.Prelude.{◌≡◌, ◌≢◌, ℕ, ◌+◌, ◌%◌, ◌^◌, List, length}
 use Rattle.atomic_table.specs.Table.{Step}
 use Rattle.atomic_table.specs.Seated.{TableId}
@@ -11,7 +11,7 @@ use Rattle.line_cells.specs.Steps.{ArraySeat, SeatContents, single, ghost_of}
 use Rattle.ticket_line.specs.Layout as layout
 use Rattle.ticket_line.specs.Slots.{slot_layout, slots_at_grant, slots_at_release}
 
--- the ticket of the node's last request; the one at its turn, as far as the node knows; and the one behind that
+-- the ticket of the node's last request; the ticket at its turn, as far as the node knows; and the ticket after that
 abbrev pub own_ticket : ArraySeat → ℕ
 own_ticket seat = ticket_of (ghost_of seat).own.place
 
@@ -21,7 +21,7 @@ turn_ticket seat = ticket_of (length (ghost_of seat).view.ends)
 abbrev pub next_ticket : ArraySeat → ℕ
 next_ticket seat = ticket_of (length (ghost_of seat).view.ends + 1)
 
--- the seat is of the table of a line of n nodes, and has the entry of this node
+-- the seat belongs to the table of a line of n nodes, and has the entry of this node
 abbrev pub IsSeatOfNode : ℕ → TableId → ℕ → ArraySeat → Type 0
 IsSeatOfNode nodes table_id node seat = array.IsSeatOfNode cells_for nodes table_id node seat
 
@@ -29,8 +29,8 @@ IsSeatOfNode nodes table_id node seat = array.IsSeatOfNode cells_for nodes table
 abbrev pub KnowsNodes : ℕ → ArraySeat → Type 0
 KnowsNodes nodes seat = (ghost_of seat).view.config.nodes ≡ nodes
 
--- A port's token is its ticket. The request is not at its turn, and not withdrawn; it is at its turn; it is not at its
--- turn, and withdrawn.
+-- A port's token is its ticket. The request is not at its turn and not withdrawn; or it is at its turn; or it is not at
+-- its turn and withdrawn.
 abbrev pub IsStillQueued : ℕ → ArrayGhost → Type 0
 IsStillQueued ticket w = array.IsStillQueued ticket_of ticket w
 
@@ -40,21 +40,21 @@ IsAtTurn ticket w y = array.IsAtTurn ticket_of ticket w y
 abbrev pub IsRolled : ℕ → ArrayGhost → Type 0
 IsRolled ticket w = array.IsRolled ticket_of ticket w
 
--- the line, of n nodes, was granted to this ticket, and is in the seat's slots; it is stored there for the successor
+-- the line, of n nodes, was granted to this ticket and is in the seat's slots; or it is stored there for the successor
 abbrev pub SlotsAtGrant : ℕ → ℕ → ArraySeat → Payload → Type 0
 SlotsAtGrant nodes ticket seat y = slots_at_grant nodes ticket y seat.me.1
 
 abbrev pub SlotsAtRelease : ℕ → ℕ → ArraySeat → Payload → Type 0
 SlotsAtRelease nodes ticket seat y = slots_at_release nodes ticket y seat.me.1
 
--- the own cell is granted to the own ticket, or is not
+-- whether the node's own cell is granted to its own ticket
 abbrev pub is_other : ℕ → ℕ → Type 0
 is_other place found = found ≢ layout.granted_word (ticket_of place)
 
 abbrev pub is_granted : ℕ → ℕ → Type 0
 is_granted place found = found ≡ layout.granted_word (ticket_of place)
 
--- by the lower half of its word, the own cell is granted to the own ticket, or is not
+-- whether, by the lower half of its word, the node's own cell is granted to its own ticket
 abbrev pub is_other_half : ℕ → ℕ → Type 0
 is_other_half place found = found % 2 ^ 32 ≢ layout.granted_word (ticket_of place) % 2 ^ 32
 

@@ -9,14 +9,14 @@ use Rattle.ticket_line.specs.Layout.{number, number_before}
 use Rattle.ticket_line.specs.Layout as layout
 use Rattle.ticket_line.specs.Slots.{slot_layout}
 
--- The word of a later cell. It names the node that withdrew there; or the cell was not granted since the last earlier
--- place with the same cell, and has that place's number.
+-- The word of a later cell. Either it names the node that withdrew there, or the cell was not granted since the last
+-- earlier place with the same cell, and has that place's number.
 pub record IsLater (nodes place token word : ℕ) : Type 0 where
   pub withdrawn : 0 < token → word ≡ layout.withdrawn_word place token
   pub before : token ≡ 0 → word / NUMBER_UNIT ≡ number_before nodes place
 
--- The words of the cells of a line of n nodes. None is ever cleared. The cell at its turn has that place's number, and
--- exactly that if no node has the line.
+-- The words of the cells of a line of n nodes. No cell is ever cleared. The cell at its turn has the number of its
+-- place, and exactly that number if no node has the line.
 pub record TicketCells (nodes ended holder : ℕ) (cleared : Bool) (marks says : ℕ → ℕ) : Type 0 where
   pub kept : cleared ≡ false
   pub turn : says (cell_of nodes ended) / NUMBER_UNIT ≡ number ended

@@ -1,4 +1,4 @@
-//! Partitioned tickets as a queue discipline.
+//! The queue discipline of the ticket line.
 ghost use Rattle.std.specs.Prelude.{◌≡◌};
 ghost use Rattle.qolb_model.specs.PortStates as states;
 ghost use Rattle.line_cells.specs.Counting.{mask_for};
@@ -85,7 +85,8 @@ impl<K: Keep> Discipline<K> for TicketQueue {
         take_final(closed, nodes)
     }
 
-    /// Takes a ticket and loads its cell: two word steps; four after a withdrawal; one if busy.
+    /// Takes a ticket and loads its cell. Takes two atomic steps, or four after a withdrawal, or one if the node is
+    /// busy.
     #[inline]
     fn ask(
         table: &SharedTable<K>,
@@ -114,7 +115,7 @@ impl<K: Keep> Discipline<K> for TicketQueue {
         }
     }
 
-    /// Returns `true` unless the node's last request was withdrawn and is not passed yet.
+    /// Returns `true` unless the node's last request was withdrawn and has not been passed yet.
     #[inline]
     fn look_at_rest(
         table: &SharedTable<K>,
@@ -218,7 +219,7 @@ impl<K: Keep> Discipline<K> for TicketQueue {
         (last key.config.nodes) (is_last key.config.nodes) id words xs };
 }
 
-/// The state of a port after its turn, if that closed the line or not.
+/// The state of a port after its turn, depending on whether the turn closed the line.
 #[inline]
 fn state_after(closed: bool) -> PortState
     ensures { result ≡ states.state_after closed }

@@ -1,4 +1,4 @@
-//! The queue discipline of partitioned tickets, its ghost state and its invariant.
+//! The type of the ticket line's queue discipline, its ghost state, and its invariant.
 ghost use Rattle.ticket_line.specs.Slots as slots;
 ghost use Rattle.line_cells.specs.Layout.{ticket_of};
 ghost use Rattle.line_cells.specs.Counting.{cells_for};
@@ -13,11 +13,12 @@ use qolb_model::Keep;
 
 /// A partitioned ticket lock (Dice 2011) that also hands over the line, with withdrawal.
 ///
-/// Nodes take tickets, and each waits on a cell of its own for its ticket's number. Invariant: (1) the requests form one order, and a
-/// prefix of them has ended; (2) if no node has the line, its bytes after those ends are in the slot of the request at its turn, and that
-/// request's cell is granted to it; (3) a later cell has the number of an earlier ticket, or its own with the node that withdrew there.
-/// Cells are never cleared. Each port's view is a prefix of this history. A node has at most one open request, so there are always more
-/// cells than open requests.
+/// Nodes take tickets, and each node waits on a cell of its own for its ticket's number. The invariant says: (1) The
+/// requests form one order, and a prefix of them has ended. (2) While no node has the line, its bytes after those ends
+/// are in the slot of the request at its turn, and that request's cell is granted to it. (3) A later cell has the
+/// number of an earlier ticket, or its own number together with the node that withdrew there. Cells are never cleared.
+/// Each port's view is a prefix of this history. A node has at most one open request, so there are always more cells
+/// than open requests.
 pub struct TicketQueue;
 
 impl DisciplineSpec for TicketQueue {
@@ -64,7 +65,7 @@ impl<K: Keep> DisciplineInvariant<K> for TicketQueue {
 /// A line whose nodes queue by partitioned tickets.
 pub type TicketLine<K, W = Parking> = line_generic::Line<K, TicketQueue, W>;
 
-/// A node's handle of a `TicketLine`.
+/// The port of a node of a `TicketLine`.
 pub type Port<W = Parking> = line_generic::Port<TicketQueue, W>;
 
 /// The table of a ticket line, as all its nodes share it.

@@ -11,10 +11,11 @@ use line_cells::{cell_count, word_count};
 use qolb_model::Keep;
 use std::alloc::{AllocError, Global};
 
-/// The unit of a cell's number. The node that withdrew there is below it.
+/// The unit of a cell's number. The node that withdrew there is stored below it.
 pub(crate) const NUMBER_UNIT: u64 = 256;
 
-/// The number of ticket numbers, 2^56: with the node below it, a number fills its word. Then they start again.
+/// The number of ticket numbers, 2^56. A number and the node below it fill a word, so after 2^56 tickets the numbers
+/// start again.
 pub(crate) const NUMBERS: u64 = 0x100_0000_0000_0000;
 
 /// Returns the number of slots of a line of `nodes` nodes.
@@ -59,7 +60,7 @@ pub(crate) fn cell_word<K: Keep>(table: &SharedTable<K>, mask: u64, ticket: u64)
     line_cells::cell_word(cell_of(table, mask, ticket))
 }
 
-/// Returns the ticket behind this one.
+/// Returns the next ticket after this one.
 #[inline]
 pub(crate) fn ticket_after(ticket: u64) -> u64
     ensures { result ≡ layout.ticket_after ticket }
@@ -95,7 +96,8 @@ pub(crate) fn is_granted(word: u64, ticket: u64) -> bool
 
 /// Returns `true` if a cell with this lower half is granted to `ticket`, which waits there.
 ///
-/// The half is enough: before the grant the cell has another number, of a ticket fewer places away than there are cells.
+/// The half is enough, because before the grant the cell has the number of another ticket, which is fewer places away
+/// than there are cells.
 #[inline]
 pub(crate) fn is_granted_half(low: u32, ticket: u64) -> bool
     ensures { result ≡ layout.signals_turn ticket low }
@@ -108,12 +110,12 @@ pub(crate) fn is_granted_half(low: u32, ticket: u64) -> bool
 pub(crate) fn withdrawn_by(word: u64, ticket: u64) -> u64
     ensures { result ≡ layout.withdrawn_by ticket word }
 {
-    // Only words with the ticket's number are less than a unit above it.
+    // Only words with the ticket's number are less than a unit above its granted word.
     let node = word.wrapping_sub(granted_word(ticket));
     if node < NUMBER_UNIT { node } else { 0 }
 }
 
-/// Allocates the words of a new line: cell 0 is granted to ticket 0.
+/// Allocates the words of a new line, in which cell 0 is granted to ticket 0.
 pub(crate) fn first_words(alloc: Global, nodes: u64) -> Result<Vec<u64>, AllocError>
     ensures wide { IfOk result (λ words. (length words.items ≡ layout.word_count nodes)
         × (0 < layout.word_count nodes)) }

@@ -1,4 +1,8 @@
-//! A queue lock over atomic words that hands over a line: nodes take tickets, and each waits on a cell until it has the ticket's number.
+//! The ticket line, a partitioned ticket lock that hands over a line. A node draws a ticket, and waits on a cell until
+//! the cell has the ticket's number.
+//!
+//! Several tickets share a cell, but at most one of them waits at a time. No cell is ever cleared, so a release takes
+//! one swap if no successor has withdrawn.
 #![tactic(auto)]
 
 mod discipline;

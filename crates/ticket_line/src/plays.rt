@@ -1,4 +1,4 @@
-//! The ghost updates of the word steps on a cell.
+//! The ghost updates of the atomic steps on a cell.
 ghost use Rattle.ticket_line.specs.Steps.{loaded, rolled, handed};
 
 use atomic_table::Play;

@@ -16,10 +16,11 @@ use arrayvec::ArrayVec;
 use line_cells::{FreeNode, is_freed, node_word};
 use qolb_model::{Keep, MAX_NODES, PortState};
 
-/// The maximum number of requests that a release passes: those of all nodes but its own.
+/// The maximum number of requests that a release passes: one for each node except its own.
 const MAX_PASSED: usize = MAX_NODES as usize - 1;
 
-/// The word steps taken, and the ticket that has the line now. Its request may be parked, or not made yet.
+/// The outcome of a release: the atomic steps taken, and the ticket that has the line now. The node of that ticket may
+/// be parked, or may not have made its request yet.
 #[derive(Clone, Copy)]
 pub(crate) struct Handoff {
     pub(crate) steps: u64,
@@ -28,8 +29,9 @@ pub(crate) struct Handoff {
 
 /// Sets the node's own word back to 0 for a new request, if the last one is clear.
 ///
-/// Returns the word steps taken: `Some(0)` if the last request was not withdrawn, or there was none; `Some(2)` if it was withdrawn and is
-/// clear. Returns `None`, after one step, if it is not clear yet.
+/// Returns the atomic steps taken. They are `Some(0)` if the last request was not withdrawn or there was none, and
+/// `Some(2)` if it was withdrawn and is clear. The call returns `None`, after one step, if the last request is not
+/// clear yet.
 #[inline]
 pub(crate) fn try_reset<K: Keep>(
     table: &SharedTable<K>,
@@ -54,10 +56,10 @@ pub(crate) fn try_reset<K: Keep>(
     Some(2)
 }
 
-/// Grants the next ticket. The caller has put the line into the slot of that ticket already.
+/// Grants the next ticket. The caller has already put the line into the slot of that ticket.
 ///
-/// One word step if the successor has not withdrawn; two more, and a copy of the line, for each passed request. At most
-/// `2 * nodes - 1` word steps. Does not block.
+/// The release takes one atomic step if the successor has not withdrawn, and two more, with a copy of the line, for
+/// each passed request. It takes at most `2 * nodes - 1` atomic steps, and does not block.
 #[inline]
 pub(crate) fn release<K: Keep>(
     table: &SharedTable<K>,
@@ -86,10 +88,11 @@ pub(crate) fn release<K: Keep>(
 
 /// Passes withdrawn requests, up to the first ticket that is not withdrawn, taken or not, and frees their nodes.
 ///
-/// The first one, `ticket` of `node`, was granted already, and found withdrawn. Two word steps for each passed request: the next grant, and
-/// the freeing.
+/// The first of these requests, `ticket` of `node`, was granted before this call and found withdrawn. The call takes
+/// two atomic steps for each passed request: the next grant, and the freeing.
 ///
-/// Cold and not inlined: it has an array of the passed nodes, which a release without withdrawn successors should not set up.
+/// The function is cold and not inlined, because it has an array of the passed nodes, which a release without withdrawn
+/// successors should not set up.
 #[cold]
 #[inline(never)]
 fn walk<K: Keep>(
@@ -111,7 +114,8 @@ fn walk<K: Keep>(
         ticket = ticket_after(ticket);
         node = grant(table, seat, cell_mask, ticket);
     }
-    // Freed only now: a freed node may request again, so a walk that freed early might pass it again and again.
+    // The nodes are freed only now. A freed node may request again, so a walk that freed nodes early might pass such a
+    // node again and again.
     free_passed(table, seat, &passed);
     Handoff {
         steps: 2 * passed.len() as u64,
@@ -119,7 +123,7 @@ fn walk<K: Keep>(
     }
 }
 
-/// Copies the line from the ticket's slot to the next one, unchanged: for a request that is passed, or answered `Closed`.
+/// Copies the line unchanged from the ticket's slot to the next one, for a request that is passed or answered `Closed`.
 pub(crate) fn copy_to_next_slot<K: Keep>(
     table: &SharedTable<K>,
     seat: &mut TicketSeat,
@@ -136,7 +140,7 @@ pub(crate) fn copy_to_next_slot<K: Keep>(
     *seat.slot_mut(table, slot_of(table, cell_mask, ticket_after(ticket))) = line;
 }
 
-/// Frees the nodes of all passed requests, in their order. One word step for each.
+/// Frees the nodes of all passed requests, in their order. Takes one atomic step for each.
 fn free_passed<K: Keep>(table: &SharedTable<K>, seat: &mut TicketSeat, nodes: &[u64])
     requires { MayFreeAll table.now nodes.now seat.old }
     ensures { HasFreedAll K.allows nodes.now seat.old seat.new }

@@ -1,4 +1,4 @@
-//! The slots of a line: a holder's copy of its own, and the last one of a table that is finished.
+//! The slots of a ticket line: a holder's copy of its own slot, and the last slot of a table that is finished.
 ghost use Rattle.std.specs.Prelude.{◌≡◌};
 ghost use mathlib.Core.Option.{some};
 ghost use lib.ListN.{get_elem?};
@@ -20,7 +20,8 @@ use line_generic::{LocalCopy, Payload, TurnMask};
 use qolb_model::Keep;
 use std::alloc::Global;
 
-/// Copies the line from the ticket's slot, for a turn without a write yet. A closed line is stored for the successor at once.
+/// Copies the line from the ticket's slot, for a turn that has written nothing yet. Stores a closed line for the
+/// successor at once.
 #[inline]
 pub(crate) fn take<K: Keep>(
     table: &SharedTable<K>,

@@ -1,17 +1,20 @@
-//! The word steps, but for those that free passed nodes (`free_passed`): each is one atomic operation on one word, sequentially consistent.
-//! The operation's type argument is its play: the ghost transition, which counts the step.
+//! The atomic steps, except those that free passed nodes (`free_passed`). Each step is one sequentially consistent
+//! operation on one word. The type argument of the operation is its play, which is the ghost transition that counts the
+//! step.
 //!
-//! - A *node* is a participant. To *free* a node is to set its *node word*, which is 0 before: then its withdrawn request is clear.
-//! - A *seat* is a node's access to the shared table: its node's ghost state (`me.0`, a list of one: `IsOfOneNode`), and
-//!   the slot with the line while the seat has it (`me.1`).
-//! - A *cell* is the word at which a request waits: the number of the ticket that was granted there last, or of a withdrawn one with its
-//!   node. A *slot* has the line's 64 bytes, and whether it is closed. Each cell has one; the line is in that of the ticket at its turn.
-//! - A request is *at its turn* once its cell is granted. Its node's seat *has* the line from the step that finds this. Its port *holds*
-//!   the line only if the line is not closed.
-//! - To *pass* a withdrawn request is to go on from its cell with the line. Each grant ends the request at its turn: at first the releasing
-//!   node's own, then each that was passed.
-//! - A node's last request is *clear* if no other node will use the node's word on account of it. The next request is then not answered
-//!   `Busy`.
+//! - A *node* is a participant. To *free* a node is to set its *node word*, which is 0 until then. Afterwards the
+//!   node's withdrawn request is clear.
+//! - A *seat* is a node's access to the shared table. It has the ghost state of the node (`me.0`, a list of one:
+//!   `IsOfOneNode`), and the slot with the line while the seat has it (`me.1`).
+//! - A *cell* is the word at which a request waits. It has the number of the ticket that was granted there last, or the
+//!   number of a withdrawn ticket with its node. A *slot* has the line's 64 bytes, and whether the line is closed. Each
+//!   cell has one slot; the line is in the slot of the ticket at its turn.
+//! - A request is *at its turn* once its cell is granted. Its node's seat *has* the line from the step that finds this
+//!   grant. Its port *holds* the line only if the line is not closed.
+//! - To *pass* a withdrawn request is to go on from its cell with the line. Each grant ends the request at its turn:
+//!   first the releasing node's own request, then each request that was passed.
+//! - A node's last request is *clear* once no other node will use the node's word because of it. The node's next
+//!   request is then not answered `Busy`.
 //! - A view's `count` is the number of its node's requests.
 ghost use Rattle.std.specs.Prelude.{◌≡◌, ◌∷◌, [], true, false};
 ghost use Rattle.qolb_model.specs.Requests.{Has};
@@ -31,7 +34,8 @@ use crate::plays::{Grant, Load, Roll};
 use line_cells::{LoadNode, Reset, TICKET_WORD, TakeTicket, node_word};
 use qolb_model::Keep;
 
-/// Takes a ticket and returns it. The linearization point of a request: it puts the request into the order.
+/// Takes a ticket and returns it. This step is the linearization point of a request, because it puts the request into
+/// the order.
 pub(crate) fn take_ticket<K: Keep>(table: &SharedTable<K>, seat: &mut TicketSeat) -> u64
     requires table { IsSeatOf (word_count table.now.key.config.nodes) table.now.table_id seat.old }
     requires point { IsAt Idle seat.old }
@@ -43,7 +47,7 @@ pub(crate) fn take_ticket<K: Keep>(table: &SharedTable<K>, seat: &mut TicketSeat
     table.fetch_add::<TakeTicket<K>>(seat, TICKET_WORD, 1)
 }
 
-/// Loads the ticket's cell. Returns `true` if it is granted to the ticket: the request is at its turn.
+/// Loads the ticket's cell. Returns `true` if the cell is granted to the ticket, whose request is then at its turn.
 pub(crate) fn load<K: Keep>(
     table: &SharedTable<K>,
     seat: &mut TicketSeat,
@@ -70,10 +74,10 @@ pub(crate) fn load<K: Keep>(
     )
 }
 
-/// Swaps a withdrawal into the ticket's cell. The linearization point of a withdrawal.
+/// Swaps a withdrawal into the ticket's cell. This step is the linearization point of a withdrawal.
 ///
-/// Returns `true` if the grant was there first: the request is at its turn, and the cell's next grant, with another number, takes no notice
-/// of what was swapped in. `false`: the request is withdrawn.
+/// Returns `true` if the grant was there first. The request is then at its turn, and the cell's next grant, which has
+/// another number, ignores what was swapped in. Returns `false` if the request is withdrawn.
 pub(crate) fn roll<K: Keep>(
     table: &SharedTable<K>,
     seat: &mut TicketSeat,
@@ -101,10 +105,12 @@ pub(crate) fn roll<K: Keep>(
     is_granted(found, ticket)
 }
 
-/// Ends the request at its turn, the caller's or one that it passes, and grants ticket `next` in that ticket's cell.
+/// Ends the request at its turn, which is the caller's or one that it passes, and grants the ticket `next` in that
+/// ticket's cell.
 ///
-/// The linearization point of an end. Returns 0 if `next` now has the line, whether a node has taken that ticket or not; else the node that
-/// had withdrawn it: the caller still has the line, and must pass that request.
+/// This step is the linearization point of an end. It returns 0 if `next` now has the line, whether or not a node has
+/// taken that ticket. Otherwise it returns the node that had withdrawn it; the caller still has the line, and must pass
+/// that request.
 pub(crate) fn grant<K: Keep>(
     table: &SharedTable<K>,
     seat: &mut TicketSeat,
@@ -118,7 +124,8 @@ pub(crate) fn grant<K: Keep>(
     withdrawn_by(found, next)
 }
 
-/// Loads the node's own word: not 0 if its withdrawn request was passed and the node freed, so that the request is clear.
+/// Loads the node's own word. The word is not 0 if the node's withdrawn request was passed and the node was freed, so
+/// that the request is clear.
 pub(crate) fn load_node<K: Keep>(table: &SharedTable<K>, seat: &mut TicketSeat, node: u64) -> u64
     requires seat { IsSeatOfNode table.now.key.config.nodes table.now.table_id node seat.old }
     requires point { IsAt Rolled seat.old }

@@ -1,4 +1,4 @@
--- The table at the end, when one seat has the views of all nodes and no request is open.
+-- The final table, in which one seat has the views of all nodes and no request is open.
 use Rattle.std.proofs.Common.{◌≡◌, ℕ, ◌≤◌, List, length, Bool, true, false, sym, refl, ap, ◌∙◌, subst}
 use mathlib.Core.Option.{some}
 use lib.ListN.{get_elem?}
@@ -79,7 +79,7 @@ module _ (good : List ℕ → Type 0) (allows : List ℕ → List ℕ → Type 0
         let (own, ok) = view_ok i v here in
         ap is_at_rest (ap (point r.history.core) (sym is) ∙ at_point allows key r.history r.history_inv v.view.node v own ok) ∙ may_ask_rests v.view.config.nodes state token v.own may rest
 
-    -- so the line is at home, and all requests have ended
+    -- therefore the line is at home, and all requests have ended
     pub record IsHome : Type 0 where
       pub ended : length r.history.queue.ends ≡ length r.history.queue.order
       pub place : r.history.core.place ≡ Home

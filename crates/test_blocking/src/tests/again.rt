@@ -1,4 +1,4 @@
-//! A port whose withdrawn request is not passed yet asks again until it is, over all lines, with each blocking call.
+//! A port whose withdrawn request has not been passed asks again until it is, over all lines, with each blocking call.
 use crate::tests::held::{Scene, SleepLine, all_see, for_nodes, wait_until};
 use example_line::timed::add_within;
 use line_blocking::{Got, TimedAcquire, acquire, acquire_parking};

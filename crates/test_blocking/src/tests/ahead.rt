@@ -1,4 +1,5 @@
-//! A release also wakes the waiter behind the next holder, ahead of its turn, and none behind that waiter. Over all lines.
+//! A release also wakes the waiter behind the next holder, one turn early, and no waiter behind that one. The tests run
+//! over all lines.
 ghost use Rattle.std.specs.Prelude.{◌≡◌};
 
 use crate::tests::held::{Scene, SleepLine, all_see, for_nodes, wait_until};

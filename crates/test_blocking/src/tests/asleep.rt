@@ -1,4 +1,4 @@
-//! Waiters that sleep, over all lines: each is woken, and a node that timed out may ask again.
+//! Waiters sleep, over all lines. Each of them is woken, and a node that timed out may ask again.
 ghost use Rattle.std.specs.Prelude.{◌≡◌, IsTrue};
 ghost use Rattle.qolb_model.specs.PortStates.{may_ask};
 ghost use Rattle.qolb_model.specs.AtTurn.{IsGranted};
@@ -27,7 +27,7 @@ enum Manner {
     Asleep,
     /// With this time limit.
     Timed(u64),
-    /// With the limit if the round plus the place is divisible by 3, else without.
+    /// With the limit if the round plus the place is divisible by 3, otherwise without.
     Mixed(u64),
 }
 

@@ -1,4 +1,4 @@
-//! A mailbox leaves the other lanes, each addition takes a turn, and values arrive in their order.
+//! A mailbox does not change the other lanes, each addition takes one turn, and values arrive in their order.
 use crate::tests::held::{SleepLine, expect, finish_one, open_one};
 use example_line::{counter, mailbox};
 use line_lanes::{Line64, lane, with_lane};

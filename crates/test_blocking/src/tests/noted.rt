@@ -1,4 +1,5 @@
-//! How waiters sleep: a line with hooks that note each sleep, and a clock that advances by a tick at each reading.
+//! How waiters sleep: the tests use a line with hooks that note each sleep, and a clock that advances by one tick at
+//! each reading.
 ghost use Rattle.std.specs.Prelude.{IfSome, IsTrue};
 ghost use Rattle.qolb_model.specs.PortStates.{may_ask};
 
@@ -490,7 +491,7 @@ where
     Some(look_behind(&line, &mut one, &mut two))
 }
 
-/// A poll of a `ParkOnPoll` sleeps once if the request still waits, and else not at all.
+/// A poll of a `ParkOnPoll` sleeps once if the request still waits, and otherwise not at all.
 fn each_look_in_vain_sleeps_once<R: Wait + Abort, L: SleepLine>(rt: &R, alloc: Global)
 where
     L::Port: Drop,

@@ -1,4 +1,4 @@
-//! A node that withdraws at a closed line forwards it to its successor, which sleeps.
+//! A node that withdraws at a closed line forwards the line to its successor, which sleeps.
 ghost use Rattle.std.specs.Prelude.{◌≡◌, IsTrue};
 ghost use Rattle.qolb_model.specs.PortStates.{may_ask};
 

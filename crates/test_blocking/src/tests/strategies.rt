@@ -1,4 +1,5 @@
-//! What waiters do between two polls: how often `wait_by` asks a strategy, and when; that a wait begins with all its polls before it sleeps.
+//! What waiters do between two polls: how often `wait_by` asks a strategy, and when. A wait begins with all its polls
+//! before the waiter sleeps.
 use crate::tests::held::{Scene, SleepLine, all_see_hooked, expect, expect_at, wait_until};
 use line_blocking::{Got, WaitStrategy, acquire_parking, wait, wait_by};
 use qolb_model::{Enq, Free, Keep, LineSync, OpenError, Out, ParkingLine};
@@ -201,7 +202,7 @@ where
     all_see_hooked::<R, &Polls, L, Tired>(rt, alloc, 3, polls, &tired, &let_go)
 }
 
-/// A port that was busy for long polls 65 times before it sleeps, as any other: its wait begins anew.
+/// A port that was busy for long polls 65 times before it sleeps, as any other: its wait begins again.
 pub(super) fn a_wait_begins_anew_after_busy_tries<
     R: Threads + Wait + Abort + Sync,
     L: SleepLine + Sync,

@@ -1,4 +1,4 @@
-//! A waiter that has slept is no longer counted, over each lock.
+//! A waiter that has slept is no longer counted, over each kind of line.
 
 use crate::checked_line::Instrumented;
 use crate::tests::rows::expect_eq;

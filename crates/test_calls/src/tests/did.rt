@@ -25,7 +25,7 @@ pub(super) enum CallOutcome {
     TurnsLeft(Option<u64>),
     /// No call: the port's state.
     State(PortState),
-    /// No call: the word steps of the last call.
+    /// No call: the atomic steps of the last call.
     Steps(u64),
 }
 

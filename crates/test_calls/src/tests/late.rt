@@ -1,4 +1,5 @@
-//! The answers of a line on which nodes ask by two calls (the list): a release does not wait for the link.
+//! The answers of a line on which nodes make a request by two calls (the link line). A release does not wait for the
+//! link.
 
 use crate::checked_line::{CheckedLine, SplitCalls};
 use crate::tests::did::{CallOutcome, expect_by_halves};

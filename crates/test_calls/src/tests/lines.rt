@@ -1,4 +1,4 @@
-//! The answers of each line, called by one thread, node by node.
+//! The answers of each kind of line, called by one thread, node by node.
 
 use crate::checked_line::{CheckedLine, Instrumented};
 use crate::tests::did::{CallOutcome, expect};
@@ -329,8 +329,9 @@ where
 /// The bytes of a port.
 const PORT: usize = 128;
 
-/// Opens a line in a room that grows by the heap's grain. It is refused for want of memory until the room holds all that it allocates, so
-/// each of its allocations is refused once. These are its table, two copies of it for a moment, its ports, and little else.
+/// Opens a line in a room that grows by the heap's grain. It is refused for lack of memory until the room holds all
+/// that it allocates, so each of its allocations is refused once. These are its table, two copies of it for a moment,
+/// its ports, and little otherwise.
 pub(super) fn each_allocation_of_opening_is_refused<R: Abort, L: Instrumented + Drop>(
     rt: &R,
     alloc: Global,

@@ -1,4 +1,4 @@
-//! Lines that are opened by a lock's own calls, and not as an `OpenLine`.
+//! Lines that are opened by the calls of their kind, and not as an `OpenLine`.
 
 use crate::tests::rows::{expect_at, expect_eq};
 use crate::tests::{Part, over_each};

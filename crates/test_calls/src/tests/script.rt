@@ -1,4 +1,4 @@
-//! Calls as text. A step is a node, a call and its answer, as `2 enq queued`; semicolons separate the steps.
+//! Calls as text. A step is a node, a call and its answer, for example `2 enq queued`; semicolons separate the steps.
 
 use crate::checked_line::{CheckedLine, Instrumented};
 use crate::tests::did::{CallOutcome, answered};

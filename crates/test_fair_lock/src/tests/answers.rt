@@ -1,4 +1,4 @@
-//! Each answer, by one thread.
+//! Each answer of a fair lock, in one thread.
 use super::{Answer, add, add_within, enter, enter_within, lock_of, try_add, try_enter};
 use fair_lock::{FairLock, NewError, OpenError};
 use std::rt::Clock;
@@ -84,18 +84,18 @@ fn a_shut_lock_is_closed_to_all(rt: HostRuntime) {
     }
 }
 
-/// Holds the lock while five calls time out. Returns how many were served.
+/// Holds the lock while five calls with a timeout request it. Returns how many of them timed out: none if the lock could not be entered.
 fn hold_while_five_time_out<R: Wait + Clock>(rt: &R, lock: &FairLock<u64>) -> u64 {
-    let mut served = 0u64;
+    let mut timed_out = 0u64;
     if let Ok(guard) = lock.enter(rt) {
         for _ in 0..5 {
-            if enter_within(rt, lock, rt, Duration::from_micros(1)) != Answer::TimedOut {
-                served = served.wrapping_add(1);
+            if enter_within(rt, lock, rt, Duration::from_micros(1)) == Answer::TimedOut {
+                timed_out = timed_out.wrapping_add(1);
             }
         }
         guard.leave(rt);
     }
-    served
+    timed_out
 }
 
 #[test]
@@ -105,7 +105,7 @@ fn a_withdrawn_request_is_passed(rt: HostRuntime) {
         for _ in 0..40 {
             assert_eq!(&rt;
                 hold_while_five_time_out(&rt, &lock),
-                0,
+                5,
                 "at {barging_limit}"
             );
         }

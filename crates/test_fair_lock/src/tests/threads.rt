@@ -1,4 +1,4 @@
-//! Threads that share a value: no acquisition is lost, and no two overlap.
+//! Threads share a value: no acquisition is lost, and no two overlap.
 use super::{add, add_within, lock_of, try_add};
 use fair_lock::FairLock;
 use std::rt::Clock;

@@ -1,4 +1,4 @@
-//! A lock is opened, or refused by name.
+//! A lock is opened, or an error names why it was refused.
 use lock_core::{LockKind, OpenError, open};
 use std::format;
 use std::test::Fail;

@@ -1,5 +1,6 @@
-//! Threads share a lock: they request, try, withdraw, sleep and are woken. No two are inside together, no acquisition is lost or made up,
-//! tickets have their turns in order, and the threads that barge are within their bounds.
+//! Threads share a lock: they request it, try for it, withdraw, sleep, and are woken. No two threads are inside
+//! together, and no acquisition is lost or counted twice. Tickets have their turns in order, and the number of barging
+//! threads stays within its bounds.
 use crate::field::Field;
 use crate::{barging, strict};
 use lock_core::LockKind;

@@ -1,8 +1,8 @@
 //! What is said at the edges: of numbers just outside their ranges, words far from all that are known, and bytes on which a terminal acts.
-use crate::tests::reasons::told;
+use crate::tests::reasons::refusal_of;
 use crate::tests::rows::expect;
-use qolb_explain::{Complaint, ScriptKind, explain_schedule, explain_steps, explain_work};
-use qolb_script::WorkKind;
+use qolb_explain::complaint_about;
+use qolb_script::{Refusal, ScriptKind};
 use std::alloc::Global;
 use std::process::Abort;
 use std::test::Fail;
@@ -97,13 +97,14 @@ static EDGES: [(ScriptKind, &str, (u64, &str)); 13] = [
     ),
 ];
 
-/// The complaint about a script that is to be of this kind.
-fn complaint_of(kind: ScriptKind, text: &[u8]) -> Option<Complaint<'_>> {
-    match kind {
-        ScriptKind::Schedule => explain_schedule(text),
-        ScriptKind::Steps => explain_steps(text),
-        ScriptKind::Board => explain_work(text, WorkKind::Board),
-        ScriptKind::Bank => explain_work(text, WorkKind::Bank),
+/// Returns the number of the refused line of a script that is to be of this kind, and what is said of the line.
+fn complaint_of(alloc: Global, kind: ScriptKind, script: &[u8]) -> Result<(u64, String), Fail> {
+    let why = refusal_of(alloc, kind, script).ok_or("a refusal")?;
+    let complaint = complaint_about(script, why).ok_or("a complaint")?;
+    let text = format!(in alloc; "{complaint}")?;
+    match why {
+        Refusal::Memory => Ok((0, text)),
+        Refusal::Line(number, _) => Ok((number, text)),
     }
 }
 
@@ -115,9 +116,8 @@ fn expect_said<R: Abort>(
     script: &str,
     wanted: (u64, &str),
 ) -> Result<(), Fail> {
-    let complaint = complaint_of(kind, script.as_bytes()).ok_or("a complaint")?;
-    let text = format!(in alloc; "{complaint}")?;
-    expect(rt, script, (complaint.number, text.as_str()), wanted);
+    let (number, text) = complaint_of(alloc, kind, script.as_bytes())?;
+    expect(rt, script, (number, text.as_str()), wanted);
     Ok(())
 }
 
@@ -145,13 +145,12 @@ fn said_of(alloc: Global, byte: u8) -> Result<String, Fail> {
 #[test]
 fn no_byte_of_a_word_acts_on_a_terminal(rt: HostRuntime) -> Result<(), Fail> {
     let alloc = rt.alloc();
-    for number in 0..256usize {
-        let byte = number as u8;
+    for code in 0..256usize {
+        let byte = code as u8;
         let mut script = Vec::from_slice(alloc, b"nodes 2 lines 1\nx")?;
         script.push(byte)?;
         script.extend_from_slice(b"y 1 0\n")?;
-        let complaint = explain_schedule(&script).ok_or("a complaint")?;
-        let text = format!(in alloc; "{complaint}")?;
+        let (number, text) = complaint_of(alloc, ScriptKind::Schedule, &script)?;
         let said = said_of(alloc, byte)?;
         let is_bad = !is_seen(byte) && byte != b'\n';
         let (line, what) = text.as_str().split_once('\n').ok_or("two lines")?;
@@ -161,7 +160,7 @@ fn no_byte_of_a_word_acts_on_a_terminal(rt: HostRuntime) -> Result<(), Fail> {
         } else {
             text.as_str() == said.as_str()
         };
-        let found = (complaint.number, is_safe, is_said);
+        let found = (number, is_safe, is_said);
         expect(&rt, said.as_str(), found, (2, true, is_bad));
     }
     Ok(())
@@ -175,8 +174,8 @@ fn node_200_is_the_last(rt: HostRuntime) -> Result<(), Fail> {
         let node = before + 1;
         script.push_str(format!(in alloc; "enq {node} 7\n")?.as_str())?;
     }
-    let read = told(explain_schedule(script.as_bytes()));
-    expect(&rt, "200 nodes", read, None);
+    let refused = refusal_of(alloc, ScriptKind::Schedule, script.as_bytes());
+    expect(&rt, "200 nodes", refused, None);
     script.push_str("enq 201 7\n")?;
     let wanted = "    enq 201 7\nword 2 is no number from 1 to 200";
     expect_said(

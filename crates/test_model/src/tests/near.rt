@@ -1,6 +1,7 @@
 //! Words that are near those that may stand at a place.
 use crate::tests::rows::expect;
-use qolb_explain::{Allowed, Complaint, Reason};
+use qolb_explain::Complaint;
+use qolb_script::{Allowed, Reason};
 use std::alloc::Global;
 use std::test::Fail;
 
@@ -92,7 +93,6 @@ static NEAR: [(Allowed, &[&str], &str); 25] = [
 /// What is said of a line with this word alone.
 fn said_of(alloc: Global, allowed: Allowed, word: &str) -> Result<String, Fail> {
     let complaint = Complaint {
-        number: 2,
         line: word.as_bytes(),
         reason: Reason::Word { place: 1, allowed },
     };

@@ -1,9 +1,9 @@
 //! The plain line, call by call, and the configurations that open a line.
 ghost use Rattle.std.specs.Prelude.{◌≡◌};
 
-use crate::tests::rows::expect_at;
+use crate::tests::rows::{expect, expect_at};
 use line_lanes::{Line64, Mask};
-use qolb_model::{Enq, LineConfig, OpenError, Out, PlainLine, Poll, PortState};
+use qolb_model::{Enq, LineConfig, OpenError, Out, PlainLine, Poll, PortState, Write};
 use std::process::Abort;
 use std::test::Fail;
 
@@ -224,4 +224,14 @@ fn nodes_are_refused_before_the_lease(rt: HostRuntime) {
         let refused = PlainLine::open_leased(nodes, Line64::zero(), lease).err();
         expect_at(&rt, &(nodes, lease), refused, wanted);
     }
+}
+
+#[test]
+fn a_write_has_a_mask_and_bytes(rt: HostRuntime) {
+    let Write { mask, bytes } = Write {
+        mask: Mask(1),
+        bytes: Line64::zero(),
+    };
+    let wanted = (Mask(1), Line64::zero());
+    expect(&rt, "mask and bytes", (mask, bytes), wanted);
 }

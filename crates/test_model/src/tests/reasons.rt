@@ -1,6 +1,9 @@
 //! The reasons for refusing a script: the line, and the first thing that is wrong with it.
 use crate::tests::rows::expect;
-use qolb_explain::{Allowed, Complaint, Form, Reason, ScriptKind, explain_schedule, explain_steps};
+use qolb_explain::complaint_about;
+use qolb_script::{
+    Allowed, Form, Reason, Refusal, ScriptKind, WorkKind, parse_schedule, parse_steps, parse_work,
+};
 use std::alloc::Global;
 use std::process::Abort;
 use std::test::Fail;
@@ -407,24 +410,42 @@ static STEPS: [(&str, Option<(u64, Reason)>); 21] = [
     ),
 ];
 
-/// The number and the reason of a complaint.
-pub(crate) fn told(it: Option<Complaint<'_>>) -> Option<(u64, Reason)> {
-    it.map(|it| (it.number, it.reason))
+/// Returns why a script of this kind is refused.
+pub(crate) fn refusal_of(alloc: Global, kind: ScriptKind, text: &[u8]) -> Option<Refusal> {
+    match kind {
+        ScriptKind::Schedule => parse_schedule(alloc, text).err(),
+        ScriptKind::Steps => parse_steps(alloc, text).err(),
+        ScriptKind::Board => parse_work(alloc, text, WorkKind::Board).err(),
+        ScriptKind::Bank => parse_work(alloc, text, WorkKind::Bank).err(),
+    }
+}
+
+/// Expects that each script of this kind is refused for the line and the reason beside it, or is not refused.
+pub(crate) fn expect_reasons<R: Abort>(
+    rt: &R,
+    alloc: Global,
+    kind: ScriptKind,
+    scripts: &[(&str, Option<(u64, Reason)>)],
+) {
+    for (text, wanted) in scripts {
+        let wanted = match wanted {
+            Some((line, reason)) => Some(Refusal::Line(*line, *reason)),
+            None => None,
+        };
+        expect(rt, *text, refusal_of(alloc, kind, text.as_bytes()), wanted);
+    }
 }
 
 #[test]
 fn tells_what_is_wrong(rt: HostRuntime) {
-    for (text, wanted) in &SCHEDULES {
-        expect(&rt, *text, told(explain_schedule(text.as_bytes())), *wanted);
-    }
-    for (text, wanted) in &STEPS {
-        expect(&rt, *text, told(explain_steps(text.as_bytes())), *wanted);
-    }
+    expect_reasons(&rt, rt.alloc(), ScriptKind::Schedule, &SCHEDULES);
+    expect_reasons(&rt, rt.alloc(), ScriptKind::Steps, &STEPS);
 }
 
 /// The text of a complaint.
 fn shown(alloc: Global, script: &[u8]) -> Result<String, Fail> {
-    let complaint = explain_schedule(script).ok_or("a complaint")?;
+    let why = refusal_of(alloc, ScriptKind::Schedule, script).ok_or("a refusal")?;
+    let complaint = complaint_about(script, why).ok_or("a complaint")?;
     Ok(format!(in alloc; "{complaint}")?)
 }
 

@@ -2,7 +2,7 @@
 use crate::tests::rows::{expect, expect_at, expect_refusals};
 use line_lanes::{Line64, Mask};
 use linked_list_allocator::LocalHeap;
-use qolb_script::{Command, ScriptError, read_schedule};
+use qolb_script::{Command, Schedule, ScriptError, read_schedule};
 use std::alloc::{AllocError, Global};
 use std::test::Fail;
 
@@ -116,7 +116,7 @@ static COMMANDS: [Command; 6] = [
 fn reads_every_command(rt: HostRuntime) -> Result<(), Fail> {
     let text =
         b" nodes 2  lines 8  lease 18446744073709551615 \n\nenq 00000000000000000001 7\npoll 1 0\nshow 2 1\n  deq 1 2\nout 1 3 \nshut 1 4\n";
-    let schedule = read_schedule(rt.alloc(), text)?;
+    let schedule: Schedule = read_schedule(rt.alloc(), text)?;
     expect(&rt, "nodes", schedule.nodes(), 2);
     expect(&rt, "lines", schedule.lines(), 8);
     expect(&rt, "lease", schedule.lease(), Some(u64::MAX));

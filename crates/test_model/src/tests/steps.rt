@@ -2,7 +2,7 @@
 use crate::tests::rows::{expect, expect_at, expect_refusals};
 use line_lanes::{Line64, Mask};
 use link_core::Event;
-use qolb_script::{ScriptError, read_steps};
+use qolb_script::{ScriptError, Steps, read_steps};
 use std::test::Fail;
 
 /// Refused step scripts, each with its error.
@@ -55,7 +55,7 @@ static EVENTS: [Event; 10] = [
 fn reads_every_event(rt: HostRuntime) -> Result<(), Fail> {
     let text =
         b"nodes 200 lease 7\nreset 1\nprepend 2\n\nlink 3\nload 4\nhome 5\ndone 6\ngrant 7\nroll 8\n  freed  200\nclose 10";
-    let steps = read_steps(rt.alloc(), text)?;
+    let steps: Steps = read_steps(rt.alloc(), text)?;
     expect(&rt, "nodes", steps.nodes(), 200);
     expect(&rt, "lease", steps.lease(), Some(7));
     expect(&rt, "events", steps.events(), EVENTS.as_slice());

@@ -1,6 +1,7 @@
 //! What is said of each fault: what may stand there, and the form of the line.
 use crate::tests::rows::expect;
-use qolb_explain::{Allowed, Complaint, Form, Reason, ScriptKind};
+use qolb_explain::Complaint;
+use qolb_script::{Allowed, Form, Reason, ScriptKind};
 use std::test::Fail;
 
 /// Lines, their faults, and what is said of them.
@@ -375,7 +376,6 @@ static TEXTS: [(&str, Reason, &str); 56] = [
 fn says_what_may_stand_there(rt: HostRuntime) -> Result<(), Fail> {
     for (line, reason, wanted) in &TEXTS {
         let complaint = Complaint {
-            number: 1,
             line: line.as_bytes(),
             reason: *reason,
         };

@@ -59,6 +59,31 @@ impl Write for SlowWriter {
     }
 }
 
+/// A writer whose first write fails or takes no byte; later writes take all.
+#[derive(Drop)]
+struct FailingWriter {
+    fails: bool,
+    refused: bool,
+}
+
+impl Write for FailingWriter {
+    fn write(&mut self, buf: &[u8]) -> io::Result<usize> {
+        if self.refused {
+            return Ok(buf.len());
+        }
+        self.refused = true;
+        if self.fails {
+            Err(Error::from(ErrorKind::Other))
+        } else {
+            Ok(0)
+        }
+    }
+
+    fn flush(&mut self) -> io::Result<()> {
+        Ok(())
+    }
+}
+
 /// The number of interruptions before each read or write.
 static INTERRUPTIONS: [u64; 5] = [0, 1, 2, 1_000, 100_000];
 
@@ -121,6 +146,20 @@ fn short_and_interrupted_writes_go_on(rt: HostRuntime) -> Result<(), Fail> {
         );
     }
     Ok(())
+}
+
+#[test]
+fn a_failed_write_is_remembered(rt: HostRuntime) {
+    for fails in [true, false] {
+        let mut writer = Watched::new(FailingWriter {
+            fails,
+            refused: false,
+        });
+        for _ in 0..2 {
+            let found = (writer.write_all(b"abc"), writer.failed());
+            expect_at(&rt, &fails, found, (Err(Fault), true));
+        }
+    }
 }
 
 #[test]

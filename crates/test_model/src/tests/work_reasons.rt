@@ -1,8 +1,6 @@
 //! The reasons for refusing a work script.
-use crate::tests::reasons::told;
-use crate::tests::rows::expect;
-use qolb_explain::{Allowed, Form, Reason, ScriptKind, explain_work};
-use qolb_script::WorkKind;
+use crate::tests::reasons::expect_reasons;
+use qolb_script::{Allowed, Form, Reason, ScriptKind};
 
 /// Work scripts of boards, with the number of the refused line and the reason.
 static BOARDS: [(&str, Option<(u64, Reason)>); 16] = [
@@ -58,26 +56,9 @@ static BOARDS: [(&str, Option<(u64, Reason)>); 16] = [
     ),
     (
         "board workers 1\n2 give 3\n",
-        Some((
-            2,
-            Reason::Number {
-                place: 1,
-                low: 1,
-                high: 1,
-            },
-        )),
+        Some((2, Reason::NoWorker(1))),
     ),
-    (
-        "board workers 7\nput 3\n",
-        Some((
-            2,
-            Reason::Number {
-                place: 1,
-                low: 1,
-                high: 7,
-            },
-        )),
-    ),
+    ("board workers 7\nput 3\n", Some((2, Reason::NoWorker(7)))),
     (
         "board workers 1\n2 take 3\n",
         Some((2, Reason::Count(Form::Take))),
@@ -209,25 +190,11 @@ static BANKS: [(&str, Option<(u64, Reason)>); 23] = [
     ),
     (
         "bank workers 5 lines 2\n6 put 2\n",
-        Some((
-            2,
-            Reason::Number {
-                place: 1,
-                low: 1,
-                high: 5,
-            },
-        )),
+        Some((2, Reason::NoWorker(5))),
     ),
     (
         "bank workers 5 lines 2\nin 0 1\n",
-        Some((
-            2,
-            Reason::Number {
-                place: 1,
-                low: 1,
-                high: 5,
-            },
-        )),
+        Some((2, Reason::NoWorker(5))),
     ),
     (
         "bank workers 1 lines 2\n1 in 2\n",
@@ -334,12 +301,6 @@ static BANKS: [(&str, Option<(u64, Reason)>); 23] = [
 
 #[test]
 fn tells_what_is_wrong_with_work(rt: HostRuntime) {
-    for (text, wanted) in &BOARDS {
-        let found = explain_work(text.as_bytes(), WorkKind::Board);
-        expect(&rt, *text, told(found), *wanted);
-    }
-    for (text, wanted) in &BANKS {
-        let found = explain_work(text.as_bytes(), WorkKind::Bank);
-        expect(&rt, *text, told(found), *wanted);
-    }
+    expect_reasons(&rt, rt.alloc(), ScriptKind::Board, &BOARDS);
+    expect_reasons(&rt, rt.alloc(), ScriptKind::Bank, &BANKS);
 }

@@ -1,4 +1,4 @@
-//! The answers of the desks' calls, and the settled totals. The lines are of zeros.
+//! The answers of the desks' calls, and the settled totals, on lines of zeros.
 ghost use Rattle.std.specs.Prelude.{◌≡◌, All, IfSome};
 ghost use Rattle.line_accounts.specs.Desks.{IsDeskOver};
 ghost use Rattle.line_accounts.specs.NewDesks.{IsNewPort};
@@ -496,8 +496,8 @@ where
     Some((paid, found))
 }
 
-/// Settles in a room that grows by the heap's grain: refused for want of memory, without returning the lines, until the room holds all that
-/// it allocates.
+/// Settles in a room that grows by the heap's grain: refused for lack of memory, without returning the lines, until the
+/// room holds all that it allocates.
 pub(super) fn settling_is_refused_for_want_of_memory<R: Abort, L: OpenLine<AccountLaw> + Drop>(
     rt: &R,
     alloc: Global,

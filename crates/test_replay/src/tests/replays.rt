@@ -2,25 +2,25 @@
 use crate::tests::rows::{expect, expect_at};
 use line_kinds::{ALL, Lock};
 use linked_list_allocator::LocalHeap;
-use qolb_run::{AnyKind, KINDS, Kind, ReplayError, read_all, run_schedule, run_schedule_with};
+use qolb_run::{Kind, REPLAYED, ReplayError, read_all, run_schedule, run_schedule_with, run_steps};
 use qolb_script::{ScriptError, Watched};
 use std::alloc::Global;
 use std::io;
-use std::io::Read;
+use std::io::{Read, Write};
 use std::test::Fail;
 
 #[test]
 fn kinds_are_the_plain_one_and_each_lock(rt: HostRuntime) -> Result<(), Fail> {
-    expect(&rt, "kinds", KINDS.len(), ALL.len() + 1);
-    expect(&rt, "the first", KINDS[0], AnyKind::Plain);
-    for (lock, kind) in ALL.iter().zip(KINDS.iter().skip(1)) {
-        expect(&rt, "a lock's kind", *kind, AnyKind::Shared(*lock));
+    expect(&rt, "kinds", REPLAYED.len(), ALL.len() + 1);
+    expect(&rt, "the first", REPLAYED[0], None);
+    for (lock, kind) in ALL.iter().zip(REPLAYED.iter().skip(1)) {
+        expect(&rt, "a lock's kind", *kind, Some(*lock));
     }
     Ok(())
 }
 
 /// The reply to the script.
-fn reply_to(alloc: Global, script: &str, kind: AnyKind) -> Result<String, Fail> {
+fn reply_to(alloc: Global, script: &str, kind: Option<Lock>) -> Result<String, Fail> {
     let mut reader = Watched::new(script.as_bytes());
     let mut text: Vec<u8> = Vec::new(alloc);
     run_schedule_with(alloc, &mut reader, &mut Watched::new(&mut text), kind)?;
@@ -36,7 +36,7 @@ fn the_longest_reply_is_whole(rt: HostRuntime) -> Result<(), Fail> {
     for _ in 1..100_000 {
         script.push_str("show 1 0\n")?;
     }
-    let reply = reply_to(rt.alloc(), script.as_str(), AnyKind::Plain)?;
+    let reply = reply_to(rt.alloc(), script.as_str(), None)?;
     let ends = "line 0 served 0 withdrawn 0 told 0 left 1\n";
     expect(&rt, "the begin", reply.starts_with("granted\n0000"), true);
     expect(&rt, "the end", reply.ends_with(ends), true);
@@ -72,7 +72,7 @@ fn the_longest_script_is_replayed_by_shared_lines(rt: HostRuntime) -> Result<(),
     let script = repeated(alloc, "nodes 1 lines 1\n", 50_000, turn, "")?;
     let summary = "line 0 served 50000 withdrawn 0 told 0 left 0\n";
     let wanted = repeated(alloc, "", 50_000, "granted\nreleased\n", summary)?;
-    let reply = reply_to(alloc, script.as_str(), AnyKind::Shared(Lock::Ring))?;
+    let reply = reply_to(alloc, script.as_str(), Some(Lock::Ring))?;
     expect(&rt, "the reply", reply == wanted, true);
     Ok(())
 }
@@ -157,7 +157,7 @@ static REPLIES: [(&str, &str); 14] = [
 #[test]
 fn answers_scripts(rt: HostRuntime) -> Result<(), Fail> {
     for (script, reply) in &REPLIES {
-        for kind in &KINDS {
+        for kind in &REPLAYED {
             expect(
                 &rt,
                 script,
@@ -213,7 +213,7 @@ fn passed_behind_one(alloc: Global) -> Result<String, Fail> {
 fn a_release_passes_199_withdrawn_nodes(rt: HostRuntime) -> Result<(), Fail> {
     let script = withdrawn_behind_one(rt.alloc())?;
     let reply = passed_behind_one(rt.alloc())?;
-    for kind in &KINDS {
+    for kind in &REPLAYED {
         let found = reply_to(rt.alloc(), script.as_str(), *kind)?;
         expect_at(&rt, kind, found.as_str(), reply.as_str());
     }
@@ -266,7 +266,7 @@ fn shows_what_holders_wrote(rt: HostRuntime) -> Result<(), Fail> {
     for (script, before, place, digits, behind) in &SHOWN {
         let line = line_of(alloc, *place, digits)?;
         let reply = format!(in alloc; "{before}{line}\n{behind}")?;
-        for kind in &KINDS {
+        for kind in &REPLAYED {
             expect(
                 &rt,
                 script,
@@ -367,31 +367,130 @@ fn an_input_is_read_up_to_the_limit_and_no_further(rt: HostRuntime) {
     }
 }
 
-/// A reader that gives all its bytes at once, says once that it is at its end, and then fails.
+/// A reader that gives at most `part` bytes a read, and fails after `good` reads.
 #[derive(Drop)]
-struct EndsOnce<'a> {
+struct FailingReader<'a> {
     rest: &'a [u8],
-    ended: bool,
+    part: usize,
+    good: usize,
 }
 
-impl Read for EndsOnce<'_> {
+impl Read for FailingReader<'_> {
     fn read(&mut self, buf: &mut [u8]) -> io::Result<usize> {
-        if self.ended {
+        if self.good == 0 {
             return Err(io::Error::from(io::ErrorKind::Other));
         }
-        let given = self.rest.len().min(buf.len());
+        self.good -= 1;
+        let given = self.rest.len().min(self.part).min(buf.len());
         buf[..given].copy_from_slice(&self.rest[..given]);
         self.rest = &self.rest[given..];
-        self.ended = given == 0;
         Ok(given)
+    }
+}
+
+/// A writer that takes one byte a write, and fails after `good` writes.
+#[derive(Drop)]
+struct FailingWriter {
+    good: usize,
+}
+
+impl Write for FailingWriter {
+    fn write(&mut self, buf: &[u8]) -> io::Result<usize> {
+        if self.good == 0 || buf.is_empty() {
+            return Err(io::Error::from(io::ErrorKind::Other));
+        }
+        self.good -= 1;
+        Ok(1)
+    }
+
+    fn flush(&mut self) -> io::Result<()> {
+        Ok(())
+    }
+}
+
+/// A call that reads a script and writes its reply.
+#[derive(Clone, Copy, Debug)]
+enum Call {
+    Schedule,
+    Steps,
+}
+
+/// Makes the call.
+fn replay<R: Read, W: Write>(
+    alloc: Global,
+    call: Call,
+    reader: &mut Watched<R>,
+    writer: &mut Watched<W>,
+) -> Result<(), ReplayError> {
+    match call {
+        Call::Schedule => run_schedule(alloc, reader, writer, Kind::Plain),
+        Call::Steps => run_steps(alloc, reader, writer),
+    }
+}
+
+/// A turn of a node, as a script for each call, with its reply.
+static TURNS: [(Call, &str, &str); 2] = [
+    (
+        Call::Schedule,
+        "nodes 1 lines 1\nenq 1 0\ndeq 1 0\n",
+        "granted\nreleased\nline 0 served 1 withdrawn 0 told 0 left 0\n",
+    ),
+    (
+        Call::Steps,
+        "nodes 1\nreset 1\nprepend 1\nhome 1\n",
+        "went\ngranted\nreleased\nline 0 served 1 withdrawn 0 told 0 left 0\n",
+    ),
+];
+
+#[test]
+fn a_failed_read_ends_a_replay_before_it_writes(rt: HostRuntime) {
+    for (call, script, reply) in &TURNS {
+        // One read for each byte, and a last one that finds the end.
+        let reads = script.len().saturating_add(1);
+        for good in 0..reads.saturating_add(1) {
+            let mut reader = Watched::new(FailingReader {
+                rest: script.as_bytes(),
+                part: 1,
+                good,
+            });
+            let mut text: Vec<u8> = Vec::new(rt.alloc());
+            let mut writer = Watched::new(&mut text);
+            let done = replay(rt.alloc(), *call, &mut reader, &mut writer);
+            let wanted = if good < reads {
+                (Err(ReplayError::Read), true, b"".as_slice())
+            } else {
+                (Ok(()), false, reply.as_bytes())
+            };
+            let found = (done, reader.failed(), text.as_slice());
+            expect_at(&rt, &(*call, good), found, wanted);
+        }
+    }
+}
+
+#[test]
+fn a_failed_write_ends_a_replay(rt: HostRuntime) {
+    for (call, script, reply) in &TURNS {
+        for good in 0..reply.len().saturating_add(1) {
+            let mut reader = Watched::new(script.as_bytes());
+            let mut writer = Watched::new(FailingWriter { good });
+            let done = replay(rt.alloc(), *call, &mut reader, &mut writer);
+            let wanted = if good < reply.len() {
+                (Err(ReplayError::Write), true)
+            } else {
+                (Ok(()), false)
+            };
+            expect_at(&rt, &(*call, good), (done, writer.failed()), wanted);
+        }
     }
 }
 
 #[test]
 fn an_input_is_not_read_behind_its_end(rt: HostRuntime) {
-    let mut reader = Watched::new(EndsOnce {
+    // The second read finds the end.
+    let mut reader = Watched::new(FailingReader {
         rest: HAND_OVER.as_bytes(),
-        ended: false,
+        part: HAND_OVER.len(),
+        good: 2,
     });
     let refused = read_all(rt.alloc(), &mut reader).err();
     expect(

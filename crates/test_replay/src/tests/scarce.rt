@@ -2,9 +2,7 @@
 use crate::tests::rows::expect_at;
 use line_kinds::{Lock, TicketLine};
 use qolb_model::Free;
-use qolb_run::{
-    AnyKind, KINDS, Kind, ReplayError, run_schedule, run_schedule_over, run_schedule_with,
-};
+use qolb_run::{Kind, REPLAYED, ReplayError, run_schedule, run_schedule_over, run_schedule_with};
 use qolb_script::Watched;
 use std::alloc::Global;
 use std::process::Abort;
@@ -14,6 +12,10 @@ use test_support::{GRAIN, MemoryLimit};
 /// Eight lines for 200 nodes, and no command.
 const MANY_NODES: &str = "nodes 200 lines 8\n";
 
+/// The reply to `MANY_NODES`.
+const EIGHT_LINES: &str =
+    "line 0 served 0 withdrawn 0 told 0 left 0\nline 1 served 0 withdrawn 0 told 0 left 0\nline 2 served 0 withdrawn 0 told 0 left 0\nline 3 served 0 withdrawn 0 told 0 left 0\nline 4 served 0 withdrawn 0 told 0 left 0\nline 5 served 0 withdrawn 0 told 0 left 0\nline 6 served 0 withdrawn 0 told 0 left 0\nline 7 served 0 withdrawn 0 told 0 left 0\n";
+
 /// Rooms in KB, each of which holds eight lines of one kind more: with 200 nodes a plain line takes 3.3 KB, a list 26 KB of words, a ring 33 KB
 /// of words, a ticket line as much and 33 KB of slots; the last three also take 25 KB of ports each.
 static ROOMS: [usize; 4] = [300, 450, 650, 1_200];
@@ -22,7 +24,7 @@ static ROOMS: [usize; 4] = [300, 450, 650, 1_200];
 #[derive(Clone, Copy, Debug)]
 enum Call {
     /// `run_schedule_with`.
-    With(AnyKind),
+    With(Option<Lock>),
     /// `run_schedule`.
     Named(Kind),
     /// `run_schedule_over` ticket lines, named by their type.
@@ -52,21 +54,12 @@ fn replayed(
     Ok((done.err(), text))
 }
 
-/// The error of a room that may be too small.
-fn error_if(is_small: bool) -> Option<ReplayError> {
-    if is_small {
-        Some(ReplayError::Memory)
-    } else {
-        None
-    }
-}
-
 /// Calls, each with the place of the first room that holds its lines.
 static CALLS: [(Call, usize); 8] = [
-    (Call::With(AnyKind::Plain), 0),
-    (Call::With(AnyKind::Shared(Lock::Link)), 1),
-    (Call::With(AnyKind::Shared(Lock::Ring)), 2),
-    (Call::With(AnyKind::Shared(Lock::Ticket)), 3),
+    (Call::With(None), 0),
+    (Call::With(Some(Lock::Link)), 1),
+    (Call::With(Some(Lock::Ring)), 2),
+    (Call::With(Some(Lock::Ticket)), 3),
     (Call::Named(Kind::Plain), 0),
     (Call::Named(Kind::Link), 1),
     (Call::Named(Kind::Ring), 2),
@@ -78,8 +71,13 @@ fn run_schedule_takes_lines_of_its_kind(rt: HostRuntime) -> Result<(), Fail> {
     let limit = MemoryLimit::begin(rt.alloc(), 1 << 23)?;
     for (at, room) in ROOMS.iter().enumerate() {
         for (call, first) in &CALLS {
-            let (found, _) = replayed(rt.alloc(), &limit, MANY_NODES, *room << 10, *call)?;
-            expect_at(&rt, &(*call, *room), found, error_if(at < *first));
+            let (error, text) = replayed(rt.alloc(), &limit, MANY_NODES, *room << 10, *call)?;
+            let wanted = if at < *first {
+                (Some(ReplayError::Memory), b"".as_slice())
+            } else {
+                (None, EIGHT_LINES.as_bytes())
+            };
+            expect_at(&rt, &(*call, *room), (error, text.as_slice()), wanted);
         }
     }
     Ok(())
@@ -98,7 +96,7 @@ fn refusals_of<R: Abort>(
     rt: &R,
     alloc: Global,
     limit: &MemoryLimit,
-    kind: AnyKind,
+    kind: Option<Lock>,
 ) -> Result<usize, Fail> {
     for grains in 2..8_000usize {
         let (error, text) = replayed(alloc, limit, SHORT, GRAIN * grains, Call::With(kind))?;
@@ -119,7 +117,7 @@ fn refusals_of<R: Abort>(
 #[test]
 fn each_allocation_of_a_replay_is_refused(rt: HostRuntime) -> Result<(), Fail> {
     let limit = MemoryLimit::begin(rt.alloc(), 1 << 20)?;
-    for kind in &KINDS {
+    for kind in &REPLAYED {
         let refused = refusals_of(&rt, rt.alloc(), &limit, *kind)?;
         expect_at(&rt, kind, refused > 100, true);
     }

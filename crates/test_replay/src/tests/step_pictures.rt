@@ -2,8 +2,7 @@
 use crate::tests::replays::repeated;
 use crate::tests::rows::{expect, expect_refusals};
 use crate::tests::styles::{Sheet, are_seen, signs_differ, steps_are_seen};
-use qolb_draw::Form;
-use qolb_draw_steps::draw_steps;
+use qolb_draw::{Form, draw_steps};
 use std::alloc::Global;
 use std::test::Fail;
 

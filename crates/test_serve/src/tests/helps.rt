@@ -27,7 +27,7 @@ const STATUSES: &str = "\n\nExit statuses:
   0  done
   1  the script was refused: `bad line N` or `script too long` on standard error
   2  the command line was refused, or asked for help or the version
-  3  want of memory: `out of memory`; or worker W gave up: `stalled W`
+  3  out of memory: `out of memory`; or worker W gave up: `stalled W`
   4  a failed read or write: `read fault` or `write fault`";
 
 #[test]
@@ -42,7 +42,7 @@ static LINES: [(&str, &[&str]); 5] = [
     (
         "replay",
         &[
-            "      --explain      Explains a refused line, and each answer of misuse",
+            "      --explain      Explains a refused line, and each answer `misuse`",
             "  nodes N lines L             its first line: 1 to 200 nodes and 1 to 8 lines",
             "  nodes N lines L lease C     the same; each line closes at its C-th served turn",
             "  COMMAND n l                 a call of node n on line l: enq, poll, deq, show,",
@@ -54,56 +54,57 @@ static LINES: [(&str, &[&str]); 5] = [
         "steps",
         &[
             "      --rank     Prints after each word how many productive events can follow\n                 each other from there",
-            "      --explain  Explains a refused line, and each answer of refused",
+            "      --explain  Explains a refused line, and each answer `refused`",
             "  nodes N                     its first line: 1 to 200 nodes",
             "  nodes N lease C             the same; the line closes at its C-th served turn",
-            "  EVENT n                     a word step of node n: reset, prepend, link, load,",
-            "                              home, done, grant, roll or freed; or close, in a",
-            "                              holder's hand",
+            "  EVENT n                     an atomic step of node n: reset, prepend, link,",
+            "                              load, home, done, grant, roll or freed; or close,",
+            "                              which only a holder makes",
             "  write n OFFSET HEX          the holder writes these bytes into the line",
         ],
     ),
     (
         "board",
         &[
-            "      --sleep        Workers sleep until they are woken, in place of looking\n                     again and again",
-            "      --progress     Says on standard error, once a second, how many of all jobs\n                     are done",
+            "      --sleep        Workers sleep until they are woken, instead of polling",
+            "      --progress     Reports on standard error, once a second, how many of all\n                     jobs are done",
             "      --explain      Explains a refused line",
             "  board workers W             its first line: 1 to 200 workers",
             "  w put TASK                  worker w puts a task, a number below 2^64, on the",
             "                              board",
             "  w take                      worker w takes the oldest task off the board",
-            "The board holds seven tasks. Each worker does its jobs in the script's order;",
-            "nothing is said of the order between workers.",
+            "The board holds seven tasks. Each worker does its jobs in the script's order.",
+            "The order of jobs of different workers is not determined.",
         ],
     ),
     (
         "bank",
         &[
-            "      --sleep        Workers sleep until they are woken, in place of looking\n                     again and again",
-            "      --progress     Says on standard error, once a second, how many of all jobs\n                     are done",
+            "      --sleep        Workers sleep until they are woken, instead of polling",
+            "      --progress     Reports on standard error, once a second, how many of all\n                     jobs are done",
             "      --explain      Explains a refused line",
             "  bank workers W lines L      its first line: 1 to 200 workers and 1 to 8 lines",
             "  w in ACCOUNT AMOUNT         worker w pays an amount into an account, of 0 to",
             "                              8L - 1",
             "  w out ACCOUNT AMOUNT        worker w pays it out",
             "  w move FROM TO AMOUNT       worker w moves it from one account to another",
-            "An account holds 0 to 2^48; a job that would go beyond that changes nothing.",
-            "Each worker does its jobs in the script's order; nothing is said of the order",
-            "between workers.",
+            "An account holds 0 to 2^48. A job that would leave that range changes nothing.",
+            "Each worker does its jobs in the script's order. The order of jobs of different",
+            "workers is not determined.",
         ],
     ),
     (
         "draw",
         &[
-            "      --svg      Draws an SVG in place of plain text",
-            "      --steps    Draws a step script, as of `qolb steps`, in place of a schedule",
+            "      --svg      Draws an SVG instead of plain text",
+            "      --steps    Draws a step script instead of a schedule",
             "      --explain  Explains a refused line",
-            "The script, on standard input, is a schedule, as of `qolb replay`. Each line is",
-            "drawn as a row for each node that calls on it, with a letter for each command on",
-            "the line: how the node stands after it. A step script is drawn as a line for",
-            "each event: a letter for each node, its point after the event; what the event",
-            "told; and where the line lies.",
+            "The script on standard input is a schedule, as `qolb replay` takes it. Each line",
+            "is drawn with a row for each node that calls on it. A row has a letter for each",
+            "command on the line, which shows the node's state after the command. With",
+            "--steps, the script is a step script, as `qolb steps` takes it. It is drawn with",
+            "a line of text for each event, which has a letter for each node, the word that",
+            "the event told, and the place of the line.",
         ],
     ),
 ];

@@ -9,21 +9,21 @@ pub const HAND_OVER: &str =
 pub const HANDED_OVER: &str =
     "granted\nok\nqueued\nwaiting\nreleased\ngranted\na1b20000000000000000000000000000000000000000000000000000000000000000000000000000000000000000000000000000000000000000000000000000\nreleased\nline 0 served 2 withdrawn 0 told 0 left 0\n";
 
-const LATE_LINK: &str =
+pub const LATE_LINK: &str =
     "nodes 2\nreset 1\nprepend 1\nreset 2\nprepend 2\nhome 1\ndone 1\nload 1\nlink 2\nload 1\n";
 
-const LINKED: &str =
+pub const LINKED: &str =
     "went\ngranted\nwent\nwent\nwent\nreleased\nbusy\ngranted\nfree\nline 0 served 1 withdrawn 0 told 0 left 1\n";
 
-const BOARD: &str = "board workers 1\n1 put 5\n1 put 9\n1 take\n1 take\n1 take\n";
+pub const BOARD: &str = "board workers 1\n1 put 5\n1 put 9\n1 take\n1 take\n1 take\n";
 
-const BOARD_REPORT: &str = "stored 2\nfull 0\ntaken 2\nempty 1\nleft 0\n";
+pub const BOARD_REPORT: &str = "stored 2\nfull 0\ntaken 2\nempty 1\nleft 0\n";
 
 const BANK: &str = "bank workers 1 lines 2\n1 in 0 10\n1 move 0 9 4\n1 out 9 9\n1 out 9 1\n";
 
 const BANK_REPORT: &str = "in 10\nout 1\ntotal 9\n";
 
-const HANDED_OVER_DRAWN: &str =
+pub const HANDED_OVER_DRAWN: &str =
     "line 0\n\n         12345678\nnode   1 HHHH>...\nnode   2 ..ww<HH.\n\n. idle   w waits   t its turn has come   H holds   > hands over to <\nx withdrawn   c told that the line is closed   - closed   ! misuse\n";
 
 const EARLY: &str = "nodes 1\nlink 1\n";

@@ -1,4 +1,5 @@
 //! The program in rooms of memory that grow.
+use crate::tests::hostile::{BOARD, BOARD_REPORT, HAND_OVER, HANDED_OVER_DRAWN, LATE_LINK, LINKED};
 use qolb_serve::serve;
 use std::alloc::Global;
 use std::process::Abort;
@@ -49,6 +50,53 @@ fn is_answered<T: Threads + Wait + Clock + Eprint + Sync + Abort>(
         "{words:?} in {bytes} bytes: {status}"
     );
     Ok(answered)
+}
+
+/// The words of subcommands, each with a script and the output.
+static RUNS: [(&[&str], &str, &str); 3] = [
+    (&["steps", "--explain"], LATE_LINK, LINKED),
+    (&["board"], BOARD, BOARD_REPORT),
+    (&["draw"], HAND_OVER, HANDED_OVER_DRAWN),
+];
+
+/// Rooms, in bytes: the first, a bound that no room reaches, and the step from one room to the next. In the last rooms threads find place
+/// for their stacks.
+static ROOMS: [(usize, usize, usize); 3] = [
+    (1 << 6, 1 << 16, 1 << 6),
+    (1 << 16, 1 << 18, 1 << 10),
+    (1 << 20, 1 << 26, 1 << 20),
+];
+
+#[test]
+fn each_allocation_is_refused(rt: HostRuntime) -> Result<(), Fail> {
+    let alloc = rt.alloc();
+    let limit = MemoryLimit::begin(alloc, 1 << 28)?;
+    for (words, script, reply) in &RUNS {
+        let mut all = vec![in alloc; "qolb".to_string(alloc)?]?;
+        for word in *words {
+            all.push(word.to_string(alloc)?)?;
+        }
+        let mut refused = 0u32;
+        let mut answered = false;
+        for (first, end, step) in &ROOMS {
+            for bytes in (*first..*end).step_by(*step) {
+                if !answered {
+                    answered = is_answered(
+                        &rt,
+                        alloc,
+                        &limit,
+                        bytes,
+                        all.as_slice(),
+                        *script,
+                        *reply,
+                    )?;
+                    refused = refused.saturating_add(1);
+                }
+            }
+        }
+        assert!(rt; answered && refused > 100, "{words:?}");
+    }
+    Ok(())
 }
 
 /// The kinds of lines, in the order of the memory that they take. With 200 nodes a plain line takes 3.3 KB, a list 26 KB of words, a ring

@@ -33,7 +33,7 @@ static NOT_TAKEN: [(&[&str], &str); 31] = [
     (&["--help"], "\n  2  the command line was refused"),
     (
         &["--help"],
-        "\n  3  want of memory: `out of memory`; or worker W gave up",
+        "\n  3  out of memory: `out of memory`; or worker W gave up",
     ),
     (&["--help"], "\n  4  a failed read or write: "),
     (&["replay", "--help"], "--kind"),

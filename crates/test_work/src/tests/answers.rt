@@ -5,7 +5,7 @@ use line_board::Put;
 use line_kinds::ALL;
 use link_line::Prep;
 use qolb_model::{Enq, Out, Poll, PortState};
-use qolb_run::{AnyKind, Got, KINDS, Kind, Lines, Lock};
+use qolb_run::{Got, Kind, Lines, Lock, REPLAYED};
 use qolb_script::WorkKind;
 
 /// A type whose variants are all known.
@@ -140,10 +140,10 @@ impl Listed for Kind {
 static LOCKS_OF_LINES: [(Lines, Lock); 2] = [(Lines::Ring, Lock::Ring), (Lines::Link, Lock::Link)];
 
 /// Each of these kinds among all kinds.
-static ANY_OF_KINDS: [(Kind, AnyKind); 3] = [
-    (Kind::Plain, AnyKind::Plain),
-    (Kind::Ring, AnyKind::Shared(Lock::Ring)),
-    (Kind::Link, AnyKind::Shared(Lock::Link)),
+static LOCKS_OF_KINDS: [(Kind, Option<Lock>); 3] = [
+    (Kind::Plain, None),
+    (Kind::Ring, Some(Lock::Ring)),
+    (Kind::Link, Some(Lock::Link)),
 ];
 
 #[test]
@@ -183,10 +183,10 @@ fn variants_of_runs_are_declared_in_this_order(rt: HostRuntime) {
         let found = (one as usize, one.lock(), ALL.get(place).copied());
         expect_at(&rt, &one, found, (place, lock, Some(lock)));
     }
-    for (one, any) in ANY_OF_KINDS {
+    for (one, lock) in LOCKS_OF_KINDS {
         let place = one.place();
-        let found = (one as usize, one.any(), KINDS.get(place).copied());
-        expect_at(&rt, &one, found, (place, any, Some(any)));
+        let found = (one as usize, one.lock(), REPLAYED.get(place).copied());
+        expect_at(&rt, &one, found, (place, lock, Some(lock)));
     }
     expect(
         &rt,

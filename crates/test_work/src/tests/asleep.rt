@@ -229,9 +229,9 @@ const NOTHING_TAKEN: Report = Report::Board {
 };
 
 const TWO_PAID: Report = Report::Bank {
-    paid_in: 2,
+    paid_in: 200,
     paid_out: 0,
-    total: 2,
+    total: 200,
 };
 
 const NOTHING_PAID: Report = Report::Bank {
@@ -240,11 +240,12 @@ const NOTHING_PAID: Report = Report::Bank {
     total: 0,
 };
 
-/// A job of each kind for each of two workers or more, with the report. At least two workers ask for each line.
+/// A job of each kind for each of two workers or more, with the report. At least two workers ask for each line. Tasks and amounts are larger
+/// than the number of polls after which a job withdraws.
 static JOBS_OF_EACH_KIND: [(WorkKind, &str, Report); 10] = [
     (
         WorkKind::Board,
-        "board workers 2\n1 put 5\n2 put 6\n",
+        "board workers 2\n1 put 500\n2 put 600\n",
         TWO_STORED,
     ),
     (
@@ -254,33 +255,33 @@ static JOBS_OF_EACH_KIND: [(WorkKind, &str, Report); 10] = [
     ),
     (
         WorkKind::Bank,
-        "bank workers 2 lines 1\n1 in 0 1\n2 in 0 1\n",
+        "bank workers 2 lines 1\n1 in 0 100\n2 in 0 100\n",
         TWO_PAID,
     ),
     (
         WorkKind::Bank,
-        "bank workers 2 lines 1\n1 out 0 1\n2 out 0 1\n",
+        "bank workers 2 lines 1\n1 out 0 100\n2 out 0 100\n",
         NOTHING_PAID,
     ),
     (
         WorkKind::Bank,
-        "bank workers 2 lines 1\n1 move 0 1 1\n2 move 0 1 1\n",
+        "bank workers 2 lines 1\n1 move 0 1 100\n2 move 0 1 100\n",
         NOTHING_PAID,
     ),
     (
         WorkKind::Bank,
-        "bank workers 3 lines 2\n1 move 0 8 1\n2 out 0 1\n3 out 8 1\n",
+        "bank workers 3 lines 2\n1 move 0 8 100\n2 out 0 100\n3 out 8 100\n",
         NOTHING_PAID,
     ),
     (
         WorkKind::Bank,
-        "bank workers 3 lines 2\n1 move 8 0 1\n2 out 0 1\n3 out 8 1\n",
+        "bank workers 3 lines 2\n1 move 8 0 100\n2 out 0 100\n3 out 8 100\n",
         NOTHING_PAID,
     ),
     // more workers
     (
         WorkKind::Board,
-        "board workers 4\n3 put 5\n4 put 6\n",
+        "board workers 4\n3 put 500\n4 put 600\n",
         TWO_STORED,
     ),
     (
@@ -290,7 +291,7 @@ static JOBS_OF_EACH_KIND: [(WorkKind, &str, Report); 10] = [
     ),
     (
         WorkKind::Bank,
-        "bank workers 8 lines 1\n5 in 0 1\n8 in 0 1\n",
+        "bank workers 8 lines 1\n5 in 0 100\n8 in 0 100\n",
         TWO_PAID,
     ),
 ];

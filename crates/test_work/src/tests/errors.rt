@@ -24,6 +24,52 @@ fn of_event(error: NotEnabled) -> u8 {
     }
 }
 
+/// The number of an error of finishing.
+fn of_finish(error: FinishError) -> u8 {
+    match error {
+        FinishError::Memory => 1,
+        FinishError::Unquiet(_node) => 2,
+        FinishError::Missing(_node) => 3,
+    }
+}
+
+/// The number of an error of settling.
+fn of_settle(error: SettleError) -> u8 {
+    match error {
+        SettleError::Memory => 1,
+        SettleError::Missing { line: _, node: _ } => 2,
+    }
+}
+
+/// The number of an error of a script.
+fn of_script(error: ScriptError) -> u8 {
+    match error {
+        ScriptError::Memory => 1,
+        ScriptError::BadLine(_line) => 2,
+        ScriptError::Number(_line) => 3,
+        ScriptError::TooMany(_line) => 4,
+    }
+}
+
+/// The number of an error of work.
+fn of_run(error: RunError) -> u8 {
+    match error {
+        RunError::Memory => 1,
+        RunError::Stalled(_worker) => 2,
+    }
+}
+
+/// The number of an error of a replay.
+fn of_replay(error: ReplayError) -> u8 {
+    match error {
+        ReplayError::Memory => 1,
+        ReplayError::Read => 2,
+        ReplayError::Long => 3,
+        ReplayError::Script(_fault) => 4,
+        ReplayError::Write => 5,
+    }
+}
+
 #[test]
 fn errors_without_fields_are_their_numbers(rt: HostRuntime) {
     for error in [OpenError::Memory, OpenError::Nodes, OpenError::Lease] {
@@ -35,15 +81,48 @@ fn errors_without_fields_are_their_numbers(rt: HostRuntime) {
 }
 
 #[test]
-fn errors_with_fields_say_their_numbers(rt: HostRuntime) {
-    let found = [
-        FinishError::Unquiet(7).number(),
-        SettleError::Memory.number(),
-        ScriptError::BadLine(1).number(),
-        RunError::Stalled(1).number(),
-        ReplayError::Write.number(),
-    ];
-    expect(&rt, "numbers", found, [2, 1, 2, 2, 5]);
+fn errors_of_lines_say_their_numbers(rt: HostRuntime) {
+    for error in [
+        FinishError::Memory,
+        FinishError::Unquiet(7),
+        FinishError::Missing(0),
+    ] {
+        expect_at(&rt, &error, error.number(), of_finish(error));
+    }
+    for error in [
+        SettleError::Memory,
+        SettleError::Missing { line: 0, node: 1 },
+    ] {
+        expect_at(&rt, &error, error.number(), of_settle(error));
+    }
+}
+
+#[test]
+fn errors_of_scripts_say_their_numbers(rt: HostRuntime) {
+    for error in [
+        ScriptError::Memory,
+        ScriptError::BadLine(1),
+        ScriptError::Number(1),
+        ScriptError::TooMany(1),
+    ] {
+        expect_at(&rt, &error, error.number(), of_script(error));
+    }
+}
+
+#[test]
+fn errors_of_runs_say_their_numbers(rt: HostRuntime) {
+    for error in [RunError::Memory, RunError::Stalled(1)] {
+        expect_at(&rt, &error, error.number(), of_run(error));
+    }
+    for error in [
+        ReplayError::Memory,
+        ReplayError::Read,
+        ReplayError::Long,
+        ReplayError::Script(ScriptError::BadLine(1)),
+        ReplayError::Write,
+    ] {
+        expect_at(&rt, &error, error.number(), of_replay(error));
+    }
 }
 
 /// Errors of scripts, and what they say.

@@ -1,9 +1,47 @@
-//! Runs: gates and workers.
+//! Runs: a wait for a line, gates and workers.
 use crate::tests::rows::expect;
-use qolb_run::{AlwaysOpen, Gate, Lines, Lock, RunError, WaitMode, run_work, run_work_with};
+use line_kinds::RingLine;
+use line_lanes::Line64;
+use qolb_model::{Free, LineConfig, LineSync, OpenLine};
+use qolb_run::{
+    AlwaysOpen, Gate, Got, Lines, Lock, RunError, WaitMode, acquire, run_work, run_work_with,
+};
 use qolb_script::{Report, Work, WorkKind, read_work};
+use std::alloc::Global;
+use std::sync::Wait;
 use std::sync::atomic::{AtomicU64, Ordering};
 use std::test::Fail;
+
+/// Acquires a new line of one node, closes it, and asks again. Returns both answers.
+fn acquired_and_closed<R: Wait, L: OpenLine<Free> + Drop>(
+    rt: &R,
+    alloc: Global,
+) -> Option<(Got, Got)>
+where
+    L::Port: Drop,
+{
+    let config = LineConfig {
+        nodes: 1,
+        opening: Line64::zero(),
+        lease: None,
+    };
+    let (line, mut ports) = L::open_with(alloc, 1, config).ok()?;
+    let mut port = ports.pop()?;
+    let first: Got = acquire(rt, &line, &mut port);
+    let Got::Granted = first else {
+        return None;
+    };
+    line.shut(&mut port);
+    let second: Got = acquire(rt, &line, &mut port);
+    Some((first, second))
+}
+
+#[test]
+fn a_line_is_acquired_until_it_is_closed(rt: HostRuntime) {
+    let found = acquired_and_closed::<_, RingLine<Free>>(&rt, rt.alloc());
+    let wanted = Some((Got::Granted, Got::Closed));
+    expect(&rt, "acquired twice", found, wanted);
+}
 
 /// A gate that refuses the first question and allows the others; it defines `may` alone.
 #[derive(Drop)]

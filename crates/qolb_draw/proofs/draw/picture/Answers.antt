@@ -1,7 +1,7 @@
 use Rattle.std.proofs.Common.{[]}
 use Rattle.qolb_draw.specs.Pictures.{line_text}
 use Rattle.qolb_draw.proofs.Outs.{line_found}
-use Rattle.qolb_shapes.proofs.Rows.{piece_pushed}
+use Rattle.qolb_draw.proofs.Pushing.{piece_pushed}
 use Rattle.qolb_draw.proofs.draw.picture.Goals as goal
 
 pub loop-number-preserved : goal.loop-number-preserved

@@ -1,6 +1,6 @@
 use Rattle.std.proofs.Common.{◌≡◌, ℕ, List, ◌++◌, length, refl, ap, ◌∙◌, arith}
-use Rattle.qolb_shapes.specs.declared.svg.TheConstants.{LEGEND, TAIL}
-use Rattle.qolb_shapes.specs.Svg.{svg_head}
+use Rattle.qolb_draw.specs.declared.svg.TheConstants.{LEGEND, TAIL}
+use Rattle.qolb_draw.specs.Svg.{svg_head}
 use Rattle.qolb_draw.proofs.Lines.{line_placed, no_lines, whole}
 use Rattle.qolb_draw.proofs.Outs.{columns_found, event_count, rows_found, timeline_found}
 use Rattle.qolb_draw.proofs.draw.timeline.Goals as goal

@@ -1,6 +1,6 @@
 use Rattle.std.proofs.Common.{◌≡◌, ◌∷◌, [], ◌++◌, ◌-◌, take, drop}
 use Rattle.std.specs.List.{flat_map}
-use Rattle.qolb_shapes.specs.Heads.{heads_text}
+use Rattle.qolb_draw.specs.Heads.{heads_text}
 use Rattle.qolb_draw.specs.Pictures.{label_room}
 use Rattle.qolb_draw.specs.Grids.{row_out_of}
 use Rattle.qolb_draw.proofs.text.push_block.Given as goal

@@ -1,7 +1,7 @@
 use Rattle.std.proofs.Common.{arith, ◌≡◌, ◌+◌, ◌-◌, ◌*◌, min, length, ap}
 use Rattle.qolb_draw.specs.declared.text.TheConstants.{COLUMNS}
 use Rattle.qolb_draw.specs.Grids.{block_out_of}
-use Rattle.qolb_shapes.proofs.Rows.{piece_pushed}
+use Rattle.qolb_draw.proofs.Pushing.{piece_pushed}
 use Rattle.qolb_draw.proofs.text.push_blocks.Goals as goal
 
 pub loop-block-preserved : goal.loop-block-preserved

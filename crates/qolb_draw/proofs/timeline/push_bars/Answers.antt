@@ -1,9 +1,9 @@
 use Rattle.std.proofs.Common.{◌≡◌, ◌<◌, ℕ, ◌+◌, ◌-◌, ◌*◌, ◌∷◌, ◌++◌, length, sym, ap, ◌∙◌, subst, arith}
 use Rattle.std.proofs.lemmas.List.{get_or_default}
-use Rattle.qolb_shapes.specs.declared.symbol.Symbol.TheVariants as symbol
+use Rattle.qolb_draw.specs.declared.symbol.Symbol.TheVariants as symbol
 use Rattle.qolb_draw.specs.Grids.{bars_out_of, stands_out_of}
-use Rattle.qolb_shapes.specs.Svg.{texts}
-use Rattle.qolb_shapes.specs.Shapes.{stand_of}
+use Rattle.qolb_draw.specs.Svg.{texts}
+use Rattle.qolb_draw.specs.Shapes.{stand_of}
 use Rattle.qolb_draw.proofs.Rows.{place_within}
 use Rattle.qolb_draw.proofs.Shapes.{bars_begun, bar_goes_on, bar_ends, bars_are, bars_ended, stands_next, stands_ended}
 use Rattle.qolb_draw.proofs.timeline.push_bars.Goals as goal

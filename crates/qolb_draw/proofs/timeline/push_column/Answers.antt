@@ -1,6 +1,6 @@
 use Rattle.std.proofs.Common.{ap, ◌∙◌, ◌++◌}
-use Rattle.qolb_shapes.specs.Svg.{call_text}
-use Rattle.qolb_shapes.specs.Shapes.{Call, Number}
+use Rattle.qolb_draw.specs.Svg.{call_text}
+use Rattle.qolb_draw.specs.Shapes.{Call, Number}
 use Rattle.qolb_draw.specs.Timelines.{arrow_of, bytes_of, row_of}
 use Rattle.qolb_draw.proofs.Shapes.{column_whole}
 use Rattle.qolb_draw.proofs.timeline.push_column.Goals as goal

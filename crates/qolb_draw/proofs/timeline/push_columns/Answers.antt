@@ -1,8 +1,8 @@
 use Rattle.std.proofs.Common.{get_or, ap}
 use Rattle.std.proofs.lemmas.List.{get_or_default}
-use Rattle.qolb_shapes.specs.Svg.{texts}
+use Rattle.qolb_draw.specs.Svg.{texts}
 use Rattle.qolb_draw.specs.Timelines.{column_shapes, no_event}
-use Rattle.qolb_shapes.proofs.Rows.{piece_pushed}
+use Rattle.qolb_draw.proofs.Pushing.{piece_pushed}
 use Rattle.qolb_draw.proofs.timeline.push_columns.Goals as goal
 
 pub loop-column-preserved : goal.loop-column-preserved

@@ -1,6 +1,6 @@
 use Rattle.std.proofs.Common.{◌≡◌, ◌++◌, get_or}
 use Rattle.std.specs.List.{flat_map, range_with_len}
-use Rattle.qolb_shapes.specs.Svg.{texts}
+use Rattle.qolb_draw.specs.Svg.{texts}
 use Rattle.qolb_draw.specs.Timelines.{column_shapes, no_event}
 use Rattle.qolb_draw.proofs.timeline.push_columns.Given as goal
 

@@ -1,5 +1,5 @@
 use Rattle.std.proofs.Common.{ap, ◌∙◌, ◌++◌}
-use Rattle.qolb_shapes.specs.Svg.{arrow_text}
+use Rattle.qolb_draw.specs.Svg.{arrow_text}
 use Rattle.qolb_draw.specs.Timelines.{row_of}
 use Rattle.qolb_draw.proofs.Shapes.{arrow_pushed}
 use Rattle.qolb_draw.proofs.timeline.push_handoff.Goals as goal

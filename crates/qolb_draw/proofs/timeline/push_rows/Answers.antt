@@ -1,7 +1,7 @@
 use Rattle.std.proofs.Common.{[], length}
-use Rattle.qolb_shapes.specs.Svg.{texts}
+use Rattle.qolb_draw.specs.Svg.{texts}
 use Rattle.qolb_draw.specs.Grids.{row_shapes_out_of}
-use Rattle.qolb_shapes.proofs.Rows.{element_pushed}
+use Rattle.qolb_draw.proofs.Pushing.{element_pushed}
 use Rattle.qolb_draw.proofs.timeline.push_rows.Goals as goal
 
 pub loop-node-preserved : goal.loop-node-preserved

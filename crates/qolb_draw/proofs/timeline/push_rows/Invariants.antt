@@ -1,6 +1,6 @@
 use Rattle.std.proofs.Common.{◌≡◌, ◌++◌, length, take}
 use Rattle.std.specs.List.{flat_map}
-use Rattle.qolb_shapes.specs.Svg.{texts}
+use Rattle.qolb_draw.specs.Svg.{texts}
 use Rattle.qolb_draw.specs.Grids.{row_shapes_out_of}
 use Rattle.qolb_draw.proofs.timeline.push_rows.Given as goal
 

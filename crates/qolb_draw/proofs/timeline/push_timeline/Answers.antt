@@ -2,9 +2,9 @@ use Rattle.std.proofs.Common.{◌≡◌, ◌≤◌, ◌++◌, ℕ, List, length,
 use Rattle.std.specs.Prelude.{codes}
 use Rattle.std.specs.List.{All, flat_map, range_with_len}
 use Rattle.qolb_model.specs.declared.config.TheConstants.{MAX_NODES}
-use Rattle.qolb_shapes.specs.declared.event.Event.{Event}
+use Rattle.qolb_draw.specs.declared.event.Event.{Event}
 use Rattle.qolb_draw.specs.Grids.{row_shapes_out_of, shown_out_of}
-use Rattle.qolb_shapes.specs.Svg.{line_begin, texts}
+use Rattle.qolb_draw.specs.Svg.{line_begin, texts}
 use Rattle.qolb_draw.specs.Timelines.{column_shapes, no_event}
 use Rattle.qolb_draw.proofs.Outs.{length-shown, shown_within}
 use Rattle.qolb_draw.proofs.Shapes.{line_whole}

@@ -1,5 +1,5 @@
 use Rattle.std.proofs.Common.{ap, ◌∙◌, ◌++◌}
-use Rattle.qolb_shapes.specs.Svg.{bytes_text}
+use Rattle.qolb_draw.specs.Svg.{bytes_text}
 use Rattle.qolb_draw.specs.Timelines.{row_of}
 use Rattle.qolb_draw.proofs.Shapes.{bytes_pushed}
 use Rattle.qolb_draw.proofs.timeline.push_written.Goals as goal

@@ -2,7 +2,7 @@ use Rattle.std.proofs.Common.{◌≡◌, arith, true, false, ap, sym, ◌∙◌}
 use Rattle.qolb_model.specs.OneOwner.{state_of}
 use Rattle.qolb_script.specs.Commands.{line_of, node_of}
 use Rattle.qolb_script.specs.Reply.{said_of}
-use Rattle.qolb_shapes.specs.Marks.{is_misuse}
+use Rattle.qolb_words.specs.Words.{is_misuse}
 use Rattle.qolb_explain.proofs.Noting.{misuse_noted, none_noted}
 use Rattle.qolb_explain.proofs.notes.push_if_misuse.Goals as goal
 

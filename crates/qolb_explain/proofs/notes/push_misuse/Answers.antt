@@ -1,8 +1,7 @@
 use Rattle.std.specs.Prelude.{codes}
 use Rattle.qolb_script.specs.Commands.{node_of, line_of}
-use Rattle.qolb_shapes.specs.Svg.{field}
-use Rattle.qolb_shapes.specs.Verbs.{verb_of}
-use Rattle.qolb_shapes.proofs.Texts.{begins, piece, ◌▸◌}
+use Rattle.qolb_words.specs.Words.{field, verb_of}
+use Rattle.qolb_words.proofs.Pieces.{begins, piece, ◌▸◌}
 use Rattle.qolb_explain.specs.Notes.{state_words}
 use Rattle.qolb_explain.proofs.notes.push_misuse.Goals as goal
 

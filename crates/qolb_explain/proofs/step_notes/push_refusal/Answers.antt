@@ -1,9 +1,7 @@
 use Rattle.std.specs.Prelude.{codes}
 use Rattle.link_core.specs.Steps.{node_of}
-use Rattle.qolb_shapes.specs.Points.{point_words}
-use Rattle.qolb_shapes.specs.Svg.{field}
-use Rattle.qolb_shapes.specs.Verbs.{step_verb}
-use Rattle.qolb_shapes.proofs.Texts.{begins, piece, ◌▸◌}
+use Rattle.qolb_words.specs.Words.{point_words, field, step_verb}
+use Rattle.qolb_words.proofs.Pieces.{begins, piece, ◌▸◌}
 use Rattle.qolb_explain.specs.Notes.{events_at}
 use Rattle.qolb_explain.proofs.step_notes.push_refusal.Goals as goal
 

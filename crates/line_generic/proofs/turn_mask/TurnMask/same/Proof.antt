@@ -1,4 +1,4 @@
--- It makes the value with no bytes, and says that its mask is the same.
+-- `same` makes the value without bytes, and says that its mask is the same.
 use Rattle.std.proofs.Common.{[], ◌∷◌, refl}
 use Rattle.std.proofs.raw_atomic.Walks.{proved}
 use base.Fml.{ftrue}

@@ -1,4 +1,4 @@
--- It makes the value with no bytes, and says that the places of a write are added.
+-- `with` makes the value without bytes, and says that the places of a write are added to its mask.
 use Rattle.std.proofs.Common.{bit_or, [], ◌∷◌, refl}
 use Rattle.std.proofs.raw_atomic.Walks.{proved}
 use base.Fml.{ftrue}

@@ -1,4 +1,4 @@
--- A `&` to a reference to a lock holds shares of it.
+-- Threads may share a reference to a lock, because a `&` to it holds only shares of the lock.
 use denote.Param.Send.{IsSync, part_keyless}
 use Rattle.qolb_locks.specs.contracts.lock_ref.LockRef.{the_row}
 use Rattle.qolb_locks.proofs.lock_ref.LockRef.TheSendSync.Send.{send}

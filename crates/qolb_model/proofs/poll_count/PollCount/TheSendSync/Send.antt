@@ -1,4 +1,4 @@
--- It owns nothing, so it may go to another thread.
+-- A `PollCount` may go to another thread, because it owns nothing.
 use denote.Param.Send.{IsSend, owning_send}
 use Rattle.qolb_model.specs.contracts.poll_count.PollCount.{the_row, the_type}
 

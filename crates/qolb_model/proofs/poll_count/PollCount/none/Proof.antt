@@ -1,4 +1,4 @@
--- It makes the value with no bytes, and says that its count is 0.
+-- `none` makes the value without bytes, and says that its count is 0.
 use Rattle.std.proofs.Common.{[], ◌∷◌, refl}
 use Rattle.std.proofs.raw_atomic.Walks.{proved}
 use base.Fml.{ftrue}

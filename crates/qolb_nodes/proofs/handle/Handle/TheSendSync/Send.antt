@@ -1,4 +1,4 @@
--- A handle owns nothing, or a box of a node, which may go to another thread.
+-- A handle may go to another thread, because it owns nothing, or a box of a node that may go there.
 use mir.Raw.{raw}
 use base.Shift.{Keyless}
 use denote.Memory.{lone}

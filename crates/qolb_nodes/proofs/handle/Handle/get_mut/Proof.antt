@@ -1,4 +1,4 @@
--- `get_mut` tests the pointer, and lends the node behind it; the handle follows the node.
+-- `get_mut` tests the pointer and lends the node behind it. What the caller does to the node, it does to the handle.
 use Rattle.std.proofs.Common.{◌≡◌, ℕ, List, [], ◌∷◌, refl, sym, ap, ◌∙◌, lit<}
 use seplogic.Ra.Ura.{Ura}
 use base.Fraction.{full_share}

@@ -1,4 +1,0 @@
-pub mod StepCovering
-pub mod StepTexts
-pub mod StepsWithin
-pub mod Watching

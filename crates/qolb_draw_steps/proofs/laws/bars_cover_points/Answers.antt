@@ -1,5 +1,0 @@
-use Rattle.qolb_draw_steps.proofs.StepCovering.{bars_cover_points}
-use Rattle.qolb_draw_steps.proofs.laws.bars_cover_points.Goals as goal
-
-pub returns : goal.returns
-returns c = bars_cover_points

@@ -1,5 +1,0 @@
-use Rattle.qolb_draw_steps.proofs.StepsWithin.{step_shapes_lie_within}
-use Rattle.qolb_draw_steps.proofs.laws.step_shapes_lie_within.Goals as goal
-
-pub returns : goal.returns
-returns c = step_shapes_lie_within

@@ -1,4 +1,0 @@
-pub mod StepShapes
-pub mod StepSvg
-pub mod StepPictures
-pub mod StepLaws

@@ -1,0 +1,17 @@
+-- The complaint about a refused line. (Of this project.)
+use Rattle.std.specs.Prelude.{◌≡◌, ℕ, ◌==◌, if◌then◌else◌, List, [], ◌∷◌}
+use Rattle.qolb_script.specs.declared.reason.Reason.{Reason}
+use Rattle.qolb_script.specs.declared.reason.Refusal.{Refusal}
+use Rattle.qolb_script.specs.declared.reason.Refusal.TheVariants.{Line}
+use Rattle.qolb_script.specs.Text.{numbered_lines, worded}
+
+-- the line of this number among some lines, if it is there
+abbrev pub line_at : ℕ → List (ℕ × List ℕ) → List ℕ
+line_at n [] = []
+line_at n (line ∷ rest) = if line.0 == n then line.1 else line_at n rest
+
+-- a complaint with this line of a script and this reason is about the line for which its reader refused it, and has the reader's reason
+pub record IsAbout (script line : List ℕ) (reason : Reason) (why : Refusal) : Type 0 where
+  pub number : ℕ
+  pub of_reader : why ≡ Line number reason
+  pub line_is : line ≡ line_at number (worded (numbered_lines script))

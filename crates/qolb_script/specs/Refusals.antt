@@ -1,0 +1,39 @@
+-- Why bytes are no script, and the error of it. (Of this project.)
+use Rattle.std.specs.Prelude.{ℕ, if◌then◌else◌, List, Result, Ok, Err}
+use Rattle.std.specs.Str.{bytes_eq}
+use Rattle.qolb_script.specs.declared.error.ScriptError.{ScriptError}
+use Rattle.qolb_script.specs.declared.error.ScriptError.TheVariants as error
+use Rattle.qolb_script.specs.declared.reason.Allowed.{Allowed}
+use Rattle.qolb_script.specs.declared.reason.Reason.{Reason}
+use Rattle.qolb_script.specs.declared.reason.Reason.TheVariants as reason
+use Rattle.qolb_script.specs.declared.reason.Refusal.{Refusal}
+use Rattle.qolb_script.specs.declared.reason.Refusal.TheVariants as refusal
+
+-- the error of a line that is refused for a reason: a number that is none or out of its range, one line too many, or else a bad line
+abbrev pub line_error : ℕ → Reason → ScriptError
+line_error n (reason.Number place low high) = error.Number n
+line_error n reason.TooMany = error.TooMany n
+line_error n why = error.BadLine n
+
+abbrev pub error_of : Refusal → ScriptError
+error_of refusal.Memory = error.Memory
+error_of (refusal.Line n why) = line_error n why
+
+-- the same, with the error in the place of its refusal
+abbrev pub with_error : {A : Type 0} → Result A Refusal → Result A ScriptError
+with_error (Ok a) = Ok a
+with_error (Err why) = Err (error_of why)
+
+-- what is read of line n
+abbrev pub of_line : {A : Type 0} → ℕ → Result A Reason → Result A Refusal
+of_line n (Ok a) = Ok a
+of_line n (Err why) = Err (refusal.Line n why)
+
+-- the value, if there is one, passed to the next step
+abbrev pub and_then : {A B : Type 0} → Result A Reason → (A → Result B Reason) → Result B Reason
+and_then (Ok a) next = next a
+and_then (Err why) next = Err why
+
+-- the word at this place is this one, which is all that is allowed there
+abbrev pub unless_same : ℕ → Allowed → List ℕ → List ℕ → Result (Unit {0}) Reason
+unless_same place allowed name word = if bytes_eq word name then Ok tt else Err (reason.Word place allowed)

@@ -1,0 +1,36 @@
+//! The program as a process: its words, its standard streams and its exit status.
+use crate::program::{refuse_words, serve};
+use std::alloc::AllocGlobal;
+use std::env;
+use std::io::{self, Read, Write};
+use std::process::ExitCode;
+use std::rt::{Clock, Env};
+use std::sync::Wait;
+use std::thread::Threads;
+
+/// Does what the words of the process ask for, with these standard streams. Returns the exit status.
+///
+/// The `main` of a program is this call alone, so the stored run of each such program is a test of them all.
+pub fn run<
+    T: Threads + Wait + Clock + Eprint + Env + AllocGlobal + Sync,
+    R: Read,
+    W: Write,
+    E: Write,
+>(rt: &T, reader: &mut R, out: &mut W, err: &mut E) -> ExitCode {
+    let status = match words(rt) {
+        Ok(words) => serve(rt, rt.alloc(), words.as_slice(), reader, out, err),
+        Err(error) => refuse_words(err, &error),
+    };
+    ExitCode::from(status)
+}
+
+/// Returns the words of the command line, of which the first is the program's name.
+///
+/// A refused growth is an error, where `collect` would ask again for less.
+fn words<T: Env + AllocGlobal>(rt: &T) -> io::Result<Vec<String>> {
+    let mut all = Vec::new(rt.alloc());
+    for word in env::args(rt)? {
+        all.push(word)?;
+    }
+    Ok(all)
+}
