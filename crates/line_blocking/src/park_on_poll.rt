@@ -1,4 +1,4 @@
-//! A wrapper of a line whose `poll` parks the caller.
+//! A wrapper for a line whose `poll` lets the calling thread sleep.
 ghost use Rattle.std.specs.Prelude.{◌≡◌, map, All, IfOk, IfErr};
 ghost use Rattle.qolb_model.specs.Finishing.{MayRefuse, IsFinished};
 

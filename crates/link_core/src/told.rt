@@ -1,4 +1,4 @@
-//! What an event tells its node, and why an event is refused.
+//! The result of an accepted event, and the reason why an event is refused.
 
 /// The answer of an accepted event to its node.
 #[derive(Clone, Copy, Debug, PartialEq, Eq)]
