@@ -1,4 +1,4 @@
-//! A command that was done, as a timeline shows it.
+//! A command that has been executed, as the timeline shows it.
 use crate::symbol::Change;
 use qolb_script::Command;
 

@@ -1,4 +1,4 @@
-//! Numbers as rows of digits, digit below digit.
+//! Writes numbers as column heads, with the digits of each number below each other.
 ghost use Rattle.std.specs.Prelude.{◌≡◌, ◌++◌, ◌≤◌, OnOk};
 ghost use Rattle.qolb_draw.specs.Heads as spec;
 

@@ -1,4 +1,4 @@
-//! The plain line in a replay.
+//! Makes the plain line usable in a replay.
 ghost use Rattle.std.specs.Prelude.{◌≡◌, ◌≤◌};
 ghost use Rattle.qolb_model.specs.OneOwner.{OwnerState};
 ghost use Rattle.qolb_model.specs.Plain.{Agrees};

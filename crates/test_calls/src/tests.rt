@@ -1,6 +1,6 @@
-//! Each call of each kind of line. The answers are written once, over any line. A test names a kind by its queue
-//! discipline, because the prover then sees only once that a line of any discipline is a line; it would see that again
-//! at each named line.
+//! Tests each call of each kind of line. The expected answers are written once, for any line. A test names a kind by
+//! its queue algorithm, because then the prover checks only once that a line of any queue algorithm is a line; it would
+//! repeat this check for each named line.
 
 mod asleep;
 mod did;

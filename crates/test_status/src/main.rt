@@ -1,4 +1,4 @@
-//! The program `qolb` again, with a stored run of a script that it refuses.
+//! The program `qolb` again, with a recorded run of a script that it refuses.
 #![tactic(auto)]
 
 use qolb_serve::run;

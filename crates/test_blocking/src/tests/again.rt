@@ -1,4 +1,5 @@
-//! A port whose withdrawn request has not been passed asks again until it is, over all lines, with each blocking call.
+//! Tests, for each blocking call and each kind of line, that a port keeps trying while its withdrawn request has not
+//! been skipped, and makes its request once it has been.
 use crate::tests::held::{Scene, SleepLine, all_see, for_nodes, wait_until};
 use example_line::timed::add_within;
 use line_blocking::{Got, TimedAcquire, acquire, acquire_parking};

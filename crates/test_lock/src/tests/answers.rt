@@ -1,4 +1,4 @@
-//! Each answer of the queue and of closing, to a few callers in one thread.
+//! Tests each answer of the queue and of shutting, with a few callers in one thread.
 ghost use Rattle.std.specs.Prelude.{◌≤◌, IfOk};
 ghost use Rattle.lock_core.specs.Layout.{IsLockTable};
 

@@ -1,4 +1,4 @@
-//! Eight workers at a gate: each is asked for like the first.
+//! Tests eight workers at a gate: the gate is asked about each of them as it is about the first.
 use crate::tests::gates::{Begun, Closed};
 use crate::tests::rows::{expect, expect_at};
 use line_kinds::ALL;

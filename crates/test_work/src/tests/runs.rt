@@ -1,4 +1,4 @@
-//! Runs: a wait for a line, gates and workers.
+//! Tests waiting for a line, gates and workers in complete runs.
 use crate::tests::rows::expect;
 use line_kinds::RingLine;
 use line_lanes::Line64;
