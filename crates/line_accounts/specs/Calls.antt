@@ -1,4 +1,4 @@
--- The calls of a desk: what each call does to the desk, with a field for each answer or for a part of it. The
+-- The calls of a desk: how each call changes the desk, with one field for each answer or for a part of it. The
 -- definitions are this project's own.
 use Rattle.std.specs.Prelude.{◌≡◌, ◌≢◌, ◌⊎◌, ℕ, ◌*◌, ◌<◌, ◌≤◌, List, slice_set, slice_get, Some}
 use Rattle.qolb_model.specs.declared.view.View.{View}

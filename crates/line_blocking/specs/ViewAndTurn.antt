@@ -1,4 +1,4 @@
--- Ports, as the definitions of this crate see them.
+-- What the definitions of this crate use of a port.
 use Rattle.qolb_model.specs.declared.view.View.{View}
 use Rattle.qolb_model.specs.declared.write.Write.{Write}
 use Rattle.qolb_model.specs.Whole.{ViewAndTurn}

@@ -1,4 +1,4 @@
--- The promise of each call of a board: one record for each call, with one field for each answer. `old` and `new` are
+-- What each call of a board guarantees: one record for each call, with one field for each answer. `old` and `new` are
 -- the port's view before and after the call. The definitions are this project's own.
 use Rattle.std.specs.Prelude.{◌≡◌, ◌≢◌, ℕ, ◌+◌, true, false, List, [], ◌∷◌, ◌++◌, length, replicate, slice_get, Some}
 use Rattle.line_lanes.specs.Mask.{changed_mask}

@@ -1,4 +1,4 @@
--- Numbers as rows of digits, digit below digit. (Of this project.)
+-- Numbers as column heads, with the digits of each number below each other. The definitions are this project's own.
 use Rattle.std.specs.Prelude.{ℕ, ◌+◌, ◌-◌, ◌/◌, ◌%◌, nat_lt, nat_le, if◌then◌else◌, List, [], ◌∷◌, ◌++◌, length, map, filter, flat_map}
 use Rattle.std.specs.List.{slice_index_or}
 

@@ -1,5 +1,5 @@
--- The picture of a schedule as plain text: for each line, blocks of commands with a row of marks for each node that calls; and in
--- either form. (Of this project.)
+-- The picture of a schedule: as plain text, each line of the schedule has blocks of commands, with a row of marks for
+-- each node that makes calls; the other form is SVG. The definitions are this project's own.
 use Rattle.std.specs.Prelude.{◌≡◌, ℕ, ◌+◌, ◌-◌, ◌≤◌, ◌*◌, ◌/◌, List, [], ◌∷◌, ◌++◌, length, map, flat_map, take, drop, replicate, codes, Result, Ok, Err}
 use Rattle.std.specs.List.{range_with_len}
 use Rattle.qolb_replay.specs.declared.input.TheConstants.{MAX_BYTES}

@@ -1,4 +1,4 @@
--- The shapes of a step script as an SVG. (Of this project.)
+-- The SVG text of the shapes of a step script. The definitions are this project's own.
 use Rattle.std.specs.Prelude.{ℕ, ◌+◌, ◌-◌, ◌*◌, ◌==◌, min, Bool, if◌then◌else◌, List, [], ◌++◌, flat_map, codes, Option, Some, None, decimal, ◌∷◌}
 use Rattle.link_core.specs.declared.entry.Entry.{Entry}
 use Rattle.link_core.specs.declared.event.Event.{Event}

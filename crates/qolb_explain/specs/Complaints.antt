@@ -1,4 +1,4 @@
--- The complaint about a refused line. (Of this project.)
+-- The complaint about a refused line of a script. The definitions are this project's own.
 use Rattle.std.specs.Prelude.{◌≡◌, ℕ, ◌==◌, if◌then◌else◌, List, [], ◌∷◌}
 use Rattle.qolb_script.specs.declared.reason.Reason.{Reason}
 use Rattle.qolb_script.specs.declared.reason.Refusal.{Refusal}

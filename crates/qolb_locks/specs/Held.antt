@@ -1,4 +1,4 @@
--- What a ticket owns of its lock.
+-- The proof state that a ticket keeps about its lock.
 use Rattle.std.specs.Prelude.{ℕ, List}
 use base.Fml.{Fml}
 use base.Stored.{Coded}

@@ -1,4 +1,4 @@
--- What it means that all turns of a line keep its data invariant. The definitions are this project's own.
+-- Definitions which state that all turns of a line preserve its data invariant. The definitions are this project's own.
 use Rattle.std.specs.Prelude.{ℕ, List, [], ◌∷◌}
 use Rattle.qolb_model.specs.declared.write.Write.{Write}
 use Rattle.qolb_model.specs.declared.end.End.{End}

@@ -1,4 +1,4 @@
--- The promise of each call of a node of any kind. `was` and `now` are the node before and after the call. The
+-- What each call on a node of any kind guarantees. `was` and `now` are the node before and after the call. The
 -- definitions are this project's own.
 use Rattle.std.specs.Prelude.{◌≡◌, ◌≢◌, ℕ, ◌+◌, ◌<◌, ◌≤◌, List, Bool, true}
 use Rattle.line_lanes.specs.Lane.{lane_of}

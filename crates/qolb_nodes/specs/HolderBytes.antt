@@ -1,4 +1,4 @@
--- What the holder reads of its line. The definitions are this project's own.
+-- What a holder can read from its line. The definitions are this project's own.
 use Rattle.std.specs.Prelude.{◌≡◌, ℕ, ◌<◌}
 use Rattle.line_lanes.specs.declared.line.Line64.{Line64}
 use Rattle.line_lanes.specs.Lane.{lane_of}

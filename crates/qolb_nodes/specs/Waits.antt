@@ -1,4 +1,4 @@
--- The words on which the nodes of a line wait, as numbers for C. The definitions are this project's own.
+-- The words on which the nodes of a line wait, as numbers for C code. The definitions are this project's own.
 use Rattle.std.specs.Prelude.{ℕ, Option}
 use Rattle.qolb_model.specs.declared.view.View.{View}
 use Rattle.qolb_nodes.specs.declared.any_node.AnyNode.{AnyNode}

@@ -1,4 +1,4 @@
--- What is said of each lock: the kinds that name it, and a property of work. (Of this project.)
+-- The names of each kind of line, and a property of the work on it. The definitions are this project's own.
 use Rattle.std.specs.Prelude.{Option, Some, None}
 use Rattle.line_kinds.specs.declared.Lock.{Lock}
 use Rattle.line_kinds.specs.declared.Lock.TheVariants as lock

@@ -1,4 +1,4 @@
--- The events of a step script, and its header. (Of this project.)
+-- The events of a step script, and its header. The definitions are this project's own.
 use Rattle.std.specs.Prelude.{ℕ, if◌then◌else◌, List, [], ◌∷◌, codes, Option, Some, None, Result, Ok, Err}
 use Rattle.std.specs.Str.{bytes_eq}
 use Rattle.link_core.specs.declared.event.Event.{Event}

@@ -1,4 +1,4 @@
--- The jobs of a work script, and its header. (Of this project.)
+-- The jobs of a work script, and its header. The definitions are this project's own.
 use Rattle.std.specs.Prelude.{ℕ, ◌*◌, ◌-◌, ◌^◌, ◌<◌, is_err, if◌then◌else◌, List, [], ◌∷◌, codes, Result, Ok, Err}
 use Rattle.std.specs.Str.{bytes_eq}
 use Rattle.qolb_model.specs.declared.config.TheConstants.{MAX_NODES}

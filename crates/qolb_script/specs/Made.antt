@@ -1,4 +1,4 @@
--- The commands of a node and a line. (Of this project.)
+-- Commands that are made for a given node and line. The definitions are this project's own.
 use Rattle.std.specs.Prelude.{ℕ, List, codes}
 use Rattle.qolb_script.specs.declared.command.Command.{Command}
 use Rattle.qolb_script.specs.declared.command.Command.TheVariants as command

@@ -1,4 +1,4 @@
--- The text of a report of work: a line for each number. (Of this project.)
+-- The text of a report of work, which has one line for each number. The definitions are this project's own.
 use Rattle.std.specs.Prelude.{ℕ, List, [], ◌∷◌, ◌++◌, codes, decimal}
 use Rattle.qolb_script.specs.declared.report.Report.{Report}
 use Rattle.qolb_script.specs.declared.report.Report.TheVariants.{Board, Bank}

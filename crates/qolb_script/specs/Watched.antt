@@ -1,4 +1,4 @@
--- A watched reader or writer, as contracts see it. (Of this project.)
+-- A reader or writer that remembers a fault, in the terms that contracts use. The definitions are this project's own.
 use Rattle.std.specs.Prelude.{Bool}
 use Rattle.qolb_script.specs.declared.watched.Watched.{Watched}
 

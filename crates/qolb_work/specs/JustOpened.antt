@@ -1,4 +1,4 @@
--- Lines that were just opened for workers. (Of this project.)
+-- Lines that were just opened for workers. The definitions are this project's own.
 use Rattle.std.specs.Prelude.{◌≡◌, ℕ, ◌+◌, List, Some, None, slice_get}
 use Rattle.line_lanes.specs.Line.{zeros}
 use Rattle.qolb_model.specs.declared.config.LineConfig.{LineConfig}

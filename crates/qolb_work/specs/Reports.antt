@@ -1,4 +1,4 @@
--- What a report tells of the work that was done. (Of this project.)
+-- How a report describes the work that was done. The definitions are this project's own.
 use Rattle.std.specs.Prelude.{◌≡◌, ◌≤◌, ℕ, ◌+◌, List}
 use Rattle.line_accounts.specs.declared.law.TheConstants.{MAX_BALANCE}
 use Rattle.qolb_script.specs.declared.job.Job.{Job}

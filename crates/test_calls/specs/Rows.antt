@@ -1,4 +1,4 @@
--- Ports in tests, some of which may be ports of another line. The definitions are this project's own.
+-- Ports in tests, some of which may belong to another line. The definitions are this project's own.
 use Rattle.std.specs.Prelude.{◌≡◌, ℕ, List}
 use Rattle.std.specs.List.{All}
 use Rattle.qolb_model.specs.declared.view.View.{View}

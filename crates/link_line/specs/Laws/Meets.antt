@@ -1,4 +1,4 @@
--- What two views in one seat say about each other.
+-- How two views in one seat are related.
 use Rattle.std.proofs.Common.{◌≡◌, ◌≢◌, ℕ, ◌≤◌, inl, inr, List, [], ◌∷◌, ◌++◌, set, slice_index, sym, refl, ap, ◌∙◌, subst, arith, length-set}
 use mathlib.Core.List.{IsPrefix}
 use mathlib.Core.Option.{none, some}
