@@ -1,6 +1,7 @@
-/* The clock that timeouts use, and sleeping on a word of memory until another thread wakes the word's sleepers (a
- * futex). All files of the library that wait use this header. A thread that waits with a node sleeps on a word of its
- * line (line.h), and a thread that waits for a lock sleeps on one of the lock's own words (lock/). */
+/* The clock for timeouts, and the functions with which a thread sleeps on a word of memory until another thread wakes
+ * the sleepers of that word (a futex). All files of the library that wait use this header. A thread that waits with a
+ * node sleeps on a word of its line (line.h), and a thread that waits for a lock sleeps on one of the lock's own words
+ * (lock/). */
 #ifndef QOLB_FUTEX_H
 #define QOLB_FUTEX_H
 

@@ -5,7 +5,7 @@
  *
  * Prints only the first difference. The model is written from qolb.h: it is a queue of requests, and the first request
  * that is not withdrawn has the turn. The line is with the first request, or at home if there is no request. In a link
- * line it stays with the last request that ended until the successor has linked itself. */
+ * line, the line stays with the last request that ended until the successor has linked itself. */
 #include <qolb.h>
 #include <stdio.h>
 #include <stdlib.h>

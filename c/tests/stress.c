@@ -5,7 +5,7 @@
  *   build/stress SECONDS BARGING_LIMIT [SEED]
  *
  * The program ends with an error if a thread is not granted the lock within ten times SECONDS. It prints the total
- * number of acquisitions, and the smallest and the largest number of one thread. */
+ * number of acquisitions, and the smallest and the largest number of acquisitions by a single thread. */
 #define _GNU_SOURCE
 #include <qolb.h>
 

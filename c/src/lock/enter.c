@@ -1,5 +1,5 @@
-/* Entering a lock: from the call until the thread holds the lock (lock.h). This file is tested and model-checked, but
- * not proved.
+/* Enters a lock: this file contains everything from the call until the thread holds the lock (lock.h). This file is
+ * tested and model-checked, but not proved.
  *
  * To enter a strict lock, a thread draws a ticket, which fixes its place in the order. It waits until its turn has
  * come, and then checks that the lock is open. To enter a barging lock, a thread takes the lock word if the word is

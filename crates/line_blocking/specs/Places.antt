@@ -1,4 +1,5 @@
--- A property that each element of a list has at its place. The definitions are this project's own.
+-- A property that each element of a list has at its place. The definitions in this file were made for this project;
+-- none is taken from the literature.
 use Rattle.std.specs.Prelude.{ℕ, ◌<◌, List, length, slice_index_or}
 
 -- P holds of each place, counted from 0, and the element at that place

@@ -1,4 +1,4 @@
-//! The result of an accepted event, and the reason why an event is refused.
+//! The results that an accepted event can return, and the reasons why an event can be refused.
 
 /// The answer of an accepted event to its node.
 #[derive(Clone, Copy, Debug, PartialEq, Eq)]

@@ -1,4 +1,5 @@
--- Commands that are made for a given node and line. The definitions are this project's own.
+-- Commands that are made for a given node and line. The definitions in this file were made for this project; none is
+-- taken from the literature.
 use Rattle.std.specs.Prelude.{ℕ, List, codes}
 use Rattle.qolb_script.specs.declared.command.Command.{Command}
 use Rattle.qolb_script.specs.declared.command.Command.TheVariants as command
