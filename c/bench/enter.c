@@ -7,12 +7,13 @@
  *
  *   cc -std=c11 -O2 -pthread -Ic/include c/bench/enter.c c/build/libqolb.a -o enter && ./enter [BATCHES]
  *
- * A round enters and leaves a lock once. The program prints how many nanoseconds a round takes, and how many times as
- * long as a round with the mutex that is. It prints the minimum and the median over BATCHES batches (101 by default).
- * It measures one batch of each lock before the next batch of any lock. Use the minimum if other programs run on the
- * machine. With a second argument (./enter 1 strict) the program makes 10,000 rounds with that lock alone, so that
- * valgrind --tool=callgrind --toggle-collect='rounds_of*' can count the instructions. The program always has a second
- * thread, because a mutex is cheaper in a process with only one thread. */
+ * In a round, the thread enters and leaves a lock once. For each lock the program prints the time of a round in
+ * nanoseconds, and the ratio of this time to that of a round with the mutex. Both are printed as the minimum and as the
+ * median over BATCHES batches (101 by default). The locks alternate: one batch of each lock is measured, then the next
+ * batch of each lock, and so on. Use the minimum if other programs run on the machine. With a second argument (./enter
+ * 1 strict) the program makes 10,000 rounds with that lock alone, so that valgrind --tool=callgrind
+ * --toggle-collect='rounds_of*' can count the instructions. The program always has a second thread, because a mutex is
+ * cheaper in a process with only one thread. */
 #define _DEFAULT_SOURCE
 #include <pthread.h>
 #include <qolb.h>

@@ -3,8 +3,8 @@
  *
  * When a node of a ring or of a ticket line is granted the line, it reads the line's bytes from a slot that its
  * predecessor wrote just before the grant. Therefore the node prefetches this slot whenever it polls. When a poll finds
- * the grant, the slot arrives at the same time as the polled cell. An earlier prefetch does not delay the predecessor,
- * because its write to the slot fetches the slot while it also fetches the next node's cell.
+ * the grant, the slot arrives at the same time as the polled cell. An earlier prefetch does not delay the predecessor:
+ * when the predecessor writes to the slot, its processor fetches the slot and the next node's cell at the same time.
  *
  * A hand-over in a link line writes to four cache lines that other threads wrote last: the line's bytes, the word that
  * names the last request, the holder's entry in the queue, and its successor's entry (crates/link_line). Each step of

@@ -1,4 +1,5 @@
-/* Tests what each call that notifies nodes returns and does, with one thread and with two. Prints only errors. */
+/* Tests the calls with which a program requests a callback or an eventfd signal for the turn of a node: what each of
+ * them returns and does, with one thread and with two. Prints only errors. */
 #define _GNU_SOURCE
 #include <qolb.h>
 #include <errno.h>

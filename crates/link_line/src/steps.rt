@@ -1,5 +1,5 @@
-//! The atomic steps of the link line. Each step is one sequentially consistent operation on one word. The type argument
-//! of this operation, from `plays`, is the change of ghost state that belongs to the step.
+//! The atomic steps of the link line. Each step is one sequentially consistent operation on one word. This operation
+//! takes a type argument from the module `plays`, which is the change of ghost state that belongs to the step.
 //!
 //! - A *node* is a user of the line. Its queue node (in the sense of MCS) is one word, which is called its *entry*.
 //! - A *seat* is a node's access to the shared table. It contains the ghost state of the node (`me.0`, a list with one
@@ -8,9 +8,9 @@
 //!   home. The line's 64 bytes stay in one slot: "at home" and "left in an entry" only determine whose next step takes
 //!   them. A holder works on a copy in its port, and its release stores the copy back before its first step.
 //! - A *late linker* is a node that has swapped the home word, but has not yet linked to its predecessor.
-//! - A request is *at its turn* once the line was granted to it, left for it, or found at home. The seat of the
-//!   request's node *has* the line from the step that finds this on. The node's port *holds* the line only if the line
-//!   is not closed.
+//! - A request is *at its turn* once the line was granted to it, left for it, or found at home. From the step that
+//!   finds this on, the seat of the request's node *has* the line. The node's port *holds* the line only if the line is
+//!   not closed.
 //! - A request is *joined* once it no longer needs a link, because it found the line at home or is already linked.
 //! - The *current request* of a release is at first the releasing node's own. To *pass* a withdrawn successor is to
 //!   make the successor's request the current one, and to continue from its entry with the line. The step that passes

@@ -1,7 +1,7 @@
 //! Exports the proved core of a lock, which many threads share, to C. `c/src/core.h` declares these functions.
 //!
 //! C code refers to a lock by a reference, which it may copy, and to a request by a ticket, which belongs to one
-//! caller. That header lists what the C code must guarantee.
+//! caller. The header core.h also lists what the C code must guarantee.
 ghost use Rattle.std.specs.Prelude.{◌≡◌, ◌≢◌, true};
 ghost use Rattle.lock_core.specs.Views.{SameRequest};
 ghost use Rattle.qolb_locks.specs.declared.answer.Answer.{Answer};

@@ -1,4 +1,4 @@
-//! The bars of a timeline, each of which shows the state of a node at a line during some time.
+//! The bars of a timeline. Each bar shows the state of a node at a line over a range of commands.
 ghost use Rattle.std.specs.Prelude.{◌≡◌, not};
 ghost use Rattle.qolb_draw.specs.Svg as svg;
 ghost use Rattle.qolb_draw.specs.Shapes as spec;

@@ -1,4 +1,4 @@
-//! Helpers for tests. One of them takes away the memory of a process, so that allocations fail. Another one wraps a
+//! Helpers for tests. One helper takes away the memory of a process, so that allocations fail. Another helper wraps a
 //! line, and calls hooks when a call on the line is made.
 #![tactic(auto)]
 

@@ -1,5 +1,5 @@
 //! The atomic steps of the ticket line, except those that free passed nodes (`free_passed`). Each step is one
-//! sequentially consistent operation on one word. The type argument of this operation is its play, which is the change
+//! sequentially consistent operation on one word. This operation takes a type argument, its *play*, which is the change
 //! of ghost state that belongs to the step.
 //!
 //! - A *node* is a user of the line. To *free* a node is to set its *node word*, which is 0 until then. From then on the
@@ -9,8 +9,8 @@
 //! - A *cell* is the word on which a request waits. It contains the number of the ticket that was granted there last,
 //!   or the number of a withdrawn ticket together with its node. A *slot* contains the line's 64 bytes and a flag for a
 //!   closed line. Each cell has one slot, and the line is in the slot of the ticket that has the turn.
-//! - A request is *at its turn* once its cell is granted. The seat of the request's node *has* the line from the step
-//!   that finds this grant on. The node's port *holds* the line only if the line is not closed.
+//! - A request is *at its turn* once its cell is granted. From the step that finds this grant on, the seat of the
+//!   request's node *has* the line. The node's port *holds* the line only if the line is not closed.
 //! - To *pass* a withdrawn request is to continue from its cell with the line. Each grant ends the request at its turn:
 //!   first the releasing node's own request, then each request that was passed.
 //! - A node's last request is *clear* once no other node will use the node's word because of it. Then the answer to the

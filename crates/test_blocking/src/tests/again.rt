@@ -1,5 +1,5 @@
-//! Tests, for each blocking call and each kind of line, that a port keeps trying while its withdrawn request has not
-//! been skipped, and makes its request once it has been.
+//! Tests a port whose withdrawn request is still in the queue: each blocking call tries again until that request has
+//! been skipped, and then makes a new request. The tests run on each kind of line.
 use crate::tests::held::{Scene, SleepLine, all_see, for_nodes, wait_until};
 use example_line::timed::add_within;
 use line_blocking::{Got, TimedAcquire, acquire, acquire_parking};

@@ -1,4 +1,4 @@
-//! Tests waiting for a line, gates and workers in complete runs.
+//! Tests complete runs: a thread that waits for a line, gates, and workers.
 use crate::tests::rows::expect;
 use line_kinds::RingLine;
 use line_lanes::Line64;
