@@ -1,4 +1,4 @@
--- The calls of a desk. For each call, a record states how the call changes the desk; the record has one field for each
+-- The calls on a desk. For each call, a record states how the call changes the desk; the record has one field for each
 -- answer, or for a part of an answer. The definitions in this file were made for this project; none is taken from the
 -- literature.
 use Rattle.std.specs.Prelude.{◌≡◌, ◌≢◌, ◌⊎◌, ℕ, ◌*◌, ◌<◌, ◌≤◌, List, slice_set, slice_get, Some}

@@ -1,4 +1,4 @@
--- What each call of a board guarantees: one record for each call, with one field for each answer. `old` and `new` are
+-- What each call on a board guarantees: one record for each call, with one field for each answer. `old` and `new` are
 -- the port's view before and after the call. The definitions in this file were made for this project; none is taken
 -- from the literature.
 use Rattle.std.specs.Prelude.{◌≡◌, ◌≢◌, ℕ, ◌+◌, true, false, List, [], ◌∷◌, ◌++◌, length, replicate, slice_get, Some}

@@ -1,4 +1,4 @@
--- Lemmas that all steps have in common which neither end a turn nor add a request.
+-- Lemmas shared by the proofs of all steps that neither end a turn nor add a request.
 use Rattle.qolb_model.specs.declared.config.LineConfig.{LineConfig}
 use Rattle.std.proofs.Common.{◌≡◌, ◌≢◌, ℕ, ◌+◌, ◌<◌, ◌≤◌, Bool, true, false, ◌||◌, List, [], ◌⊎◌, length, refl, sym, ◌∙◌, ap, subst, inl, inr}
 use Rattle.line_lanes.specs.declared.line.Line64.{Line64}

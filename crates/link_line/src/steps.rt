@@ -1,9 +1,10 @@
 //! The atomic steps of the link line. Each step is one sequentially consistent operation on one word. This operation
 //! takes a type argument from the module `plays`, which is the change of ghost state that belongs to the step.
 //!
-//! - A *node* is a user of the line. Its queue node (in the sense of MCS) is one word, which is called its *entry*.
-//! - A *seat* is a node's access to the shared table. It contains the ghost state of the node (`me.0`, a list with one
-//!   element: `IsOfOneNode`), and the slot with the line while the seat has the line (`me.1`).
+//! - A *node* is a user of the line. What an MCS lock calls the queue node is one word here, which is called the node's
+//!   *entry*.
+//! - A *seat* is a node's access to the shared table. A seat contains the ghost state of the node (`me.0`, a list with
+//!   one element: `IsOfOneNode`), and the slot with the line while the seat has the line (`me.1`).
 //! - The *home word* names the last node of the queue, as the tail of an MCS lock does, and is 0 if the line is at
 //!   home. The line's 64 bytes stay in one slot: "at home" and "left in an entry" only determine whose next step takes
 //!   them. A holder works on a copy in its port, and its release stores the copy back before its first step.

@@ -1,4 +1,4 @@
--- The proof state that a ticket keeps about its lock.
+-- What a ticket owns of its lock in the proofs.
 use Rattle.std.specs.Prelude.{ℕ, List}
 use base.Fml.{Fml}
 use base.Stored.{Coded}

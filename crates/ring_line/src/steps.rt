@@ -1,11 +1,11 @@
 //! The atomic steps of the ring. Each step is one sequentially consistent operation on one word. This operation takes a
 //! type argument, its *play*, which is the change of ghost state that belongs to the step.
 //!
-//! - A *node* is a user of the line. To *free* a node is to set its *node word*, which is 0 until then. From then on the
-//!   node's withdrawn request is clear.
-//! - A *seat* is a node's access to the shared table. It contains the ghost state of the node (`me.0`, a list with one
-//!   element: `IsOfOneNode`), and the slot with the line while the seat has the line (`me.1`).
-//! - A *cell* is the word on which a request waits (a slot in Anderson's lock). It contains 0, `GRANTED`,
+//! - A *node* is a user of the line. To *free* a node is to set its *node word*, which is 0 until then. From then on
+//!   the node's withdrawn request is clear.
+//! - A *seat* is a node's access to the shared table. A seat contains the ghost state of the node (`me.0`, a list with
+//!   one element: `IsOfOneNode`), and the slot with the line while the seat has the line (`me.1`).
+//! - A *cell* is the word on which a request waits (a slot in Anderson's lock). A cell contains 0, `GRANTED`,
 //!   `WITHDRAWN_UNIT` times the number of the node that withdrew there, or the sum of the last two. The *slot* contains
 //!   the line's 64 bytes and a flag for a closed line.
 //! - A request is *at its turn* once its cell is granted. From the step that finds this grant on, the seat of the

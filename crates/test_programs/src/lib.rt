@@ -1,5 +1,5 @@
-//! Boards, desks and programs with threads on any kind of line, and their tests. A test only requires that it can open
-//! the line.
+//! Boards, desks and programs with threads on any kind of line, and their tests. The tests require of a line only that
+//! they can open it.
 //!
 //! Modules that only these tests call are compiled only for the tests, so that they are proved only once.
 #![tactic(auto)]

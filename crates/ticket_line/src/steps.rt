@@ -2,13 +2,13 @@
 //! sequentially consistent operation on one word. This operation takes a type argument, its *play*, which is the change
 //! of ghost state that belongs to the step.
 //!
-//! - A *node* is a user of the line. To *free* a node is to set its *node word*, which is 0 until then. From then on the
-//!   node's withdrawn request is clear.
-//! - A *seat* is a node's access to the shared table. It contains the ghost state of the node (`me.0`, a list with one
-//!   element: `IsOfOneNode`), and the slot with the line while the seat has the line (`me.1`).
-//! - A *cell* is the word on which a request waits. It contains the number of the ticket that was granted there last,
-//!   or the number of a withdrawn ticket together with its node. A *slot* contains the line's 64 bytes and a flag for a
-//!   closed line. Each cell has one slot, and the line is in the slot of the ticket that has the turn.
+//! - A *node* is a user of the line. To *free* a node is to set its *node word*, which is 0 until then. From then on
+//!   the node's withdrawn request is clear.
+//! - A *seat* is a node's access to the shared table. A seat contains the ghost state of the node (`me.0`, a list with
+//!   one element: `IsOfOneNode`), and the slot with the line while the seat has the line (`me.1`).
+//! - A *cell* is the word on which a request waits. A cell contains the number of the ticket that was granted there
+//!   last, or the number of a withdrawn ticket together with its node. A *slot* contains the line's 64 bytes and a flag
+//!   for a closed line. Each cell has one slot, and the line is in the slot of the ticket that has the turn.
 //! - A request is *at its turn* once its cell is granted. From the step that finds this grant on, the seat of the
 //!   request's node *has* the line. The node's port *holds* the line only if the line is not closed.
 //! - To *pass* a withdrawn request is to continue from its cell with the line. Each grant ends the request at its turn:

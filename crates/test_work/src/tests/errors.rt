@@ -1,4 +1,4 @@
-//! Tests the number of each error variant.
+//! Tests the number that represents each error variant.
 use crate::tests::rows::{expect, expect_at};
 use line_accounts::SettleError;
 use link_core::NotEnabled;
