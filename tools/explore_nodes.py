@@ -4,9 +4,9 @@ model of the processor's memory (tools/explorer).
 
     tools/explore_nodes.py [MOST] [--scene BEGINNING ..] [--fault WORDS | --no-faults] [--jobs 2] | --anchors
 
-The program makes all runs of the library as it is that have at most MOST (2) turns of the schedule. Of each library with a planted fault it makes as many runs
-as it needs to find the fault. With --anchors nothing is run: the program names each change whose text it does not find, and the place where the text is now.
-The program needs GCC.
+The program makes all runs of the library as it is that have at most MOST (2) turns of the schedule. For a library with a planted fault, it makes runs with at
+most as many turns as this fault needs: one, two or three. With --anchors nothing is run: the program names each change whose text it does not find, and the
+place where the text is now. The program needs GCC.
 
 A turn of the schedule is one of these: another thread runs although the current thread could continue; a timeout expires; a plain store stays in its thread's
 store buffer, where the other threads do not see it, or leaves the buffer before it must. Stores become visible as on x86-64: in their order, and at the latest

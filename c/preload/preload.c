@@ -21,7 +21,7 @@
  * - A wait until a time on CLOCK_REALTIME does not notice if the clock is set during the wait.
  * - A wait on a condition may wake spuriously when a thread is cancelled.
  * - A signal handler must not use a mutex, which POSIX forbids anyway. Here, a handler that interrupts the first use of
- *   a mutex and locks the same mutex waits for ever.
+ *   a mutex and tries to lock the same mutex waits for ever.
  * - Code that does not call the C library's mutexes by their names is not affected: C11's mtx_t, Rust's
  *   std::sync::Mutex, and libraries that are opened with RTLD_DEEPBIND. Such a library must not share a mutex with
  *   other code.
