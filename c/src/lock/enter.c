@@ -1,16 +1,16 @@
 /* Enters a lock: this file contains everything from the call until the thread holds the lock (lock.h). This file is
  * tested and model-checked, but not proved.
  *
- * To enter a strict lock, a thread draws a ticket, which fixes its place in the order. It waits until its turn has
- * come, and then checks that the lock is open. To enter a barging lock, a thread takes the lock word if the word is
+ * To enter a strict lock, a thread draws a ticket, which fixes its place in the order. The thread waits until its turn
+ * has come, and then checks that the lock is open. To enter a barging lock, a thread takes the lock word if the word is
  * free and not reserved for the queue head, or becomes so while the thread spins. Otherwise the thread draws a ticket,
  * waits until its turn has come, takes the lock word as the queue head, and releases its turn in the queue.
  *
- * A waiting thread polls and spins as spin.h decides. Then it announces its sleep with a proved call, which returns the
- * value that the word now has. The thread sleeps while the word has this value, retracts its announcement when it
- * wakes, and polls again. The atomic step that grants a ticket also returns the number of announced sleepers to the
- * granting thread. That thread wakes the sleepers by the address of the word, unless no thread waits for the ticket. No
- * other handshake is needed.
+ * A waiting thread polls and spins as spin.h decides. Then the thread announces its sleep with a proved call, which
+ * returns the value that the word now has. The thread sleeps while the word has this value, retracts its announcement
+ * when it wakes, and polls again. The atomic step that grants a ticket also returns the number of announced sleepers to
+ * the granting thread. The granting thread wakes the sleepers by the address of the word on which they sleep, unless no
+ * thread waits for the ticket. No other handshake is needed.
  *
  * A call that times out withdraws its request, or abandons its ticket if the turn is too far away for a withdrawal. A
  * call that may not wait draws a ticket only if it could withdraw the request. While too many requests are open, a call
