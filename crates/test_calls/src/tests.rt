@@ -1,6 +1,6 @@
 //! Tests each call of each kind of line. The expected answers are written once, for any line. A test names a kind by
-//! its queue algorithm, because then the prover checks only once that a line of any queue algorithm is a line; it would
-//! repeat this check for each named line.
+//! its queue algorithm. Then the prover proves only once, for all queue algorithms, that such a line implements the
+//! trait of lines; it would prove this again for each line type that a test names.
 
 mod asleep;
 mod did;
