@@ -231,7 +231,8 @@
  * than 60 requests are before this ticket, the thread allocates memory in order to give the ticket up. If the
  * allocation fails, the thread waits until fewer requests are before its ticket. While a lock has more than about
  * 12,280 open requests, a call with a timeout draws no ticket, so the thread may be overtaken. In a barging lock, a
- * call draws no ticket either if its timeout expires during the 10 us for which it polls before it queues.
+ * call polls for 10 us before it joins the queue. If its timeout expires during that time, it has kept no place in the
+ * queue.
  *
  * FORK
  *
@@ -964,7 +965,8 @@ enum qolb_result qolb_lock_leave(qolb_lock *lock);
  *
  * All threads and tasks that wait for the lock, all threads that wait on a condition with this lock, and all later
  * callers are told that the lock is shut. Later callers are told at once. Each waiter is told only after the waiter
- * before it has polled; until the last one has polled, qolb_lock_is_held returns 1.
+ * before it has polled. Until the last one has polled, qolb_lock_is_held may return 1, although no thread will hold the
+ * lock any more.
  *
  * Returns:
  * - QOLB_DONE: The lock is shut, and the calling thread has left it.

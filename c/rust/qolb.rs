@@ -1350,7 +1350,7 @@ impl Node {
     ///
     /// # Safety
     ///
-    /// The caller must not close the descriptor before `notify_off` has returned or the node is freed.
+    /// The caller must keep the descriptor open until `notify_off` has returned, or until the node has been freed.
     #[must_use]
     pub unsafe fn notify_fd(&mut self, fd: BorrowedFd<'_>) -> Answer {
         told(unsafe { qolb_notify_fd(self.0.get_mut(), fd.as_raw_fd()) })

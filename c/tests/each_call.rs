@@ -88,7 +88,7 @@ fn of_guard(told: Result<Option<Guard<'_>>, Stopped>) -> String {
     }
 }
 
-/// Polls a future once, drops it, and returns as text what it was ready with.
+/// Polls a future once and drops it. Returns its outcome as text.
 fn polled<T>(future: impl Future<Output = Result<T, Stopped>>) -> String {
     match pin!(future).poll(&mut Context::from_waker(Waker::noop())) {
         Poll::Ready(Ok(_)) => "Ready".to_string(),
