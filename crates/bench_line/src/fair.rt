@@ -1,4 +1,4 @@
-//! Rounds of a fair lock around a line: a thread enters, adds 1, and leaves.
+//! Measures a fair lock that protects 64 bytes: each thread repeatedly enters the lock, adds 1, and leaves.
 use crate::mutex::add_one;
 use crate::run::RunError;
 use fair_lock::FairLock;

@@ -1,4 +1,4 @@
-//! The data invariant of the benchmark's lines.
+//! The data invariant of the benchmark's lines: the first lane never decreases.
 ghost use Rattle.bench_line.specs.NonDecreasing.{Rises, rises_by_nothing};
 
 use qolb_model::Keep;

@@ -1,4 +1,4 @@
-//! Times the calls of a line, or puts the line under stress.
+//! The benchmark program: it measures how long the calls on a line take, or puts a line under stress.
 #![tactic(auto)]
 
 ghost use Rattle.std.specs.Prelude.{All, IsTrue};

@@ -1,4 +1,4 @@
-//! Rounds of the toolchain's mutex around a line: a thread locks, adds 1, and unlocks.
+//! Measures the toolchain's mutex with 64 bytes in it: each thread repeatedly locks the mutex, adds 1, and unlocks it.
 use crate::run::RunError;
 use line_blocking::scoped::{ScopedTask, run_scoped};
 use line_lanes::{Line64, lane, set_lane};

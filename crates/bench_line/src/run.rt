@@ -1,4 +1,5 @@
-//! A run opens a line, runs a task with all its nodes, merges the views of the ports, and finishes the line.
+//! Runs one measurement: it opens a line, runs a task with all nodes of the line, merges the views of the ports, and
+//! finishes the line.
 ghost use Rattle.std.specs.Prelude.{All, IfOk, IsTrue};
 ghost use Rattle.qolb_model.specs.PortStates.{may_ask};
 

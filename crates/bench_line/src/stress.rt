@@ -1,4 +1,4 @@
-//! Nodes request, poll, withdraw, write and release at random, until one of them closes the line.
+//! Stresses a line: its nodes request, poll, withdraw, write and release at random, until one of them closes the line.
 ghost use Rattle.std.specs.Prelude.{◌≡◌, ◌≢◌, IsTrue};
 ghost use Rattle.std.specs.Int.{abs_diff};
 ghost use Rattle.qolb_model.specs.PortStates.{may_ask};

@@ -1,4 +1,4 @@
-//! A task for the nodes of a line, each of which runs it in a thread of its own.
+//! A task that every node of a line executes, each in a thread of its own.
 ghost use Rattle.std.specs.Prelude.{IsTrue};
 ghost use Rattle.qolb_model.specs.PortStates.{may_ask};
 

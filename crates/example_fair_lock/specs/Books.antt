@@ -1,4 +1,4 @@
--- The invariant of the book, and what its steps tell.
+-- The invariant of a book, and what each of its steps reveals.
 use Rattle.std.specs.Prelude.{ℕ, ◌≡◌, ◌==◌, true, List, [], ◌∷◌, ◌++◌, length, MatchBool}
 use Rattle.logbook.specs.Pages.{Cell, Step, View, Book, Named}
 use Rattle.example_fair_lock.specs.declared.turn.Turn.{Turn}

@@ -1,5 +1,5 @@
-//! One history of all turns, which only grows. It exists in proofs alone; threads share only one word, which has its
-//! length.
+//! A book records the history of all critical sections, which only grows. The history exists only in proofs; at run
+//! time, the threads share one word, which contains the length of the history.
 ghost use Rattle.std.specs.Prelude.{◌≡◌, ◌+◌, ◌==◌, ◌<◌, ◌≤◌, ◌^◌, ◌++◌, ◌∷◌, ◌⊎◌, [], length, MatchBool};
 ghost use mathlib.Core.List.{IsPrefix};
 ghost use Rattle.example_fair_lock.specs.Turns.{IsChain, IsLonger, last_left};

@@ -1,7 +1,9 @@
-//! A count of acquisitions, whose total over all threads is proved.
+//! A count of acquisitions, for which it is proved that the threads together acquire the lock exactly as often as
+//! intended.
 //!
-//! Each thread has one ticket for each time that it enters. The value under the lock has the book of all tickets that
-//! are left. Therefore the count and the remaining tickets together give the number of acquisitions.
+//! Each thread has one proof token, called a ticket, for each time that it will enter. Next to the count, the value
+//! under the lock contains the book of all unused tickets. Therefore the count and the number of unused tickets always
+//! add up to the intended number of acquisitions.
 ghost use Rattle.std.specs.Prelude.{◌≡◌, ℕ, ◌+◌, ◌*◌, ◌^◌, ◌<◌, ◌≤◌, IfSome};
 
 use fair_lock::FairLock;

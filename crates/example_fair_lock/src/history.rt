@@ -1,5 +1,5 @@
-//! A number, and the history of all turns at it. Each turn, which is one critical section, begins with the number that
-//! the last turn left, whichever thread had it.
+//! A number under a lock, together with the history of all critical sections that changed it. Each critical section
+//! begins with the number that the previous one left, whichever thread executed it.
 ghost use Rattle.std.specs.Prelude.{◌≡◌, [], ◌∷◌, ◌++◌, length, Some, IfSome, IfNone, slice_get};
 ghost use Rattle.example_fair_lock.specs.Turns.{BeginsWithTheLast, HasAdded, last_left};
 

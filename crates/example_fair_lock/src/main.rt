@@ -1,5 +1,5 @@
-//! Threads come and go, and share a value under a fair lock. The examples are a count whose total is proved, a pair
-//! whose sum is proved, and a number with its proved history.
+//! Example programs in which threads start, end, and share a value under a fair lock. The examples are a count whose
+//! total is proved, a pair whose sum is proved, and a number with a proved history.
 #![tactic(auto)]
 
 mod book;

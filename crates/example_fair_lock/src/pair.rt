@@ -1,5 +1,5 @@
-//! Two purses under one lock. A thread that is served always sees the same number of coins, however other threads moved
-//! them.
+//! Two purses under one lock. Every holder sees the same total number of coins, however other threads have moved coins
+//! between the purses.
 ghost use Rattle.std.specs.Prelude.{◌≡◌, ◌+◌, ◌<◌, ◌≤◌, IfSome};
 
 use fair_lock::FairLock;

@@ -1,4 +1,4 @@
-//! A turn at the lock, as a history records it.
+//! The record of one critical section (a turn) in the history.
 
 /// What a turn found, and what it left.
 #[derive(Clone, Copy)]

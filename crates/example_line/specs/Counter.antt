@@ -1,4 +1,5 @@
--- What counting does to the first lane of a line. The definitions are this project's own.
+-- How counting changes the first lane of a line. The definitions in this file were made for this project; none is taken
+-- from the literature.
 use Rattle.std.specs.Prelude.{◌≡◌, ◌⊎◌, ℕ, ◌+◌, ◌-◌, ◌%◌, ◌^◌, ◌≤◌, List}
 use Rattle.line_lanes.specs.Lane.{lane_of}
 use Rattle.qolb_model.specs.declared.view.View.{View}

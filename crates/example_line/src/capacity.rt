@@ -1,4 +1,5 @@
-//! A data invariant of the client's own: clerks sell seats in several threads, and no schedule sells more than `SEATS`.
+//! An example of a program with a data invariant of its own: clerks in several threads sell seats, and no schedule of
+//! the threads sells more than `SEATS` seats.
 ghost use Rattle.std.specs.Prelude.{◌≡◌, ◌*◌, ◌≤◌, IfSome, IsTrue, drop, min};
 ghost use Rattle.line_lanes.specs.Lane.{lane_of};
 ghost use Rattle.qolb_model.specs.PortStates.{may_ask};

@@ -1,4 +1,4 @@
-//! Threads share one number. Each thread acquires the line, adds 1 to its first lane, and releases the line.
+//! A counter that threads share: each thread acquires the line, adds 1 to its first lane, and releases the line.
 ghost use Rattle.std.specs.Prelude.{◌≡◌, ◌⊎◌, ◌+◌, ◌*◌, ◌%◌, ◌^◌, IfSome, IsTrue, drop};
 ghost use Rattle.line_lanes.specs.Lane.{lane_of};
 ghost use Rattle.qolb_model.specs.PortStates.{may_ask};

@@ -1,5 +1,5 @@
-//! Fairness for a client: a bound on a wait, counted in turns of other nodes. It follows from what the interface
-//! promises of any line.
+//! A proof of fairness in a program that uses lines: while a node waits, the number of other nodes' turns is bounded.
+//! The bound follows from the contracts that every kind of line satisfies.
 ghost use Rattle.std.specs.Prelude.{◌≡◌, ◌+◌, ◌≤◌, length, IsTrue};
 ghost use Rattle.qolb_model.specs.PortStates.{may_ask};
 ghost use Rattle.qolb_model.specs.Enqueueing.{Asks};

@@ -1,5 +1,5 @@
-//! Small programs over any line, to copy: a shared counter, a mailbox, an addition with a timeout, and a data invariant
-//! of the client's own.
+//! Small example programs that work on any kind of line and can be copied: a shared counter, a mailbox, an addition
+//! with a timeout, and a program with a data invariant of its own.
 #![tactic(auto)]
 
 pub mod capacity;

@@ -1,5 +1,5 @@
-//! A line as a mailbox for one value. Node 1 puts values into it, and node 2 takes them out. Neither waits for ever:
-//! after `PATIENCE` polls a node withdraws its request.
+//! A line that serves as a mailbox for one value. Node 1 puts values into the mailbox, and node 2 takes them out.
+//! Neither node waits for ever: after `PATIENCE` polls, a node withdraws its request.
 ghost use Rattle.std.specs.Prelude.{◌≡◌, ◌≢◌, ◌⊎◌, ◌+◌, ◌%◌, ◌^◌, ◌≤◌, map, IsTrue, IfSome, IfNone, false};
 ghost use Rattle.std.specs.List.{sum_by};
 ghost use Rattle.qolb_model.specs.PortStates.{may_ask};

@@ -1,5 +1,5 @@
-//! Threads count together over a line. Each thread acquires the line, adds 1 to its first lane, and releases it to the
-//! next.
+//! A small complete program in which threads count together on a line. Each thread acquires the line, adds 1 to its
+//! first lane, and releases the line to the next node.
 #![tactic(auto)]
 
 ghost use Rattle.std.specs.Prelude.{IsTrue};

@@ -1,4 +1,4 @@
-//! Runs the example scripts, and compares their output with the stored answers.
+//! Runs the example scripts and compares their output with the stored answers.
 #![tactic(auto)]
 
 mod compare;

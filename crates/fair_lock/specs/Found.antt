@@ -1,4 +1,4 @@
--- What the last steps of a seat found, if the lock was not free.
+-- What a thread's last steps found if the lock was not free.
 use Rattle.std.specs.Prelude.{◌≡◌, ◌≢◌, ℕ, ◌<◌, ◌≤◌, ◌⊎◌}
 use Rattle.atomic_table.specs.declared.shared.Seat.{Seat}
 use Rattle.lock_core.specs.declared.view.View.{View}

@@ -1,4 +1,4 @@
--- Spans of time, measured by readings of the clock.
+-- Spans of time, measured between readings of the clock.
 use Rattle.std.specs.Prelude.{ℕ, ◌-◌, Option, Some, None}
 use Rattle.std.specs.declared.time.Duration.{Duration}
 use Rattle.std.specs.declared.time.Instant.{Instant}

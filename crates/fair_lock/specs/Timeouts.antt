@@ -1,4 +1,4 @@
--- Which spans of time are over, and which are not.
+-- Defines when a span of time has passed, and when it has not.
 use Rattle.std.specs.Prelude.{◌≡◌}
 use Rattle.fair_lock.specs.declared.span.Span.{Span}
 use Rattle.fair_lock.specs.declared.span.Over.{Over}

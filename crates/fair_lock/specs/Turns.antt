@@ -1,4 +1,4 @@
--- A critical section at a lock, in the words that contracts use.
+-- Describes a critical section of a lock in the terms that contracts use.
 use Rattle.std.specs.Prelude.{◌≡◌, ◌≢◌, ℕ, ◌+◌, ◌-◌, ◌*◌, ◌%◌, ◌≤◌, ◌⊎◌, []}
 use Rattle.std.specs.Borrow.{Lends, MutBor, Fml}
 use mir.Syntax.{named}

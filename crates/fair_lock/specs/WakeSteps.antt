@@ -1,4 +1,4 @@
--- What a step on a wake word tells the thread that takes it.
+-- What a step on a wake word reveals to the thread that takes it.
 use Rattle.std.specs.Prelude.{◌≡◌, ℕ, ◌+◌, ◌%◌}
 use Rattle.atomic_table.specs.Table.{Step, Me}
 use Rattle.fair_lock.specs.declared.wake.Look.{Look}

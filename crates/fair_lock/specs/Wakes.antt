@@ -1,4 +1,4 @@
--- What an announcement of a sleep, a release and a wake-up promise.
+-- What the announcement of a sleep, a release and a wake-up each guarantee.
 use Rattle.std.specs.Prelude.{◌≡◌, ℕ, ◌+◌, ◌%◌, ◌<◌, true, false}
 use Rattle.atomic_table.specs.declared.shared.Seat.{Seat}
 use Rattle.lock_core.specs.declared.view.View.{View}

@@ -1,4 +1,4 @@
-//! A thread draws a ticket and waits for its turn.
+//! Draws a ticket for a thread and waits until the ticket's turn comes.
 ghost use Rattle.std.specs.Prelude.{◌≡◌, ◌≤◌, false};
 ghost use Rattle.fair_lock.specs.Closing.{IsOut};
 ghost use Rattle.fair_lock.specs.Found.{ShowsNoEntry};

@@ -1,4 +1,4 @@
-//! A thread enters the lock, with or without waiting.
+//! Enters the lock without a timeout: `enter` waits, and `try_enter` does not.
 ghost use Rattle.std.specs.Prelude.{◌≡◌, ◌≤◌, true, false, IfOk, IfErr};
 ghost use Rattle.fair_lock.specs.Closing.{IsOut, IsToldShut, HasNoRequest, IfTryClosed, IfTryBusy};
 ghost use Rattle.lock_core.specs.Views.{InTime, IsSeatOf, IsAtTurn, IsOvertakenInBounds, IsHeadInside, ServedOpen, KnowsShut};

@@ -1,4 +1,4 @@
-//! A thread enters the lock with a timeout.
+//! Enters the lock with a timeout.
 ghost use Rattle.std.specs.Prelude.{◌≡◌, true, false, IfOk, IfErr};
 ghost use Rattle.fair_lock.specs.Closing.{IsOut, IsToldShut, IsTimedOutAt, IfEnterClosed, IfEnterTimedOut};
 ghost use Rattle.lock_core.specs.Views.{InTime, IsSeatOf, IsAtTurn, IsOvertakenInBounds, IsOutside};

@@ -1,5 +1,5 @@
-//! A `Found` is a token without bytes that says what a seat showed at one moment. Only the function of this file makes
-//! one.
+//! Proof tokens without bytes, each of which records what a thread's last steps on the lock found. Only the function in
+//! this file creates them, so a caller cannot claim something that it has not seen.
 ghost use Rattle.std.specs.Prelude.{◌≡◌, ◌<◌, ◌≤◌, ◌⊎◌};
 ghost use Rattle.lock_core.specs.Views.{InTime};
 ghost use Rattle.fair_lock.specs.Closing.{IsOut};

@@ -1,4 +1,4 @@
-//! The guard of a critical section: it has the right to the lock's value until it leaves.
+//! The guard of a critical section. The thread that has the guard may use the lock's value until it leaves the lock.
 ghost use Rattle.std.specs.Prelude.{◌≡◌, ◌<◌, ◌≤◌, ◌∷◌, [], IsTrue};
 ghost use Rattle.std.specs.Borrow.{sem, Lends};
 ghost use Rattle.lock_core.specs.Views.{view_of, InTime, IsSeatOf, KnowsShut, SameKnown};

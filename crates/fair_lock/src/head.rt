@@ -1,4 +1,4 @@
-//! The queue head of a barging lock waits until it holds the lock word.
+//! Waiting at the head of the queue: the first waiter of a barging lock waits here until it holds the lock word.
 ghost use Rattle.std.specs.Prelude.{◌≡◌, ◌≤◌, true, false, IfOk, IfErr};
 ghost use Rattle.fair_lock.specs.Closing.{IsOut};
 ghost use Rattle.fair_lock.specs.Found.{NotedOrNotHeld};

@@ -1,7 +1,8 @@
-//! A fair lock: it guards a value for threads that come and go, and is strict or lets threads barge.
+//! A fair lock: it protects a value for any number of threads, which may start and end at any time. The lock is strict,
+//! or it lets threads barge, which means that a thread may overtake the queue.
 //!
-//! The crate adds waiting and waking to the core of `lock_core`, and keeps the value in the slot of the core's table. A
-//! thread calls `enter`, `try_enter` or `enter_within`, and gets a guard that lends it the value.
+//! The crate adds waiting and waking to the lock core of `lock_core`, and stores the value in the slot of the core's
+//! table. A thread calls `enter`, `try_enter` or `enter_within`, and gets a guard through which it uses the value.
 #![tactic(auto)]
 
 mod drawing;

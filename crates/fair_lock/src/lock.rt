@@ -1,4 +1,4 @@
-//! The lock and its value: how a program makes a lock, and takes it apart.
+//! The type of a fair lock, with the calls that create a lock around a value and take the lock apart again.
 ghost use Rattle.std.specs.Prelude.{◌≡◌, ◌≤◌, IfOk, IfErr};
 ghost use Rattle.lock_core.specs.Layout.{IsValueTable};
 ghost use Rattle.lock_core.specs.Answers.{barging_limit_of, HasValidLimit, IsOpenErrorOf};

@@ -1,4 +1,4 @@
-//! The outcomes of a critical section: why a thread was not served, and what it has after it left.
+//! The outcomes of the lock's calls: why a thread did not get the lock, and what a thread knows after it has left.
 ghost use Rattle.std.specs.Prelude.{◌≡◌};
 
 use crate::found::FoundTaken;

@@ -1,4 +1,4 @@
-//! A span of time, measured by readings of the clock.
+//! A span of time, measured between two readings of the clock.
 ghost use Rattle.std.specs.Prelude.{◌≡◌, ◌<◌, IfOk, IfErr};
 ghost use Rattle.std.specs.Duration.{as_nanos};
 ghost use Rattle.fair_lock.specs.Spans.{nanos_left};

@@ -1,4 +1,4 @@
-//! A thread with a ticket waits for its turn: it polls first, and then sleeps.
+//! Waits until a ticket's turn comes: the thread polls first, and then sleeps.
 ghost use Rattle.std.specs.Prelude.{◌≡◌, true, false, IfOk, IfErr};
 ghost use Rattle.fair_lock.specs.Closing.{IsOut};
 ghost use Rattle.fair_lock.specs.Found.{FoundWaiting};

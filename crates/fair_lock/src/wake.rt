@@ -1,11 +1,13 @@
-//! The words at which waiters sleep, and how a releasing thread wakes them. This file does not decide who has a turn.
+//! The words on which waiters sleep, and how a releasing thread wakes them. This file never decides which thread is
+//! next.
 //!
 //! The kernel compares the low half of a word before it puts a thread to sleep, but a grant changes the high half of a
-//! cell. Waiters therefore sleep at words of their own: 32 words by ticket number, and one for the queue head. A waiter
-//! reads its word, announces its sleep by the proved call, and sleeps while the word is what it read. A thread that is
-//! told of sleepers adds one to the word of the ticket that it granted, and then wakes all threads that sleep there. So
-//! no wake-up is lost between the announcement and the sleep, and 32 waiters in a row have a word each. A thread that
-//! slept also wakes the waiter behind the ticket that it grants.
+//! cell. Therefore waiters sleep on separate words: 32 words, of which the ticket's number selects one, and one further
+//! word for the queue head. A waiter reads its word, announces its sleep with the proved call, and sleeps while the
+//! word has the value that it read. If a release reports sleepers, the releasing thread increments the word of the
+//! granted ticket, and then wakes all threads that sleep on it. So no wake-up is lost between the announcement and the
+//! sleep, and 32 consecutive waiters sleep on different words. A thread that has slept also wakes the waiter behind the
+//! ticket that it grants.
 ghost use Rattle.std.specs.Prelude.{◌≡◌, ◌<◌, ◌≤◌, ◌%◌, IfSome, IfNone};
 ghost use Rattle.lock_core.specs.Layout.{HasLockWords, cell_at, lock_word_at, handoff_of, to_go};
 ghost use Rattle.lock_core.specs.Views.{view_of, InTime, InTimeFrom, LoadGrows, IsSeatOf, IsQueued, IsQueuedWithin, IsAsleep, IsAtTurn, IsOvertakenInBounds, SameInside, SleepsAtLockWord, SleepsInTake, Kept};

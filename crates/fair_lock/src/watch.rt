@@ -1,5 +1,5 @@
-//! How the queue head of a barging lock watches the lock word, so that threads may barge for a while before it requests
-//! a handoff.
+//! How the queue head of a barging lock watches the lock word: it lets other threads barge for a while, and then
+//! requests a handoff.
 ghost use Rattle.std.specs.Prelude.{◌≡◌, ◌≢◌, ◌+◌, ◌≤◌, Some, false};
 ghost use Rattle.lock_core.specs.Answers.{IfSeenHeld, IfSeenFree, IfSeenForHead};
 

@@ -1,4 +1,4 @@
--- Desks before a call and after it.
+-- Lemmas about desks before and after a call.
 use Rattle.std.proofs.Common.{◌≡◌, ◌≢◌, ◌+◌, ◌<◌, ◌≤◌, inl, inr, true, ℕ, zero, suc, List, [], ◌∷◌, length, get_or, ◌*◌, Some, None, slice_get, refl, sym, ap, subst, ◌∙◌, arith}
 use Rattle.std.specs.List.{sum_by}
 use Rattle.std.proofs.Math.ListN.{set}

@@ -1,4 +1,4 @@
--- Two elements of a list, one in each of its two parts.
+-- Lemmas about two elements of a list that is split into two parts, one element in each part.
 use Rattle.std.specs.Global.{Global}
 use Rattle.std.specs.Vec.{with_items}
 use Rattle.std.proofs.lemmas.List.{with_items_is, length-set}

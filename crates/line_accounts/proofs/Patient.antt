@@ -1,4 +1,4 @@
--- How often the ports of a desk polled.
+-- Lemmas about how often the ports of a desk have polled.
 use Rattle.std.proofs.Common.{◌≡◌, ◌≢◌, ◌⊎◌, ℕ, ◌+◌, ◌≤◌, List, set, slice_get, Some, sym, ap, ◌∙◌, ⊎_elim, arith}
 use mathlib.Core.Logic.{dite}
 use native.Mathlib.Decide.{ℕ_discrete}

@@ -1,4 +1,4 @@
--- Answers other than `Late`.
+-- Lemmas about answers other than `Late`.
 use Rattle.std.proofs.Common.{◌≡◌}
 use Rattle.line_accounts.specs.declared.answer.Reply.TheVariants.{Done, Short, Over, Late, NoAccount}
 

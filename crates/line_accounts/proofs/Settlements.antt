@@ -1,4 +1,4 @@
--- Lines are finished one by one, the last line first, each with the last ports of all desks.
+-- Lemmas about finishing lines one by one: the last line is finished first, with the last port of each desk.
 use Rattle.std.proofs.Common.{◌≡◌, ◌+◌, ◌*◌, ◌^◌, ◌<◌, ◌≤◌, inl, inr, ℕ, suc, List, [], ◌∷◌, ◌++◌, length, map, get_or, Some, None, slice_get, refl, sym, ap, subst, ◌∙◌, arith, zero-add, length-append}
 use Rattle.std.specs.List.{sum_by, range_with_len}
 use Rattle.std.proofs.Math.ListN.{set}

@@ -1,4 +1,4 @@
--- Lanes and totals of a line in which one lane was written.
+-- Lemmas about the lanes and the total of a line in which one lane was written.
 use Rattle.std.proofs.Common.{◌≡◌, ◌≢◌, ℕ, ◌+◌, ◌-◌, ◌<◌, ◌≤◌, ◌^◌, inl, inr, List, length, get_or, ap, sym, zero-add, ◌∙◌, subst, arith}
 use Rattle.std.specs.List.{sum, sum_by, range_with_len}
 use Rattle.std.proofs.Math.ListN.{set}

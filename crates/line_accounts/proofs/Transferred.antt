@@ -1,4 +1,4 @@
--- Transfers of a desk.
+-- Lemmas about transfers that a desk has made.
 use Rattle.std.proofs.Common.{◌≡◌, ◌≢◌, ◌⊎◌, ◌+◌, ◌*◌, ◌<◌, ◌≤◌, inl, inr, Bool, true, false, ℕ, List, Some, slice_get, refl, sym, ap, subst, ◌∙◌, arith}
 use Rattle.std.proofs.Math.ListN.{set}
 use Rattle.qolb_model.specs.declared.view.View.{View}

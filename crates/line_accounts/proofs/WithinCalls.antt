@@ -1,4 +1,4 @@
--- The atomic steps of the ports of a desk.
+-- Lemmas about the atomic steps that the ports of a desk take.
 use Rattle.std.proofs.Common.{◌≡◌, ◌≢◌, ℕ, List, set, slice_get, Some, sym, ap, ◌∙◌, subst}
 use mathlib.Core.Logic.{dite}
 use native.Mathlib.Decide.{ℕ_discrete}

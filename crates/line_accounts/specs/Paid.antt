@@ -1,5 +1,5 @@
--- What a port has paid into its line and drawn from it, by the ends of the port's own requests. The definitions are
--- this project's own.
+-- The sums that a port has paid into its line and drawn from it, computed from the ends of the port's own requests. The
+-- definitions in this file were made for this project; none is taken from the literature.
 use Rattle.std.specs.Prelude.{ℕ, ◌-◌, List}
 use Rattle.line_lanes.specs.Lane.{lanes_total}
 use Rattle.qolb_model.specs.declared.view.View.{View}

@@ -1,4 +1,4 @@
-//! The answers of a desk.
+//! The answers of the calls on a desk.
 ghost use Rattle.std.specs.Prelude.{◌≡◌, ℕ};
 
 /// The answer of a desk's call. Only `Done` changes a balance or a counter.

@@ -1,4 +1,4 @@
-//! A port of a line of accounts acquires its line with a bounded number of polls.
+//! Acquires a line of accounts for a port, with a bounded number of polls.
 ghost use Rattle.std.specs.Prelude.{◌≡◌, ◌≤◌, ◌+◌, Err, IfOk, IfErr, IsTrue};
 ghost use Rattle.qolb_model.specs.Counting.{IsWithinCalls};
 ghost use Rattle.line_accounts.specs.Desks.{IsAtRest, HasWaited};

@@ -1,4 +1,4 @@
-//! A desk: one node's ports of several lines.
+//! A desk, which groups the ports that one node has on several lines of accounts.
 ghost use Rattle.std.specs.Prelude.{◌≡◌, ◌<◌, All, List, [], ◌∷◌, ◌++◌, length, slice_get, Some, MatchOption};
 ghost use Rattle.line_accounts.specs.Desks.{AreOver, IsDeskOver, ArePatient, AreWithinCalls, HasOneWaited};
 ghost use Rattle.line_accounts.specs.Calls.{Deposits, TakesOut, Transfers};

@@ -1,4 +1,4 @@
-//! Desks over lines that were just opened.
+//! Creates desks for lines that were just opened.
 ghost use Rattle.std.specs.Prelude.{◌≡◌, ◌≤◌, ◌∷◌, ◌++◌, [], All, IfOk, IfErr, OnOk, MatchOption, length, map, vec_len};
 ghost use Rattle.line_accounts.specs.Desks.{IsDeskOver};
 ghost use Rattle.line_accounts.specs.NewDesks.{IsNewPort, IsColumn, IsUnpaid, AreDealt, AreEnough, GainEach, IsFirstShort, MayHaveNoDesks};

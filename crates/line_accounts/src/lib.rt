@@ -1,4 +1,4 @@
-//! Accounts that are striped over several lines. No money is lost, however the threads are scheduled.
+//! Accounts that are distributed over several lines. No money is lost, in whatever order the threads run.
 #![tactic(auto)]
 
 mod answer;

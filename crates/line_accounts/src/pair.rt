@@ -1,4 +1,4 @@
-//! Exclusive references to two elements of a slice.
+//! Returns exclusive references to two elements of a slice.
 ghost use Rattle.std.specs.Prelude.{◌≡◌, ◌<◌, length, slice_get, slice_set, Some};
 ghost use Rattle.std.specs.Borrow.{sem, LendsBoth, Array};
 

@@ -1,4 +1,4 @@
-//! The turns of a port at one line.
+//! What a port does while it holds a line: it reads and writes the balances, and releases the line.
 ghost use Rattle.std.specs.Prelude.{◌≡◌, ◌≢◌, ◌<◌, ◌≤◌, ◌+◌, length};
 ghost use Rattle.qolb_model.specs.Counting.{IsWithinCalls};
 ghost use Rattle.qolb_model.specs.AtTurn.{IsGranted};

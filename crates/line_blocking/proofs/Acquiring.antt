@@ -1,4 +1,4 @@
--- A thread waits for a line: it makes one request, after tries that found the port busy.
+-- Lemmas about a thread that waits for a line: it makes one request, after attempts that found the port busy.
 use Rattle.std.proofs.Common.{◌≡◌, ◌≢◌, ◌⊎◌, inl, inr, ℕ, ◌+◌, ◌<◌, ◌≤◌, true, List, length, refl, sym, ap, ◌∙◌, arith}
 use Rattle.qolb_model.specs.declared.answer.Enq.{Enq}
 use Rattle.qolb_model.specs.declared.answer.Enq.TheVariants as enq

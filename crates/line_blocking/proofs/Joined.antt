@@ -1,4 +1,4 @@
--- The threads that were joined, and what each of them promised about its place.
+-- Lemmas about the threads that have been joined, and about what each of them guaranteed for its place.
 use Rattle.std.proofs.Common.{◌≡◌, ℕ, ◌<◌, length, sym, subst, arith}
 use Rattle.std.specs.Prelude.{Vec}
 use Rattle.std.specs.Global.{Global}

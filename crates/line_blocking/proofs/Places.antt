@@ -1,5 +1,5 @@
--- A property of each element at its place: for the first element that is left, for the others, and for one more
--- element.
+-- Lemmas about a property that each element of a list has at its place: for the first element, for the rest of the
+-- list, and for a list with one more element.
 use Rattle.std.proofs.Common.{◌≡◌, ℕ, zero, suc, ◌+◌, List, [], ◌∷◌, ◌++◌, length, slice_index_or, subst, arith}
 use Rattle.line_blocking.specs.Places.{AllAt}
 

@@ -1,4 +1,5 @@
--- What holds once a wait for a line has ended. The definitions are this project's own.
+-- What holds once a thread has stopped waiting for a line. The definitions in this file were made for this project;
+-- none is taken from the literature.
 use Rattle.std.specs.Prelude.{◌≡◌, ◌≢◌, ◌⊎◌, ℕ, ◌+◌, ◌<◌, List, length}
 use Rattle.qolb_model.specs.declared.write.Write.{Write}
 use Rattle.qolb_model.specs.declared.view.View.{View}

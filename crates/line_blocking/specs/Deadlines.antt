@@ -1,4 +1,5 @@
--- Spans of time, measured by readings of the clock. The definitions are this project's own.
+-- Spans of time, measured between readings of the clock. The definitions in this file were made for this project; none
+-- is taken from the literature.
 use Rattle.std.specs.Prelude.{◌≡◌, ◌≢◌, ℕ, ◌-◌, Option, Some, None}
 use Rattle.std.specs.declared.time.Duration.{Duration}
 use Rattle.std.specs.Duration.{as_nanos}

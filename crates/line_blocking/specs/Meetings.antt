@@ -1,4 +1,5 @@
--- Ports that all meet. The definitions are this project's own.
+-- Ports all of which have met each other. The definitions in this file were made for this project; none is taken from
+-- the literature.
 use Rattle.std.specs.Prelude.{ℕ, ◌+◌, List}
 use Rattle.qolb_model.specs.Rounds.{MeetsOthers}
 use Rattle.qolb_model.specs.Whole.{ViewAndTurn}

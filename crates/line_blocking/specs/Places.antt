@@ -1,4 +1,5 @@
--- A property of each element of a list at its place. The definitions are this project's own.
+-- A property of the elements of a list that may depend on the place of the element. The definitions in this file were
+-- made for this project; none is taken from the literature.
 use Rattle.std.specs.Prelude.{ℕ, ◌<◌, List, length, slice_index_or}
 
 -- P holds of each place, counted from 0, and the element at that place

@@ -1,4 +1,4 @@
--- Ports, as the definitions of this crate see them.
+-- The two parts of a port that the definitions of this crate use: its view, and the writes of its turn.
 use Rattle.qolb_model.specs.declared.view.View.{View}
 use Rattle.qolb_model.specs.declared.write.Write.{Write}
 use Rattle.qolb_model.specs.Whole.{ViewAndTurn}

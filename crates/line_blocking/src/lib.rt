@@ -1,4 +1,5 @@
-//! Blocking calls for threads that share lines: a thread waits for a line, runs scoped threads, and lets ports meet.
+//! Blocking calls for threads that share lines: a thread can wait for a line, start scoped threads, and let ports merge
+//! their views.
 #![tactic(auto)]
 
 mod meetings;

@@ -1,4 +1,4 @@
-//! Ports merge their views, for proofs.
+//! Lets all ports of a line meet, so that proofs may use what each port knows. These calls change nothing at run time.
 ghost use Rattle.std.specs.Prelude.{◌≡◌, ◌<◌, length, map, All};
 ghost use Rattle.qolb_model.specs.Rounds.{MeetsEach, MeetsOthers};
 ghost use Rattle.line_blocking.specs.Meetings.{HaveMet};

@@ -1,4 +1,4 @@
-//! Scoped threads that share a value and own a part each.
+//! Runs scoped threads that share one value. In addition, each thread owns a value of its own.
 ghost use Rattle.std.specs.Prelude.{◌≡◌, ◌+◌, ◌^◌, ◌<◌, ◌≤◌, ℕ, IfSome, vec_len, vec_capacity};
 ghost use Rattle.std.specs.PromisedHandle.{KeepsEach};
 ghost use Rattle.std.specs.Thread.{IsSync, IsSend};

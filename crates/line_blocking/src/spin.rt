@@ -1,4 +1,4 @@
-//! A thread waits for a line until it is granted or closed, by polls with pauses between them.
+//! Waits until a line is granted or closed, by polling with pauses between the polls.
 ghost use Rattle.std.specs.Prelude.{◌≡◌, IsTrue};
 ghost use Rattle.qolb_model.specs.PortStates.{may_ask};
 ghost use Rattle.line_blocking.specs.Acquiring.{Acquires, ComesSoon, EndsWait};

@@ -1,5 +1,5 @@
-//! A thread waits for a line without a timeout, once its request is queued. A strategy decides what the waiter does
-//! between two polls.
+//! Waits without a timeout for a line whose request is already queued. A strategy decides what the waiter does between
+//! two polls.
 ghost use Rattle.std.specs.Prelude.{◌≡◌};
 ghost use Rattle.line_blocking.specs.Acquiring.{EndsWait};
 

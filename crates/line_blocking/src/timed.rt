@@ -1,4 +1,4 @@
-//! Waiters that sleep until they have a line, with and without a timeout.
+//! Calls that sleep until the node has the line, with and without a timeout.
 ghost use Rattle.std.specs.Prelude.{◌≡◌, ◌⊎◌, ◌+◌, ◌≤◌, IsTrue, Option, min};
 ghost use Rattle.std.specs.Duration.{as_nanos};
 ghost use Rattle.std.specs.declared.time.Instant.{Instant};

@@ -1,4 +1,4 @@
--- The puts are the takes, followed by the tasks that are left.
+-- Proof that the tasks that were put are the tasks that were taken, followed by the tasks that are left.
 use Rattle.std.proofs.Common.{◌≡◌, ℕ, List, [], ◌∷◌, ◌++◌, zero, suc, replicate, refl, ap, sym, ◌∙◌, append-nil, append_assoc}
 use Rattle.line_lanes.specs.Line.{zeros}
 use Rattle.qolb_model.specs.declared.end.End.{End}

@@ -1,4 +1,4 @@
--- A board as it is written, lane after lane.
+-- Lemmas about the encoding of a board, which is written lane by lane.
 use Rattle.std.proofs.Common.{◌≡◌, ◌≢◌, ℕ, zero, suc, ◌+◌, ◌-◌, ◌*◌, ◌/◌, ◌%◌, ◌^◌, ◌<◌, ◌≤◌, ◌⊎◌, inl, inr, List, length, take, drop, get_or, refl, ap, sym, ◌∙◌, arith, eq-eqb, ne_eqb, if◌then◌else◌}
 use Rattle.std.specs.Prelude.{slice_index, slice_range}
 use Rattle.std.specs.List.{All}

@@ -1,4 +1,4 @@
--- The answer if a step of a call gave nothing.
+-- Lemmas about the answer of a call in which one step failed.
 use Rattle.std.proofs.Common.{◌≡◌, ℕ, List, [], ◌∷◌, Option, Some, None, slice_get, refl, sym, ◌∙◌}
 use Rattle.std.specs.Prelude.{MatchOption, OnErr}
 use Rattle.std.specs.Result.{result_ok}

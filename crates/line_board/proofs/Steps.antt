@@ -1,4 +1,4 @@
--- What one turn puts and takes.
+-- Lemmas about what one turn puts and takes.
 use Rattle.std.proofs.Common.{◌≡◌, inl, inr, ℕ, suc, ◌-◌, List, [], ◌∷◌, ◌++◌, length, take, drop, refl, ap, arith, append-nil, length-append}
 use Rattle.std.proofs.Math.Nat.{sub_self}
 use Rattle.std.proofs.Math.Seq.{drop-length, drop-append_seam}

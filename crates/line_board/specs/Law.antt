@@ -1,4 +1,5 @@
--- The data invariant of a board: the changes that a turn may make. The definitions are this project's own.
+-- The data invariant of a board, which states how a turn may change the board. The definitions in this file were made
+-- for this project; none is taken from the literature.
 use Rattle.std.specs.Prelude.{◌≡◌, ◌⊎◌, ℕ, List, [], ◌∷◌, ◌++◌, refl}
 use Rattle.std.proofs.Common.{inl}
 use Rattle.line_board.specs.Board.{Stand, IsBoard}

@@ -1,4 +1,5 @@
--- What holds of every board that was opened empty. The theorems are this project's own.
+-- Statements that hold for every board that was opened empty. The theorems in this file were stated for this project;
+-- none is taken from the literature.
 use Rattle.std.specs.Prelude.{◌≡◌, ℕ, List}
 use Rattle.line_lanes.specs.Line.{zeros}
 use Rattle.qolb_model.specs.declared.config.LineConfig.{LineConfig}

@@ -1,4 +1,4 @@
-//! The answers of a board's calls.
+//! The answers of the calls on a board.
 
 /// The answer of `put`.
 #[derive(Clone, Copy, Debug, PartialEq, Eq)]

@@ -1,4 +1,4 @@
-//! Boards, as the bytes of a line.
+//! Converts the tasks of a board to the bytes of a line, and back.
 ghost use Rattle.std.specs.Prelude.{◌≡◌, ◌<◌, ℕ, List, length, MatchOption};
 ghost use Rattle.std.specs.List.{All};
 ghost use Rattle.line_board.specs.Board.{are_zeros, tasks_of, Stand};

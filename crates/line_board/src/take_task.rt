@@ -1,4 +1,4 @@
-//! A worker takes a task from a board.
+//! Takes a task from a board.
 ghost use Rattle.std.specs.Prelude.{◌≡◌, ◌≤◌, ◌+◌, ◌∷◌, [], ℕ, List, IsTrue, MatchOption};
 ghost use Rattle.qolb_model.specs.PortStates.{may_ask};
 ghost use Rattle.qolb_model.specs.Counting.{IsWithinCalls};

@@ -1,4 +1,5 @@
-//! The turn of a port that holds a board. The port changes the board or leaves it as it is, and releases the line.
+//! The end of a turn in which a port holds a board: the port writes the new board or leaves the board unchanged, and
+//! releases the line.
 ghost use Rattle.std.specs.Prelude.{◌≡◌, ℕ, List, length, false, IsTrue};
 ghost use Rattle.qolb_model.specs.PortStates.{may_ask};
 ghost use Rattle.qolb_model.specs.Kept.{MayRelease};

@@ -1,4 +1,4 @@
--- Requests are put on the clear list.
+-- Lemmas about requests that are added to the clear list.
 use Rattle.std.proofs.Common.{◌≡◌, ◌≢◌, ℕ, ◌<◌, List, [], ◌∷◌, ◌++◌, length, true, false, sym, refl}
 use Rattle.qolb_model.specs.declared.request.Request.{Request}
 use Rattle.qolb_model.specs.Requests.{Has, Lacks}

@@ -1,5 +1,6 @@
--- A release grants the next cell, which ends the request at its turn. If the next request is not withdrawn, the line is
--- at home. Otherwise the node still has the line, and passes that request.
+-- Proof about the step with which a release grants the next cell, which ends the request at its turn. If the next
+-- request is not withdrawn, the line is then at home. Otherwise the releasing node still has the line, and skips that
+-- request.
 use Rattle.std.proofs.Common.{◌≡◌, ◌≢◌, ◌⊎◌, ℕ, ◌+◌, ◌<◌, ◌≤◌, List, [], ◌∷◌, ◌++◌, length, set, slice_index, Bool, true, false, Option, None, Some, ◌||◌, sym, refl, ap, ◌∙◌, subst, inl, inr, ⊎_elim, arith, length-append, mod-lt}
 use mathlib.Core.Logic.{dite}
 use mathlib.Core.List.{IsPrefix}

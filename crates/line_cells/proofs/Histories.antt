@@ -1,4 +1,4 @@
--- By the invariant of the nodes, the views of their ports are true of one history.
+-- Proof that, by the invariant of the nodes, the views of their ports agree with one history.
 use Rattle.std.proofs.Common.{◌≡◌, ◌⊎◌, ℕ, ◌<◌, ◌≤◌, inl, inr, Bool, false, List, [], ◌∷◌, length, true, sym, refl, ap, ◌∙◌, subst, Some, arith}
 use mathlib.Core.List.{IsPrefix}
 use Rattle.qolb_model.specs.declared.request.Request.{Request}

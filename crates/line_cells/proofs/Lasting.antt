@@ -1,4 +1,4 @@
--- The final table, in which one seat has all entries and no request is open.
+-- Lemmas about the final table, in which one seat has all entries, and no request is open.
 use Rattle.std.proofs.Common.{◌≡◌, ◌⊎◌, inl, inr, ⊎_elim, ℕ, ◌<◌, ◌≤◌, List, length, slice_index, map, true, sym, refl, ap, ◌∙◌, subst, arith}
 use mathlib.Core.Logic.{dite}
 use mathlib.Core.Option.{some}

@@ -1,4 +1,5 @@
--- A waiting node loads its cell, and finds its request at its turn or still waiting.
+-- Proof about the step with which a waiting node loads its cell, and finds that its request's turn has come or has not
+-- come yet.
 use Rattle.std.proofs.Common.{◌≡◌, ◌≢◌, ℕ, ◌%◌, ◌^◌, Bool, true, false, Option, List, [], ◌∷◌, length, set, slice_index, sym, refl, ap, ◌∙◌, subst, arith}
 use mathlib.Core.Logic.{dite}
 use mathlib.Core.Option.{none, some}

@@ -1,4 +1,4 @@
--- What two entries in one seat say about each other.
+-- Lemmas about how two entries in one seat are related.
 use Rattle.std.proofs.Common.{◌≡◌, ◌≢◌, ℕ, inl, inr, Option, List, [], ◌∷◌, length, set, slice_index, sym, refl, ap, ◌∙◌, subst, ⊎_elim, arith}
 use mathlib.Core.List.{IsPrefix}
 use mathlib.Core.Option.{none, some}

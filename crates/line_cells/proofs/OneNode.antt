@@ -1,4 +1,4 @@
--- The part of the invariant that is about one node.
+-- Lemmas about the part of the invariant that concerns a single node.
 use Rattle.std.proofs.Common.{◌≡◌, ◌≢◌, ℕ, ◌<◌, ◌≤◌, List, length, Bool, true, false, sym, refl, ap, ◌∙◌, subst, arith}
 use mathlib.Core.List.{IsPrefix}
 use Rattle.std.proofs.lemmas.Option.{slice_get_within}

@@ -1,4 +1,4 @@
--- A release passes fewer nodes than the line has, so its steps are bounded.
+-- Proof that a release skips fewer nodes than the line has, so that its number of steps is bounded.
 use Rattle.std.proofs.Common.{◌≡◌, ℕ, zero, suc, ◌+◌, ◌<◌, ◌≤◌, List, [], ◌∷◌, length, true, sym, refl, ap, ◌∙◌, subst, arith}
 use mathlib.Core.Option.{some}
 use lib.ListN.{get_elem?}

@@ -1,4 +1,4 @@
--- What each phase of a node promises.
+-- Lemmas about what each phase of a node guarantees.
 use Rattle.std.proofs.Common.{ℕ, ◌≡◌, ◌∙◌, length, refl, sym, ap}
 use Rattle.qolb_model.specs.declared.answer.PortState.{PortState}
 use Rattle.qolb_model.specs.declared.answer.PortState.TheVariants as port_state

@@ -1,4 +1,4 @@
--- A whole release, from its first step to its last.
+-- Lemmas about a complete release, from its first step to its last.
 use Rattle.std.proofs.Common.{◌≡◌, suc, ◌+◌, Bool, length, [], ◌∷◌, ◌++◌, sym, refl, ap, ◌∙◌, subst, Some, arith, replicate, append_assoc, length-append}
 use Rattle.qolb_model.specs.declared.end.End.TheVariants.{Gone}
 use Rattle.qolb_model.specs.Ends.{is_closed}

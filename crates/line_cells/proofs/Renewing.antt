@@ -1,4 +1,4 @@
--- A node whose withdrawn request was passed reads its own word, and clears it before the node's next request.
+-- Proof about a node whose withdrawn request was skipped: before its next request it reads its own word, and clears it.
 use Rattle.std.proofs.Common.{◌≡◌, ◌≢◌, ℕ, ◌<◌, ◌≤◌, List, [], ◌∷◌, length, set, slice_index, Bool, true, false, if◌then◌else◌, sym, refl, ap, ◌∙◌, subst, arith}
 use mathlib.Core.Option.{none, some}
 use lib.ListN.{get_elem?}

@@ -1,4 +1,4 @@
--- How seats begin, are split, and are joined.
+-- Lemmas about how seats are created, split, and joined.
 use Rattle.std.proofs.Common.{◌≡◌, ℕ, ◌-◌, ◌<◌, List, [], ◌++◌, length, replicate, refl, ◌∙◌, arith, false}
 use Rattle.atomic_table.specs.Table.{Splits, Joins, opening}
 use Rattle.qolb_model.specs.Histories.{none}

@@ -1,4 +1,4 @@
--- What a queue must show about its slots. One slot for all turns satisfies it.
+-- What a queue algorithm must prove about its slots. The case of one slot for all turns is proved here.
 use Rattle.std.proofs.Common.{◌≡◌, ℕ, zero, suc, ◌+◌, ◌<◌, List, [], ◌∷◌, length, set, slice_index, map, Bool, false, Option, replicate, refl, ap, sym, ◌∙◌, subst, arith, length-set}
 use mathlib.Core.Option.{none, some, some-ne-none}
 use mathlib.Core.Logic.{dite}

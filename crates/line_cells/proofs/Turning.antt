@@ -1,4 +1,4 @@
--- How a seat goes on, step by step.
+-- Lemmas about how a seat changes, step by step.
 use Rattle.std.proofs.Common.{◌≡◌, ℕ, ◌+◌, List, [], ◌∷◌, sym, refl, subst, arith}
 use Rattle.qolb_model.specs.Views.{Extends}
 use Rattle.qolb_model.specs.Sound.{Continues}

@@ -1,4 +1,5 @@
--- The phase of a node between its calls, by its port's state, and the number of atomic steps of each call.
+-- How the phase of a node between its calls depends on the state of its port, and how many atomic steps each call
+-- takes.
 use Rattle.std.specs.Prelude.{◌≡◌, ◌≢◌, ℕ, ◌+◌, ◌*◌, [], length, Option}
 use Rattle.qolb_model.specs.declared.answer.PortState.{PortState}
 use Rattle.qolb_model.specs.declared.answer.PortState.TheVariants as port_state

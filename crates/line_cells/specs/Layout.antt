@@ -1,4 +1,4 @@
--- The places of a table's words: the ticket counter, a word for each node, and the cells between those, each on a cache
+-- The places of a table's words: the ticket counter, a word for each node, and the cells in between, each on a cache
 -- line of its own. The places do not depend on the number of nodes.
 use Rattle.std.specs.Prelude.{◌≡◌, ◌≢◌, ℕ, ◌+◌, ◌*◌, ◌%◌, ◌^◌, ◌<◌, ◌≤◌, List, slice_index}
 use Rattle.qolb_model.specs.declared.config.TheConstants.{MAX_NODES}

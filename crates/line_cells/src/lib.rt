@@ -1,4 +1,4 @@
-//! What the two array locks share: their nodes draw tickets, and wait on the cells of an array.
+//! The common part of the two array locks, whose nodes draw tickets and wait on the cells of an array.
 //!
 //! `ring_line` and `ticket_line` use this crate.
 #![tactic(auto)]

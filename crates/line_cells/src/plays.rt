@@ -1,4 +1,4 @@
-//! The ghost updates of the atomic steps on words other than cells.
+//! The kinds of atomic steps on words other than cells, each with the change of ghost state that it makes.
 ghost use Rattle.line_cells.specs.Steps.{drawn, freed, loaded_node, reset};
 
 use crate::local::Local;

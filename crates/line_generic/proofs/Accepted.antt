@@ -1,4 +1,4 @@
--- A port that was told that the line is closed, and has forwarded it.
+-- Lemmas about a port that was notified that the line is closed, and has forwarded it.
 use Rattle.std.proofs.Common.{◌≡◌, ◌≢◌, ℕ, List, ◌∙◌}
 use Rattle.atomic_table.specs.Seated.{TableId}
 use Rattle.qolb_model.specs.declared.answer.PortState.{PortState}

@@ -1,4 +1,4 @@
--- The fields of a port after a call, and what its contract shows of them.
+-- Lemmas about the fields of a port after a call, and what the contract of the call states about them.
 use Rattle.std.proofs.Common.{◌≡◌, ◌≢◌, ℕ, length, List, Option, None, Some, refl, true, false, sym, ap, ◌∙◌, subst, Bool, ◌||◌, bit_or}
 use lib.Dec.{eqb}
 use Rattle.std.specs.Option.{option_eq}

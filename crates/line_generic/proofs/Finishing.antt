@@ -1,4 +1,4 @@
--- How the seats of the ports that were handed to `finish` are joined.
+-- Lemmas about how `finish` joins the seats of all ports.
 use Rattle.std.proofs.Common.{Option, Some, slice_get, ◌≡◌, ℕ, suc, List, [], ◌∷◌, ◌++◌, length, map, true, false, sym, ap, ◌∙◌, subst, ⊎_elim, arith, append_assoc, append-nil}
 use Rattle.std.specs.List.{All}
 use Rattle.std.proofs.lemmas.List.{map-append}

@@ -1,5 +1,5 @@
--- What the calls of a discipline require and ensure of a node, in terms of the number of nodes of the line and the
--- token of the node's port.
+-- What each call of a queue algorithm requires of a node and ensures for it. These conditions refer to the number of
+-- nodes of the line and to the token of the node's port.
 use Rattle.std.specs.Prelude.{◌≡◌, ◌≢◌, ◌⊎◌, ◌≤◌, ℕ, List, [], ◌∷◌, Bool, true, false}
 use Rattle.atomic_table.specs.Seated.{TableId}
 use Rattle.qolb_model.specs.declared.answer.PortState.{PortState}

@@ -1,4 +1,4 @@
--- What a port sees of its turn.
+-- What a port knows once its turn has come.
 use Rattle.std.specs.Prelude.{◌≡◌, ℕ, length, Option, Some}
 use Rattle.qolb_model.specs.declared.view.View.{View}
 use Rattle.qolb_model.specs.Histories.{turn_of}

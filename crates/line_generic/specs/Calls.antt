@@ -1,5 +1,5 @@
--- What each call of a discipline requires and ensures of its node's seat. There is one record for each call, over the
--- phases `q` of the discipline's nodes, or all its ghost state `d`, and over the table `t`.
+-- What each call of a queue algorithm requires of its node's seat and ensures for it. There is one record for each
+-- call. The parameters are the phases `q` of the algorithm's nodes, or all its ghost state `d`, and the table `t`.
 use Rattle.std.specs.Prelude.{◌≡◌, ◌≢◌, ℕ, ◌+◌, ◌<◌, ◌≤◌, List, length, Bool, Some, IsTrue}
 use Rattle.atomic_table.specs.declared.shared.Shared.{Shared}
 use Rattle.qolb_model.specs.declared.answer.PortState.{PortState}

@@ -1,4 +1,4 @@
--- Finishing a line: its ports are at rest, and their seats are joined into one.
+-- Finishing a line: no port has an open request, and the seats of all ports are joined into one.
 use Rattle.std.specs.Prelude.{◌≡◌, ℕ, List, ◌++◌, map, true, slice_get, Some}
 use Rattle.std.specs.List.{All}
 use Rattle.atomic_table.specs.Seated.{TableId}

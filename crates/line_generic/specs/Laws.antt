@@ -1,4 +1,5 @@
--- The theorems that a discipline must prove of its words, its invariant and its slots. Each has one name here.
+-- The theorems that each queue algorithm must prove about its words, its invariant and its slots. This file gives each
+-- theorem a name.
 use Rattle.std.specs.Prelude.{◌≡◌, ℕ, List, [], ◌∷◌, ◌++◌, replicate, length, Bool, false, Option}
 use mathlib.Core.Option.{some, none}
 use lib.ListN.{get_elem?}

@@ -1,4 +1,4 @@
--- The phases of a queue's nodes between calls, and the slots that a node has in each phase.
+-- The phases that a node can have between its calls, and the slots that the node has in each phase.
 use Rattle.std.specs.Prelude.{ℕ, Option}
 use Rattle.qolb_model.specs.declared.answer.PortState.{PortState}
 use Rattle.qolb_model.specs.declared.view.View.{View}

@@ -1,4 +1,4 @@
--- The slots of a seat, and when a line is in them.
+-- The slots of a seat, and when they contain a line.
 use Rattle.std.specs.Prelude.{◌≡◌, ℕ, List, [], ◌∷◌, Option, false}
 use Rattle.line_generic.specs.declared.table.LocalCopy.{LocalCopy}
 use Rattle.line_generic.specs.declared.table.Payload.{Payload}

@@ -1,4 +1,5 @@
-//! A node accepts a line at its request's turn, or finds that the line is closed and forwards it.
+//! Accepts a line when the request's turn has come. If the line is closed, the node forwards it to the next node
+//! instead.
 ghost use Rattle.std.specs.Prelude.{◌≡◌, ◌≢◌, ℕ, ◌+◌, ◌-◌, ◌≤◌};
 ghost use Rattle.qolb_model.specs.Calls.{IsGrantedOrTold};
 ghost use Rattle.line_generic.specs.Steps.{ghost_of, SeatAdvances};

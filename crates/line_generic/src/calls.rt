@@ -1,7 +1,7 @@
-//! The calls of `LineSync`, written once for all kinds of lines.
+//! Implements the calls of `LineSync` once for all kinds of lines.
 //!
-//! Each call steps as its discipline says. A call that releases the line then wakes waiters, as the wake policy of the
-//! line says.
+//! The queue algorithm (`Discipline`) of the line determines the atomic steps of each call. A call that releases the
+//! line then wakes waiters according to the line's wake policy.
 ghost use Rattle.std.specs.Prelude.{◌≡◌, ◌+◌, IfOk, IfErr, true, false};
 ghost use Rattle.qolb_model.specs.Calls.{MergesViews};
 ghost use Rattle.qolb_model.specs.OneOwner.{turn_after};

@@ -1,5 +1,5 @@
-//! The traits of a queue discipline: what one kind of line, with its queue algorithm, adds to the body that all kinds
-//! share.
+//! The traits that a queue algorithm implements. They contain everything in which one kind of line differs from the
+//! others; the code that all kinds share is in the other files of this crate.
 ghost use Rattle.std.specs.Prelude.{◌≡◌, ℕ, List, ◌<◌, ◌≤◌, ◌^◌, length, Bool, IfOk};
 ghost use Rattle.line_generic.specs.Laws.{HasAllowedStates, HasHolderWord, HasClosedWord, HasPollOutcome, HasFirstSplit, HasEmptySplit, HasJoin, HasSlots, HasOpening, HasMeeting, HasSlotReturn, HasFinalLine};
 ghost use mathlib.Core.Option.{some};

@@ -1,5 +1,5 @@
-//! Waiters that park outside the library. The line names the words on which they wait, and the line's caller unparks
-//! them.
+//! The wake policy for waiters that sleep outside the library. The line reports the words on which they wait, and the
+//! code that called the line wakes them.
 //!
 //! The nodes for C (`qolb_nodes`) use this policy.
 ghost use Rattle.std.specs.Prelude.{◌≡◌, Some};

@@ -1,5 +1,5 @@
-//! A queue lock over atomic words, generic over its queue algorithm (`Discipline`): the body that all kinds of lines
-//! share.
+//! A queue lock on atomic words. The crate is generic over the queue algorithm (`Discipline`) and contains the code
+//! that all kinds of lines share.
 #![tactic(auto)]
 
 mod accept;

@@ -1,4 +1,5 @@
-//! Ports meet: their seats are joined for one step, which shows what both know, and split again.
+//! Lets two ports of a line meet: their seats are joined for one step, which merges what the two ports know, and are
+//! then split again.
 ghost use Rattle.line_generic.specs.Answers.{HaveMet};
 ghost use Rattle.line_generic.specs.Steps.{IsSeatOf, HasNoSlot, IsOfOneNode};
 

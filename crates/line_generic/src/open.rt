@@ -1,4 +1,4 @@
-//! A program opens a line, and gets a port for each node.
+//! Opens a line, and returns a port for each of its nodes.
 ghost use Rattle.std.specs.Prelude.{◌≡◌, ◌<◌, ◌≤◌, [], length, vec_capacity, Some, None, IfOk, IfErr};
 ghost use Rattle.qolb_model.specs.declared.config.TheConstants.{MAX_NODES};
 ghost use Rattle.qolb_model.specs.Opening.{MayOpen, MayNotOpen};

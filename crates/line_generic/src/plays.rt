@@ -1,4 +1,5 @@
-//! Ghost moves of seats: seats are split and joined, views are merged, and slots are returned.
+//! Operations on seats that only change ghost state: seats are split and joined, views are merged, and slots are
+//! returned.
 ghost use Rattle.std.specs.Prelude.{[], ◌++◌};
 ghost use Rattle.qolb_model.specs.Entries.{front, behind};
 ghost use Rattle.line_generic.specs.Steps.{after_meet, slots_returned};

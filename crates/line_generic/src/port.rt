@@ -1,4 +1,4 @@
-//! The port of a node: the value by which its owner calls the line.
+//! The port of a node, with which the node's owner makes calls on the line.
 ghost use Rattle.std.specs.Prelude.{◌≡◌, ◌↔◌, IsTrue};
 
 use crate::discipline::DisciplineSpec;

@@ -1,4 +1,4 @@
-//! The slot of a lock that uses one slot for all turns.
+//! The slot of a line that stores its bytes in the same slot for all turns.
 //!
 //! The ring and the link line use one slot. The ticket line has one slot for each cell.
 ghost use Rattle.std.specs.Prelude.{◌≡◌, ◌≢◌, ℕ, Option, [], Some, false};

@@ -1,8 +1,8 @@
-//! The counts of a line's sleepers, which are the waiters that are parked or about to park. This file has what a waiter
-//! does before it parks, and what a release does before it returns.
+//! Counts a line's sleepers, which are the waiters that are parked or are about to park. This file contains what a
+//! waiter does before it parks, and what a release does before it returns.
 //!
-//! The two follow a Dekker handshake: a waiter counts itself and then looks at its word, and a release grants and then
-//! looks at the count.
+//! The waiter and the release follow a Dekker handshake: the waiter counts itself and then looks at its word, and the
+//! release grants the line and then looks at the count. So one of them sees the other.
 ghost use Rattle.std.specs.Prelude.{◌≡◌, ℕ, ◌<◌, ◌/◌, ◌%◌, ◌^◌};
 
 use crate::discipline::Discipline;

@@ -1,4 +1,4 @@
-//! `enqolb` in two calls, on lines whose queue is a list of links.
+//! Requests the line in two calls, on lines whose queue is a linked list.
 ghost use Rattle.line_generic.specs.PortCalls.{IsRestingPort, IsLinkingPort, HasPutRequest, HasLinkedRequest};
 
 use crate::accept::Arrival;

@@ -1,4 +1,5 @@
-//! The table of a line: its words and its slots. While no node holds the line, its bytes are in a slot.
+//! The table of a line, which consists of words and slots. While no node holds the line, the line's bytes are in a
+//! slot.
 ghost use Rattle.std.specs.Prelude.{◌≡◌, ⊤};
 
 use crate::discipline::{DisciplineInvariant, DisciplineSpec};

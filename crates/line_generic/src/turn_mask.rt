@@ -1,4 +1,5 @@
-//! The mask of a turn: the bytes that the turn has written. It is ghost state, which only proofs read.
+//! The mask of the bytes that a holder has written during its turn. The mask is ghost state, which exists only in
+//! proofs.
 ghost use Rattle.std.specs.Prelude.{◌≡◌, ℕ, bit_or};
 ghost use Rattle.std.specs.Borrow.{ftrue};
 

@@ -1,7 +1,8 @@
-//! Waiters park, and releases unpark them. No call of this file changes the table.
+//! The wake policies: waiters park, and releases unpark them. No call in this file changes the table.
 //!
-//! A line has one of three wake policies: `Parking` unparks waiters, `SpinOnly` wakes nobody, and `SleepersElsewhere`
-//! notes the words of the waiters for its caller.
+//! A line has one of three wake policies. With `Parking`, a release unparks waiters. With `SpinOnly`, it wakes no
+//! thread. With `SleepersElsewhere`, it records the words on which the waiters wait, so that the code that called the
+//! line can wake them.
 ghost use Rattle.std.specs.Prelude.{◌≡◌, ℕ, ◌<◌, false, Option, None};
 ghost use Rattle.line_generic.specs.Answers.{IsSeatOfNode};
 ghost use Rattle.line_generic.specs.Steps.{IsInState};

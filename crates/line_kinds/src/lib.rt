@@ -1,4 +1,5 @@
-//! The kinds of lines by name. Code that works on any line learns from this crate which kinds there are.
+//! The list of the kinds of lines, with their names. Code that works on any kind of line gets the kinds from this
+//! crate.
 //!
 //! The section "Another lock" of docs/CHANGING.md lists the other files that name each kind.
 #![tactic(auto)]

@@ -1,4 +1,4 @@
--- The bits of a mask, one by one.
+-- Lemmas about the individual bits of a mask.
 use Rattle.std.proofs.Common.{◌≡◌, ℕ, zero, suc, ◌+◌, ◌-◌, ◌*◌, ◌/◌, ◌%◌, ◌^◌, ◌<◌, ◌≤◌, min, max, Bool, true, false, not, ◌&&◌, ◌||◌, ◌==◌, List, map, get_or, cond, T, ◌⊎◌, inl, inr, refl, sym, ap, ◌∙◌, subst, arith, mod-lt, zero-lt-suc, le_of_suc-le-suc, not-suc-le-zero, add-zero}
 use Rattle.std.specs.Prelude.{bit_and, bit_or}
 use Rattle.std.specs.Int.{bit_at}

@@ -1,4 +1,5 @@
--- Bytes that are laid from a place on: the mask of their places, and the line that has them there.
+-- Lemmas about bytes that are placed into a line from a given place on: the mask of their places, and the line that
+-- contains them there.
 use Rattle.std.proofs.Common.{◌≡◌, ℕ, ◌+◌, ◌-◌, ◌*◌, ◌%◌, ◌^◌, ◌<◌, ◌≤◌, leb, ltb, Bool, true, false, ◌&&◌, ◌==◌, List, ◌++◌, take, drop, replicate, length, ◌⊎◌, inl, inr, refl, sym, ap, ap₂, ◌∙◌, arith, le-leb, lt-ltb, mod-lt, if◌then◌else◌}
 use Rattle.std.specs.Prelude.{slice_index}
 use Rattle.std.proofs.lemmas.Bool.{cases_order, lt-leb, le-ltb}

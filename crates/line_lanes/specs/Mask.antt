@@ -1,5 +1,5 @@
--- A mask is a number of 64 bits: bit k is set if byte k of a line is in the set. The definitions are this project's
--- own.
+-- A mask is a 64-bit number that represents a set of bytes of a line: bit k is 1 if byte k is in the set. The
+-- definitions in this file were made for this project; none is taken from the literature.
 use Rattle.std.specs.Prelude.{ℕ, ◌+◌, ◌==◌, ◌&&◌, Bool, not, map, nat_le, nat_lt, List, slice_index}
 use Rattle.std.specs.Int.{bit_at}
 use Rattle.std.specs.List.{range_with_len}

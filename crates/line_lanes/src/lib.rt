@@ -1,4 +1,5 @@
-//! Lines of 64 bytes, masks of their bytes, and the functions that work on them, two vectors of 32 bytes at a time.
+//! Lines of 64 bytes, masks of their bytes, and functions on both. The functions process a line as two vectors of 32
+//! bytes.
 #![tactic(auto)]
 
 mod compare;

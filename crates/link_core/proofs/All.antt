@@ -1,4 +1,4 @@
--- Each step keeps what the state shows.
+-- Proof that each step preserves the relation between the state and the queue that it shows.
 use Rattle.qolb_model.specs.declared.config.LineConfig.{LineConfig}
 use Rattle.std.proofs.Common.{◌≡◌, ℕ, ◌<◌, true, List, ◌∷◌, length, refl, sym, ap, subst, arith}
 use Rattle.std.specs.Prelude.{slice_index_or}

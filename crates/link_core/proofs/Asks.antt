@@ -1,4 +1,4 @@
--- What both kinds of steps that make a request have in common.
+-- Lemmas shared by the proofs of both steps that make a request.
 use Rattle.std.proofs.Common.{◌≡◌, ◌≢◌, ℕ, ◌+◌, ◌<◌, ◌≤◌, true, false, ◌||◌, List, [], length, refl, sym, ◌∙◌, ap, subst, inl, inr, arith}
 use Rattle.std.proofs.lemmas.Bool.{cases_eq, cases_Bool}
 use Rattle.line_lanes.specs.declared.line.Mask.{Mask}

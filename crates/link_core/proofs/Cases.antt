@@ -1,4 +1,4 @@
--- An event has a case exactly if the point of its node allows it.
+-- Proof that an event has a case exactly if the point of its node allows the event.
 use Rattle.std.proofs.Common.{◌≡◌, true, refl, inl, inr}
 use Rattle.link_core.specs.State.{State, point, IsNode}
 use Rattle.link_core.specs.declared.told.Told.{Told as Answer}

@@ -1,4 +1,4 @@
--- Ended requests are put on the clear list.
+-- Lemmas about ended requests that are added to the clear list.
 use Rattle.std.proofs.Common.{◌≡◌, ◌≢◌, ℕ, ◌<◌, ◌≤◌, Bool, true, false, List, [], ◌∷◌, ◌++◌, length, sym, ◌∙◌, ap, subst, inl, inr}
 use Rattle.link_core.specs.Places.{request, requester_at, IsLast}
 use Rattle.qolb_model.specs.Histories.{Clears, more}

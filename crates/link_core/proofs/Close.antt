@@ -1,4 +1,4 @@
--- A release gives up the line, and the call ends.
+-- Proof about the step with which a release gives up the line and its call ends.
 use Rattle.qolb_model.specs.declared.config.LineConfig.{LineConfig}
 use Rattle.std.proofs.Common.{◌≡◌, ◌≢◌, ℕ, true, false, ◌||◌, List, [], ◌∷◌, ◌⊎◌, Option, Some, refl, sym, ◌∙◌, ap, subst, inl}
 use Rattle.link_core.specs.declared.point.Point.{Point}

@@ -1,4 +1,5 @@
--- The cost of each event: how many productive events the nodes still have to go, before the event and after it.
+-- Lemmas about the cost of each event: how many productive events the nodes can still make, before the event and after
+-- it.
 use Rattle.qolb_model.specs.declared.config.LineConfig.{LineConfig}
 use Rattle.std.proofs.Common.{◌≡◌, ◌≢◌, ℕ, ◌+◌, ◌<◌, ◌≤◌, ◌⊎◌, Bool, true, false, List, [], ◌∷◌, Option, Some, refl, sym, ◌∙◌, ap, subst, inl, inr, arith}
 use Rattle.std.specs.Prelude.{cond}

@@ -1,4 +1,4 @@
--- The open requests are of different nodes, so there are no more of them than nodes.
+-- Proof that the open requests belong to different nodes, so that there are no more open requests than nodes.
 use Rattle.qolb_model.specs.declared.config.LineConfig.{LineConfig}
 use Rattle.std.proofs.Common.{◌≡◌, ℕ, suc, ◌+◌, ◌<◌, ◌≤◌, List, length, map, drop, sym, ◌∙◌, ap, subst, arith}
 use Rattle.std.specs.Prelude.{slice_index_or}

@@ -1,4 +1,4 @@
--- A node prepends while no request is open, and takes the line at once.
+-- Proof about a node that prepends while no request is open: it takes the line at once.
 use Rattle.qolb_model.specs.declared.config.LineConfig.{LineConfig}
 use Rattle.std.proofs.Common.{◌≡◌, ◌≢◌, ℕ, ◌+◌, ◌-◌, ◌<◌, true, false, List, length, Some, refl, sym, ◌∙◌, ap, inl, inr, arith}
 use Rattle.link_core.specs.declared.point.Point.TheVariants.{Ready}

@@ -1,4 +1,4 @@
--- What the nodes find, and what the ends of a history say.
+-- Lemmas about what nodes find in a state, and what the ends of a history say about it.
 use Rattle.qolb_model.specs.declared.config.LineConfig.{LineConfig}
 use Rattle.std.proofs.Common.{◌≡◌, ◌≢◌, ℕ, zero, suc, ◌+◌, ◌-◌, ◌<◌, ◌≤◌, ◌⊎◌, Bool, true, false, ◌||◌, List, [], ◌∷◌, length, take, Option, Some, None, slice_get, refl, sym, ◌∙◌, ap, subst, inl, inr, arith}
 use Rattle.std.proofs.lemmas.Bool.{or_right}

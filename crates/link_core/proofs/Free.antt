@@ -1,4 +1,4 @@
--- A release frees a passed node.
+-- Proof about the step with which a release frees a skipped node.
 use Rattle.qolb_model.specs.declared.config.LineConfig.{LineConfig}
 use Rattle.std.proofs.Common.{◌≡◌, ◌≢◌, ℕ, suc, ◌+◌, ◌<◌, ◌≤◌, true, false, ◌||◌, List, [], ◌∷◌, ◌⊎◌, length, None, refl, sym, ◌∙◌, ap, subst, inl, inr, arith}
 use Rattle.std.specs.Prelude.{slice_index_or}

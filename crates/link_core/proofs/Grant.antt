@@ -1,4 +1,5 @@
--- A release grants the next node: the node has the line in its mailbox, or is passed.
+-- Proof about the step with which a release grants the next node: that node then has the line in its mailbox, or is
+-- skipped.
 use Rattle.qolb_model.specs.declared.config.LineConfig.{LineConfig}
 use Rattle.std.proofs.Common.{◌≡◌, ◌≢◌, ℕ, ◌+◌, ◌<◌, true, false, List, [], ◌∷◌, ◌++◌, ◌⊎◌, length, Some, refl, sym, ◌∙◌, ap, subst, inl, inr, arith}
 use Rattle.std.specs.Prelude.{slice_index_or}

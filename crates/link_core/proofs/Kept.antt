@@ -1,4 +1,4 @@
--- What an act leaves true of the nodes that it does not touch.
+-- Lemmas about what an action does not change for the nodes that it does not affect.
 use Rattle.qolb_model.specs.declared.config.LineConfig.{LineConfig}
 use Rattle.std.proofs.Common.{◌≡◌, ◌≢◌, ℕ, ◌+◌, ◌<◌, ◌≤◌, true, false, List, [], ◌∷◌, ◌⊎◌, length, refl, sym, ◌∙◌, ap, subst, inl, inr, arith}
 use mathlib.Core.List.{IsPrefix}

@@ -1,4 +1,5 @@
--- A release gives up the line in one of three ways: the line goes home, stays in an entry that is done, or is granted.
+-- Proof about the three ways in which a release gives up the line: the line goes home, stays in an entry that is done,
+-- or is granted.
 use Rattle.qolb_model.specs.declared.config.LineConfig.{LineConfig}
 use Rattle.std.proofs.Common.{◌≡◌, ◌≢◌, ℕ, ◌+◌, ◌-◌, ◌<◌, ◌≤◌, true, List, [], ◌⊎◌, length, Some, refl, sym, ◌∙◌, ap, subst, inl, inr, arith}
 use Rattle.link_core.specs.declared.point.Point.{Point}

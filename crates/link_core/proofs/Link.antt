@@ -1,4 +1,4 @@
--- A node links to the request before its own.
+-- Proof about the step with which a node links to the request before its own.
 use Rattle.qolb_model.specs.declared.config.LineConfig.{LineConfig}
 use Rattle.line_lanes.specs.declared.line.Mask.{Mask}
 use Rattle.std.proofs.Common.{◌≡◌, ◌≢◌, ℕ, ◌+◌, ◌<◌, ◌≤◌, true, false, ◌||◌, List, [], ◌⊎◌, length, None, refl, sym, ◌∙◌, ap, subst, inl, inr, arith}

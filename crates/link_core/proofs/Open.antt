@@ -1,4 +1,4 @@
--- A line that was just opened shows the empty history, and a run of events goes on from there.
+-- Proof that a line which was just opened shows the empty history, and that a run of events starts from there.
 use Rattle.std.proofs.Common.{◌≡◌, ℕ, zero, suc, ◌+◌, ◌<◌, ◌≤◌, true, false, List, [], ◌∷◌, length, refl, sym, ◌∙◌, ap, subst, arith}
 use Rattle.std.specs.Prelude.{slice_index_or}
 use Rattle.link_core.specs.declared.point.Point.{Point}

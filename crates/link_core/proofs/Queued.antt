@@ -1,4 +1,4 @@
--- A withdrawn node that was not granted waits behind the turn, after every step.
+-- Proof that after every step a withdrawn node that was not granted the line waits behind the request at its turn.
 use Rattle.qolb_model.specs.declared.config.LineConfig.{LineConfig}
 use Rattle.std.proofs.Common.{◌≡◌, ◌≢◌, ℕ, ◌+◌, ◌<◌, Bool, true, false, List, [], ◌∷◌, ◌++◌, length, refl, sym, ◌∙◌, ap, subst, inl, inr, arith, length-append}
 use Rattle.std.proofs.lemmas.Bool.{cases_eq}

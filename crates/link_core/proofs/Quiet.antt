@@ -1,4 +1,4 @@
--- What all steps that end no turn and add no request have in common.
+-- Lemmas shared by the proofs of all steps that neither end a turn nor add a request.
 use Rattle.qolb_model.specs.declared.config.LineConfig.{LineConfig}
 use Rattle.std.proofs.Common.{◌≡◌, ◌≢◌, ℕ, ◌+◌, ◌<◌, ◌≤◌, Bool, true, false, ◌||◌, List, [], ◌⊎◌, length, refl, sym, ◌∙◌, ap, subst, inl, inr}
 use Rattle.line_lanes.specs.declared.line.Line64.{Line64}

@@ -1,4 +1,4 @@
--- The remaining events: a holder writes, a holder closes the line, and a node finds itself free.
+-- Proofs about the remaining events: a holder writes, a holder closes the line, and a node finds that it is free.
 use Rattle.qolb_model.specs.declared.config.LineConfig.{LineConfig}
 use Rattle.std.proofs.Common.{◌≡◌, ◌≢◌, ℕ, ◌<◌, ◌≤◌, Bool, true, false, ◌||◌, ◌&&◌, List, [], ◌⊎◌, length, None, refl, sym, ◌∙◌, ap, subst, inl, inr, arith}
 use Rattle.link_core.specs.declared.point.Point.{Point}

@@ -1,4 +1,4 @@
--- The bounds on the states of the machine, and what each step keeps of them.
+-- Lemmas about the bounds on the states of the machine, and how each step preserves them.
 use Rattle.qolb_model.specs.declared.config.LineConfig.{LineConfig}
 use Rattle.std.proofs.Common.{◌≡◌, ℕ, length, refl, ◌∙◌, ap, subst, inl, inr, arith}
 use Rattle.link_core.specs.declared.point.Point.{Point}

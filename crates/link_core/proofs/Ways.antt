@@ -1,4 +1,4 @@
--- While a request is open, some productive event is enabled; and the rank is bounded.
+-- Proof that while a request is open, some productive event is enabled, and that the rank is bounded.
 use Rattle.qolb_model.specs.declared.config.LineConfig.{LineConfig}
 use Rattle.std.proofs.Common.{◌≡◌, ℕ, zero, suc, ◌+◌, ◌*◌, ◌<◌, ◌≤◌, Bool, true, false, length, refl, sym, ◌∙◌, ap, subst, inl, inr, arith}
 use Rattle.std.specs.Prelude.{cond}

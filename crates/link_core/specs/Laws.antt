@@ -1,4 +1,5 @@
--- The theorems that a lock whose words are those of a core may use. The theorems are this project's own.
+-- The theorems about the core that the proof of a lock may use if the lock's words are those of a core. The theorems in
+-- this file were stated for this project; none is taken from the literature.
 use Rattle.std.specs.Prelude.{◌≡◌, ◌≢◌, ◌↔◌, ℕ, ◌+◌, ◌*◌, ◌<◌, ◌≤◌, true, false, Option, List, [], ◌∷◌, length}
 use Rattle.qolb_model.specs.declared.config.LineConfig.{LineConfig}
 use Rattle.qolb_model.specs.declared.config.TheConstants.{MAX_NODES}

@@ -1,6 +1,6 @@
--- The move of the queue that each case of an event makes. An event makes at most one move, after which ended requests
--- may be cleared. (The queue at a line is that of Goodman, Vernon and Woest, 1989. The order of the ends, which the
--- links of a list give, is this project's own.)
+-- How each event changes the queue, case by case. An event makes at most one move, after which ended requests may
+-- become clear. (The queue at a line is from Goodman, Vernon and Woest, 1989. This project added the order in which
+-- requests end, which the links of the list determine.)
 use Rattle.std.specs.Prelude.{ℕ, Bool, true, false, List, [], ◌∷◌, Option, Some, None}
 use Rattle.qolb_model.specs.declared.request.Request.{Request}
 use Rattle.qolb_model.specs.declared.end.End.{End}

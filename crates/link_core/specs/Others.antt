@@ -1,4 +1,5 @@
--- How an act of one node affects the other nodes. The definitions are this project's own.
+-- How an action of one node affects the other nodes. The definitions in this file were made for this project; none is
+-- taken from the literature.
 use Rattle.std.specs.Prelude.{◌≡◌, ◌≢◌, ℕ, ◌≤◌, true, false, length, Some, slice_get}
 use mathlib.Core.List.{IsPrefix}
 use Rattle.qolb_model.specs.declared.request.Request.{Request}

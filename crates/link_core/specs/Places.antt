@@ -1,4 +1,4 @@
--- The requests of an order by their places, which count from 0.
+-- The requests of an order, indexed by their places, which count from 0.
 use Rattle.std.specs.Prelude.{◌≡◌, ◌≢◌, ℕ, ◌<◌, List, length, slice_index_or}
 use Rattle.qolb_model.specs.declared.request.Request.{Request}
 

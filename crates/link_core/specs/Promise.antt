@@ -1,4 +1,5 @@
--- The promise of a step: a state that shows a queue leads to a state that shows a queue after at most one move.
+-- What each step guarantees: from a state that shows a queue, it leads to a state that shows a queue, after at most one
+-- move of that queue.
 use Rattle.std.specs.Prelude.{◌≡◌, ◌≢◌, ℕ, ◌+◌, ◌<◌, ◌≤◌, false, List, [], ◌∷◌, ◌++◌, length, take, slice_get, Some}
 use Rattle.qolb_model.specs.declared.config.LineConfig.{LineConfig}
 use Rattle.qolb_model.specs.declared.config.TheConstants.{MAX_NODES}

@@ -1,6 +1,6 @@
--- The state of a line with reversed links, and the changes that one act makes. (A list of requesters at a line is from
--- IEEE Std 1596-1992. The links that the younger node makes, from the tail's side to the head's, and the words that
--- hold these links are this project's own.)
+-- The state of a line with reversed links, and how one action changes it. (A list of requesters at a line is from IEEE
+-- Std 1596-1992. The links that the younger of two nodes makes, from the tail towards the head, and the words that
+-- contain these links are this project's own.)
 use Rattle.std.specs.Prelude.{ℕ, ◌<◌, ◌≤◌, ◌==◌, Bool, true, false, ◌&&◌, not, List, [], ◌∷◌, length, replicate, slice_index_or, slice_set}
 use Rattle.link_core.specs.declared.point.Point.{Point}
 use Rattle.link_core.specs.declared.point.Point.TheVariants.{Idle, Ready, Linking, Queued, Holding, Leaving, Marking, Granting, Freeing, Left, Rolled, Shut}

@@ -1,5 +1,5 @@
-//! The core of a lock-free queue lock by reversed links: its states and its events, as values without threads and
-//! memory.
+//! The core of the link line, a lock-free queue lock in which each node links itself to its predecessor. The core
+//! consists of states and events, as values without threads or shared memory.
 //!
 //! Each atomic step of `link_line` is the event of the same name.
 #![tactic(auto)]

@@ -1,4 +1,4 @@
-//! The places at which the line can be: at home, in a node's mailbox, or in a node's hand.
+//! The places where the line can be: at home, in a node's mailbox, or in a node's hand.
 
 /// The place of the line.
 #[derive(Clone, Copy, Debug, PartialEq, Eq)]

@@ -1,4 +1,4 @@
-//! The points of a node in its call. A point says which event the node makes next.
+//! The points of a node, each of which determines the event that the node makes next.
 
 /// The point of a node in its call.
 #[derive(Clone, Copy, Debug, PartialEq, Eq)]

@@ -1,4 +1,4 @@
-//! A list of events is replayed, one after another, from the opening of a line.
+//! Replays a list of events, starting from a line that was just opened.
 ghost use Rattle.std.specs.Prelude.{◌≡◌, ◌⊎◌, IfOk, IfErr};
 ghost use Rattle.qolb_model.specs.Queue.{Queue};
 ghost use Rattle.qolb_model.specs.Histories.{IsLegal};

@@ -1,4 +1,5 @@
-//! The state of a node's own call, with the cause of its release and the nodes that the release has passed.
+//! The state of a node during its call: its point, the cause of its release, and the nodes that the release has
+//! skipped.
 ghost use Rattle.std.specs.Prelude.{◌≡◌, ◌↔◌, ◌<◌, ◌≤◌, List, [], ◌∷◌, ◌++◌, length, IsTrue, MatchOption};
 ghost use Rattle.qolb_model.specs.declared.config.TheConstants.{MAX_NODES};
 ghost use Rattle.link_core.specs.declared.seat.TheConstants.{MAX_PASSED};

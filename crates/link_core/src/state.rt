@@ -1,4 +1,4 @@
-//! The whole state of a line with reversed links, and the changes of it that several events share.
+//! The complete state of a core, and the changes to it that several events have in common.
 ghost use Rattle.std.specs.Prelude.{◌≡◌, ◌↔◌, ◌<◌, IsTrue};
 ghost use Rattle.link_core.specs.State.{IsNode, is_clear, entry, point, seat, put_entry, put_seat, at_point, first};
 ghost use Rattle.qolb_model.specs.Steps.{is_one};

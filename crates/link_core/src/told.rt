@@ -1,4 +1,4 @@
-//! What an event tells its node, and why an event is refused.
+//! The results that an accepted event can return, and the reasons why an event can be refused.
 
 /// The answer of an accepted event to its node.
 #[derive(Clone, Copy, Debug, PartialEq, Eq)]

@@ -1,4 +1,4 @@
--- A node accepts the line by an event that takes the line out of the slot.
+-- Proof about a node that accepts the line with an event which takes the line out of the slot.
 use Rattle.std.proofs.Common.{◌≡◌, ◌≢◌, ℕ, ◌≤◌, Bool, true, false, List, [], ◌∷◌, length, sym, refl, ap, ◌∙◌, subst, arith}
 use mathlib.Core.Option.{some}
 use lib.ListN.{get_elem?}

@@ -1,4 +1,4 @@
--- What an event of the core leaves true of the past, and of the other nodes.
+-- Lemmas about what an event of the core does not change in the past, or for the other nodes.
 use Rattle.std.proofs.Common.{◌≡◌, ◌≢◌, ◌⊎◌, ℕ, zero, suc, ◌+◌, ◌<◌, ◌≤◌, inl, inr, true, false, List, [], ◌∷◌, length, map, sym, refl, ap, ◌∙◌, subst, Option, Some, None, arith, get_or-set_other}
 use Rattle.std.specs.Prelude.{slice_index_or, slice_set}
 use Rattle.std.proofs.lemmas.Bool.{cases_lt}

@@ -1,4 +1,4 @@
--- A handoff at an entry, in up to three steps: home, done, grant.
+-- Proof about a handoff at an entry, which takes up to three steps: home, done, grant.
 use Rattle.std.proofs.Common.{ℕ, length, List, [], ◌∷◌, ◌++◌, refl, ap, ◌∙◌, subst, inr, arith}
 use Rattle.qolb_model.specs.declared.config.LineConfig.{LineConfig}
 use Rattle.qolb_model.specs.PortStates.{state_after}

@@ -1,4 +1,5 @@
--- A node links its request to the one before: it adds its number to the entry of that request's node.
+-- Proof about the step with which a node links its request to the previous one: the node adds its number to the entry
+-- of that request's node.
 use Rattle.std.proofs.Common.{◌≡◌, ℕ, ◌+◌, ◌*◌, ◌%◌, ◌^◌, ◌<◌, ◌≤◌, List, [], ◌∷◌, ◌++◌, length, set, slice_index, true, false, sym, refl, ap, ◌∙◌, subst, inl, inr, arith, get_or-set_same}
 use mathlib.Core.Option.{some, none}
 use lib.ListN.{get_elem?}

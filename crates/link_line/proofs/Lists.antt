@@ -1,4 +1,4 @@
--- Lists of values, which are replaced one at a time.
+-- Lemmas about lists in which one value at a time is replaced.
 use Rattle.std.proofs.Common.{◌≡◌, ◌≢◌, ℕ, zero, suc, ◌<◌, ◌≤◌, List, [], ◌∷◌, set, sym, refl, ap, ◌∙◌, subst, ⊎_elim, Some, None}
 use mathlib.Core.Option.{some}
 use lib.ListN.{get_elem?}

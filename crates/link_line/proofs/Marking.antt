@@ -1,5 +1,5 @@
--- A release adds the flag done to the entry that it has reached. It goes on at the node that is linked there, or leaves
--- the line for a late linker.
+-- Proof about the step with which a release adds the flag done to the entry that it has reached. The release then
+-- continues with the node that is linked there, or leaves the line for a node that links later.
 use Rattle.std.proofs.Common.{◌≡◌, ◌≢◌, ◌⊎◌, ℕ, ◌+◌, ◌%◌, ◌^◌, ◌<◌, ◌≤◌, List, [], ◌∷◌, ◌++◌, length, map, set, slice_index, true, sym, refl, ap, ◌∙◌, subst, inl, inr, arith, length-set, get_or-set_same}
 use mathlib.Core.Option.{some, none}
 use mathlib.Core.Logic.{dite}

@@ -1,4 +1,4 @@
--- The requests that a release has passed are of other nodes, each of a different one.
+-- Proof that the requests which a release has skipped belong to other nodes, each to a different one.
 use Rattle.std.proofs.Common.{◌≡◌, ℕ, zero, suc, ◌<◌, List, [], ◌∷◌, length, map, sym, ap, ◌∙◌, Some, slice_get, arith}
 use Rattle.std.specs.Prelude.{slice_index_or}
 use Rattle.std.proofs.lemmas.Option.{slice_get_within}

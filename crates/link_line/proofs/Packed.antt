@@ -1,4 +1,4 @@
--- What an addition does to the word of an entry, and what the fields of that word are.
+-- Lemmas about how an addition changes the word of an entry, and about the fields of this word.
 use Rattle.std.proofs.Common.{◌≡◌, ℕ, ◌+◌, ◌*◌, ◌%◌, ◌^◌, ◌<◌, ◌≤◌, Bool, true, false, refl, ap, arith, eq-eqb, ne_eqb}
 use Rattle.std.specs.Prelude.{◌==◌}
 use Rattle.qolb_model.specs.declared.config.TheConstants.{MAX_NODES}

@@ -1,4 +1,4 @@
--- An event after which its node neither has the line nor is about to link or to free others.
+-- Lemmas about an event after which its node neither has the line nor is about to link or to free others.
 use Rattle.std.proofs.Common.{◌≡◌, ◌≢◌, ℕ, Bool, true, false, ◌||◌, List, [], ◌∷◌, sym, refl, ap, ◌∙◌, subst}
 use mathlib.Core.Option.{some}
 use lib.ListN.{get_elem?}

@@ -1,4 +1,5 @@
--- What the steps of a release have in common: either the turn ends, or the line stays in the node's hand.
+-- Lemmas shared by the proofs of a release's steps: after each step, either the turn has ended, or the line is still in
+-- the node's hand.
 use Rattle.std.proofs.Common.{◌≡◌, ◌≢◌, ◌⊎◌, inl, inr, ℕ, ◌+◌, ◌<◌, ◌≤◌, Bool, true, false, List, [], ◌∷◌, ◌++◌, length, map, sym, refl, ap, ◌∙◌, subst, Some, slice_get, arith, length-append}
 use mathlib.Core.Option.{some}
 use lib.ListN.{get_elem?}

@@ -1,4 +1,4 @@
--- A node clears its entry before its next request, and looks whether the entry of its last request is clear.
+-- Proof about a node that, before its next request, clears its entry and checks whether its last request is clear.
 use Rattle.std.proofs.Common.{◌≡◌, ◌⊎◌, ℕ, ◌≤◌, List, [], ◌∷◌, set, slice_index, true, false, sym, refl, ap, ◌∙◌, subst, inl, inr, arith, get_or-set_same}
 use mathlib.Core.Option.{some, none}
 use lib.ListN.{get_elem?}

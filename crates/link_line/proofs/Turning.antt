@@ -1,4 +1,4 @@
--- An event of the core, as the seat of its node takes it.
+-- Lemmas about how an event of the core changes the seat of its node.
 use Rattle.std.proofs.Common.{◌≡◌, ◌≢◌, ℕ, ◌+◌, ◌<◌, ◌≤◌, inl, inr, Bool, true, false, List, [], ◌∷◌, length, map, ◌++◌, set, sym, refl, ap, ◌∙◌, subst, Some, None, slice_get}
 use mathlib.Core.Option.{some}
 use mathlib.Core.List.{IsPrefix}

@@ -1,5 +1,6 @@
--- What a release requires and ensures of the holder's seat, and what the walk over withdrawn requests in it does. There
--- is one record for each of the two. The line has `many` nodes, and its table has the number `id`.
+-- What a release requires of the holder's seat and ensures for it, and the effect of the part of a release that skips
+-- withdrawn requests. There is one record for each of the two. The line has `many` nodes, and its table has the number
+-- `id`.
 use Rattle.std.specs.Prelude.{◌≡◌, ℕ, ◌+◌, ◌*◌, ◌<◌, ◌≤◌, List, [], ◌∷◌, length, Bool}
 use Rattle.atomic_table.specs.Seated.{TableId}
 use Rattle.qolb_model.specs.declared.config.TheConstants.{MAX_NODES}

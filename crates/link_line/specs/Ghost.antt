@@ -1,4 +1,4 @@
--- What the invariant knows of a node of the list.
+-- The ghost state of a node of the link line, to which the invariant refers.
 use Rattle.std.specs.Prelude.{false, [], None}
 use Rattle.line_lanes.specs.declared.line.Mask.{Mask}
 use Rattle.line_generic.specs.declared.table.NodeGhost.{NodeGhost}

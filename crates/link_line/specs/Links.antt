@@ -1,5 +1,5 @@
--- The invariant of the list's table: its words and its slot are those of a core, and the core shows one queue of the
--- line (a refinement mapping).
+-- The invariant of the link line's table: its words and its slot are those of a core, and the core shows one queue of
+-- the line (a refinement mapping).
 use Rattle.std.specs.Prelude.{◌≡◌, ◌⊎◌, ℕ, ◌+◌, ◌<◌, ◌≤◌, Bool, true, false, List, [], ◌∷◌, map, length, slice_index, slice_get, Some}
 use mathlib.Core.List.{IsPrefix}
 use mathlib.Core.Option.{some}

@@ -1,7 +1,7 @@
-//! The queue discipline of the link line.
+//! The queue algorithm of the link line.
 //!
 //! This file implements the traits `Discipline` and `SplitEnqueue` of `line_generic` with the atomic steps of this
-//! crate. The calls that all kinds of lines share are written over these traits.
+//! crate. The calls that all kinds of lines share are built on these traits.
 ghost use Rattle.link_line.specs.BetweenCalls.{steps_to_ask};
 ghost use Rattle.link_line.specs.Layout as layout;
 ghost use Rattle.link_line.specs.Laws.Lasting as lasting;

@@ -1,4 +1,4 @@
-//! A node makes a request, by one call or by two.
+//! Makes a request for a node, with one call or with two.
 ghost use Rattle.std.specs.Prelude.{◌≡◌, ◌≢◌, ℕ, ◌+◌, ◌≤◌, IsTrue, true, false};
 ghost use Rattle.qolb_model.specs.Enqueueing.{IsBusy, Asks, IsJoined};
 ghost use Rattle.qolb_model.specs.PortStates as states;

@@ -1,4 +1,4 @@
-//! The type of the link line's queue discipline, its ghost state, and its invariant.
+//! The type that represents the link line's queue algorithm, its ghost state, and its invariant.
 ghost use Rattle.link_line.specs.Laws.PortModel as port_model;
 ghost use Rattle.link_line.specs.BetweenCalls as between_calls;
 ghost use Rattle.link_line.specs.Layout as layout;

@@ -1,8 +1,8 @@
-//! The link line, a list of nodes that hands over a line. Of two neighbours in the list, the younger one makes the
-//! link.
+//! The link line: its waiting nodes form a linked list, and the line is handed over along this list. Of two neighbours
+//! in the list, the node that came later makes the link.
 //!
-//! A release never waits for a late link: it leaves the line in its own entry, and the late linker takes the line from
-//! there.
+//! A release never waits for a missing link. Instead it leaves the line in its own entry, and the node that links later
+//! takes the line from there.
 #![tactic(auto)]
 
 mod discipline;

@@ -1,4 +1,4 @@
-//! The ghost updates of the atomic steps.
+//! The kinds of atomic steps, each with the change of ghost state that it makes.
 ghost use Rattle.link_line.specs.Steps.{readied, prepended, linked, loaded, loaded_last, homed, marked, granted, rolled, freed};
 
 use crate::invariant::NodeGhosts;

@@ -1,7 +1,7 @@
-//! The release of the line: one handoff, or a walk past withdrawn successors.
+//! Releases the line: it hands the line to the next node, or skips withdrawn successors first.
 //!
-//! The releasing node's request ends at the step that gives the line up or passes a successor. That step is a `home`
-//! that finds no successor, a `done` that finds no link, or the first `grant`.
+//! The releasing node's request ends with the atomic step that gives up the line or skips a successor. That step is a
+//! `home` that finds no successor, a `done` that finds no link, or the first `grant`.
 ghost use Rattle.std.specs.Prelude.{◌≡◌, ◌≢◌, ℕ, ◌+◌, ◌*◌, ◌<◌, ◌≤◌, [], length};
 ghost use Rattle.qolb_model.specs.declared.config.TheConstants.{MAX_NODES};
 ghost use Rattle.qolb_model.specs.PortStates as states;

@@ -1,23 +1,25 @@
-//! The atomic steps. Each step is one sequentially consistent operation on one word. The type argument of the
-//! operation, from `plays`, is the ghost transition that counts the step.
+//! The atomic steps of the link line. Each step is one sequentially consistent operation on one word. This operation
+//! takes a type argument from the module `plays`, which is the change of ghost state that belongs to the step.
 //!
-//! - A *node* is a participant. Its queue node (in the sense of MCS) is one word, which is called its *entry*.
-//! - A *seat* is a node's access to the shared table. It has the ghost state of the node (`me.0`, a list of one:
-//!   `IsOfOneNode`), and the slot with the line while the seat has it (`me.1`).
-//! - The *home word* names the last node of the queue, as the tail of MCS does, and is 0 if the line is at home. The
-//!   line's 64 bytes stay in one slot: "at home" and "left in an entry" only say whose next step takes them. A holder
-//!   works on a copy in its port, and its release stores the copy back before its first step.
-//! - A *late linker* is a node that has swapped the home word and has not linked to its predecessor yet.
-//! - A request is *at its turn* once the line was granted to it, left for it, or found at home. Its node's seat *has*
-//!   the line from the step that finds this. Its port *holds* the line only if the line is not closed.
-//! - A request is *joined* once it needs no link any more, because it found the line at home or is linked.
+//! - A *node* is a user of the line. What an MCS lock calls the queue node is one word here, which is called the node's
+//!   *entry*.
+//! - A *seat* is a node's access to the shared table. A seat contains the ghost state of the node (`me.0`, a list with
+//!   one element: `IsOfOneNode`), and the slot with the line while the seat has the line (`me.1`).
+//! - The *home word* names the last node of the queue, as the tail of an MCS lock does, and is 0 if the line is at
+//!   home. The line's 64 bytes stay in one slot: "at home" and "left in an entry" only determine whose next step takes
+//!   them. A holder works on a copy in its port, and its release stores the copy back before its first step.
+//! - A *late linker* is a node that has swapped the home word, but has not yet linked to its predecessor.
+//! - A request is *at its turn* once the line was granted to it, left for it, or found at home. From the step that
+//!   finds this on, the seat of the request's node *has* the line. The node's port *holds* the line only if the line is
+//!   not closed.
+//! - A request is *joined* once it no longer needs a link, because it found the line at home or is already linked.
 //! - The *current request* of a release is at first the releasing node's own. To *pass* a withdrawn successor is to
-//!   make its request the current one and to go on from its entry with the line. The step that passes the next
-//!   successor or gives the line up ends the current request.
-//! - A node's last request is *clear* once no other node will use the node's entry because of it. The node's next
-//!   request is then not answered `Busy`.
-//! - A view's `count` is the number of its node's requests.
-//! - A node's *point* says which step it takes next:
+//!   make the successor's request the current one, and to continue from its entry with the line. The step that passes
+//!   the next successor or gives up the line ends the current request.
+//! - A node's last request is *clear* once no other node will use the node's entry because of it. Then the answer to
+//!   the node's next request is not `Busy`.
+//! - The `count` of a view is the number of its node's requests.
+//! - A node's *point* determines which step the node takes next:
 //!
 //! ```text
 //!     Idle, Shut     reset

@@ -1,4 +1,4 @@
--- The words of a new lock satisfy the invariant.
+-- Proof that the words of a new lock satisfy the invariant.
 use Rattle.std.proofs.Common.{◌≡◌, ℕ, zero, suc, ◌+◌, ◌-◌, ◌/◌, ◌%◌, ◌<◌, ◌≤◌, List, [], ◌∷◌, slice_index, sym, refl, ◌∙◌, subst, arith, ⊎_elim}
 use Rattle.std.specs.Int.{bit_at}
 use mathlib.Core.Option.{Option, some, some-ne-none}

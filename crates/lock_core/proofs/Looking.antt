@@ -1,4 +1,4 @@
--- The steps of a waiter on its cell: it looks, counts itself as a sleeper, and takes its count back.
+-- Proofs about the steps of a waiter on its cell: it looks, counts itself as a sleeper, and subtracts itself again.
 use Rattle.std.proofs.Common.{◌≡◌, ◌≢◌, ℕ, ◌+◌, ◌-◌, ◌*◌, ◌/◌, ◌%◌, ◌<◌, ◌≤◌, set, slice_index, sym, refl, ap, ◌∙◌, subst, arith, length-set, get_or-set_other, ⊎_elim, inl, inr, eqb, eq-eqb, ne_eqb}
 use mathlib.Core.Logic.{dite}
 use mathlib.Core.Option.{none, some}

@@ -1,4 +1,5 @@
--- A waiter marks its request as withdrawn, and the caller that has the turn of a withdrawn request clears the mark.
+-- Proofs about the marks of withdrawn requests: a waiter sets the mark, and the caller that has the turn of a withdrawn
+-- request clears it.
 use Rattle.std.proofs.Common.{◌*◌, ◌-◌, ◌≡◌, ◌≢◌, ℕ, ◌+◌, ◌-◌, ◌/◌, ◌%◌, ◌^◌, ◌<◌, ◌≤◌, set, slice_index, sym, refl, ap, ◌∙◌, subst, arith, length-set, get_or-set_other, bit_or, ⊎_elim}
 use Rattle.std.specs.Prelude.{bit_xor}
 use Rattle.std.specs.Int.{bit_at}

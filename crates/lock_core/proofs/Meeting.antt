@@ -1,4 +1,4 @@
--- Two callers meet, and each learns what the other knows.
+-- Proof that when two callers meet, each learns what the other one knows.
 use Rattle.std.proofs.Common.{◌≡◌, ◌≢◌, ℕ, ◌%◌, ◌<◌, ◌≤◌, List, [], ◌∷◌, ◌++◌, set, slice_index, sym, refl, ap, ◌∙◌, subst, arith, ⊎_elim, max}
 use mathlib.Core.Option.{none, some}
 use lib.ListN.{get_elem?}

@@ -1,5 +1,5 @@
--- The value in the slot. If a table without a slot allows a step, a table with one allows it too: a caller that is
--- served from that step on takes the value, and a caller that is no longer served gives it back.
+-- Lemmas about the value in the slot. If a table without a slot allows a step, so does a table with one: a caller that
+-- is served from that step on takes the value, and a caller that is no longer served gives it back.
 use Rattle.std.proofs.Common.{◌≡◌, ◌≢◌, ℕ, suc, ◌+◌, ◌-◌, ◌*◌, ◌/◌, ◌%◌, ◌^◌, ◌<◌, ◌≤◌, List, [], ◌∷◌, map, length, set, slice_index, sym, refl, ap, ◌∙◌, subst, arith, eqb, length-set, ⊎_elim}
 use mathlib.Core.Logic.{dite}
 use mathlib.Core.Option.{Option, none, some, some-injective}

@@ -1,4 +1,4 @@
--- How a step of one seat changes the count of sleepers.
+-- Lemmas about how a step of one seat changes the number of sleepers.
 use Rattle.std.proofs.Common.{◌≡◌, ◌≢◌, ℕ, zero, suc, ◌+◌, ◌%◌, ◌≤◌, List, [], ◌∷◌, ◌++◌, set, sym, ap, arith, eq-eqb, ne_eqb}
 use mathlib.Core.Option.{some, some-injective, some-ne-none}
 use prog.Atomic.{either}

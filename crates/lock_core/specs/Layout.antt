@@ -1,4 +1,4 @@
--- The layout of a lock: what each word has, and how it is packed.
+-- The layout of a lock: what each word contains, and how it is packed.
 use Rattle.std.specs.Prelude.{◌≡◌, ℕ, ◌+◌, ◌-◌, ◌/◌, ◌%◌}
 use Rattle.atomic_table.specs.Seated.{TableId}
 

@@ -1,4 +1,5 @@
--- What the last atomic steps of a caller found. By these definitions, a call that gives up can say which word it found.
+-- What a caller's last atomic steps found. With these definitions, the contract of a call that gives up can state what
+-- the call found in a word.
 use Rattle.std.specs.Prelude.{◌≡◌, ◌≢◌, ℕ, Bool, true, false, ◌+◌, ◌*◌, ◌/◌, ◌%◌, ◌<◌, ◌≤◌, ◌⊎◌}
 use Rattle.atomic_table.specs.Table.{Step}
 use Rattle.atomic_table.specs.declared.shared.Seat.{Seat}

@@ -1,4 +1,4 @@
--- What two callers know of one another, for the theorems of `src/meets.rt`.
+-- What two callers know about each other, for the theorems of `src/meets.rt`.
 use Rattle.std.specs.Prelude.{◌≡◌, ◌≢◌, ℕ, ◌<◌, ◌≤◌, ◌⊎◌, max}
 use Rattle.atomic_table.specs.Table.{Step, Me}
 use Rattle.lock_core.specs.declared.view.View.{View}

@@ -1,4 +1,4 @@
--- The value in the slot of a lock's table: its invariant, and what each step says of it.
+-- The value in the slot of a lock's table: its invariant, and what each step reveals about it.
 use Rattle.std.specs.Prelude.{◌≡◌, ◌≢◌, ℕ, List, [], map, length}
 use mathlib.Core.Option.{Option, none, some}
 use lib.ListN.{get_elem?}

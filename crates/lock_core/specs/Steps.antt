@@ -1,4 +1,4 @@
--- What each kind of atomic step tells the caller that takes it.
+-- What each kind of atomic step reveals to the caller that takes it.
 use Rattle.std.specs.Prelude.{◌==◌, ◌≡◌, ◌≢◌, ℕ, ◌+◌, ◌-◌, ◌/◌, ◌%◌, ◌<◌, ◌≤◌}
 use Rattle.std.specs.Int.{bit_at}
 use prog.Atomic.{either}

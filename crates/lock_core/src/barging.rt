@@ -1,7 +1,7 @@
 //! Barging: a thread takes the lock word without a ticket, and so overtakes the queue.
 //!
-//! A thread that barges is a *newcomer*. The lock word counts the newcomers, and the barging limit bounds how many of
-//! them come between two queue heads.
+//! A thread that barges is called a *newcomer*. The lock word counts the newcomers, and the barging limit bounds the
+//! number of newcomers between two consecutive queue heads.
 ghost use Rattle.std.specs.Prelude.{◌≡◌, ◌≢◌, ◌+◌, ◌/◌, ◌%◌, ◌<◌, ◌≤◌, ◌⊎◌, true, false};
 ghost use Rattle.lock_core.specs.Layout.{HasLockWords, lock_word_at};
 ghost use Rattle.lock_core.specs.Views.{InTime, InTimeFrom, LoadGrows, IsSeatOf, IsIdle, IsInside, IsNewcomer, BargesAfter, ServedOpen, SameInside};

@@ -1,8 +1,8 @@
 //! Requests: a caller draws a ticket, whose number is its place in the order.
 //!
 //! `draw` always draws a ticket. The other calls first look at the tail and at the cell of the next ticket. They draw
-//! the ticket only if it is at its turn (`try_draw`), if its request could be withdrawn (`draw_near`), or if it is
-//! within a window (`draw_within`).
+//! that ticket only if its turn has already come (`try_draw`), if its request could be withdrawn (`draw_near`), or if
+//! it is within a given distance (`draw_within`).
 ghost use Rattle.std.specs.Prelude.{◌≡◌, ◌<◌, ◌≤◌, IfSome, IfNone};
 ghost use Rattle.lock_core.specs.Layout.{withdrawal_window, max_window, max_tickets, IsLockTable, cell_at, to_go, HasLockWords, tail_at};
 ghost use Rattle.lock_core.specs.Views.{view_of, InTime, InTimeFrom, LoadGrows, IsSeatOf, IsIdle, IsQueued, IsQueuedWithin, IsAtTurn, IsOvertakenInBounds, DrawsAfter, SameTurn};

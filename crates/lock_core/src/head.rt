@@ -1,8 +1,8 @@
-//! The queue head looks at the lock word, takes it, and announces its sleep there. The queue head is the first waiter
-//! of a barging lock.
+//! The calls of the queue head, which is the first waiter of a barging lock. It looks at the lock word, takes it, or
+//! announces that it sleeps on it.
 //!
-//! A thread that leaves the lock word reserves it for the queue head if the queue head has requested a handoff, or if
-//! the barging limit is reached.
+//! A thread that leaves the lock word reserves the word for the queue head if the queue head has requested a handoff,
+//! or if the barging limit is reached.
 ghost use Rattle.std.specs.Prelude.{◌≡◌, ◌≢◌, ◌+◌, ◌/◌, ◌%◌, ◌<◌, ◌≤◌, ◌⊎◌, true, false};
 ghost use Rattle.lock_core.specs.Layout.{HasLockWords, lock_word_at, state_of, handoff_of, asleep_of};
 ghost use Rattle.lock_core.specs.Views.{view_of, InTime, InTimeFrom, LoadGrows, IsSeatOf, IsAtTurn, IsOvertakenInBounds, IsHeadInside, TakesLockWord, SleepsAtLockWord, ServedOpen, ServedShut, KnowsShut, Kept, SameRequest, SameNewcomer, SameKnown, SameSleepAtLockWord, IsLaterEpoch, SleepsInTake, SameDoor, SameInside, OnlyLooks};

@@ -1,4 +1,4 @@
-//! The types of a lock's table and of its callers' seats, and the invariant that the table keeps.
+//! The types of a lock's table and of its callers' seats, and the invariant of the table.
 ghost use Rattle.lock_core.specs.Views.{max_newcomers_of, initial_view};
 ghost use Rattle.lock_core.specs.Slots.{Slotted};
 

@@ -1,10 +1,12 @@
-//! The words of a lock, what each word packs, and the limits of a lock. Each of these numbers has its name only here.
+//! The words of a lock, how each word is packed, and the limits of a lock. Each of these numbers is defined only in
+//! this file.
 //!
-//! - Word 0 is the lock word. Bit 0 says that a handoff is requested, and bit 1 that the queue head sleeps there. Bits
-//!   2 and 3 are the state: 0 is free, 1 is held, and 2 is reserved for the queue head. Bit 4 says that the lock is
-//!   shut. The bits from 5 on count the *newcomers*, which are the threads that have barged since the last queue head.
+//! - Word 0 is the lock word. Bit 0 is 1 if a handoff is requested, and bit 1 is 1 if the queue head sleeps on the
+//!   word. Bits 2 and 3 contain the state: 0 is free, 1 is held, and 2 is reserved for the queue head. Bit 4 is 1 if
+//!   the lock is shut. The bits from 5 on count the *newcomers*, which are the threads that have barged since the last
+//!   queue head.
 //! - Words 1 to 15 are never written.
-//! - Word 16 is the tail, which is the number of the next ticket.
+//! - Word 16 is the tail, which contains the number of the next ticket.
 //! - Words 17 to 20 are cells. Ticket t has cell t mod 4, in round t div 4. Bits 0 to 15 of a cell mark the withdrawn
 //!   requests, each by its round modulo 16. Bits 16 to 31 count sleepers. The bits from 34 on count the granted rounds
 //!   modulo 2^30.

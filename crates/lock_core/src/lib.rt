@@ -1,7 +1,9 @@
-//! The core of a ticket lock for any number of threads, which is strict or lets threads barge.
+//! The core of a ticket lock for any number of threads. The lock is strict, or it lets threads barge, which means that
+//! they overtake the queue.
 //!
-//! The crate has the atomic steps of the lock, the contract of each step, and the invariant that all steps keep. No
-//! call waits: a caller spins, parks and wakes by its own means. `fair_lock` and `qolb_locks` call these functions.
+//! The crate contains the atomic steps of the lock, the contract of each step, and the invariant that all steps
+//! preserve. No call waits: the callers implement spinning, sleeping and waking themselves. `fair_lock` and
+//! `qolb_locks` call these functions.
 #![tactic(auto)]
 
 mod barging;

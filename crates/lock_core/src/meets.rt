@@ -1,7 +1,8 @@
 //! The theorems about two callers of a lock.
 //!
-//! A clause speaks of the seat of one caller. A theorem about two callers is therefore a function that borrows both
-//! seats and ensures that the two cannot meet. No program calls these functions, but the proof of a caller may.
+//! A clause can refer to the seat of only one caller. Therefore a theorem about two callers is a function that borrows
+//! both seats, and ensures that the two callers cannot be in the stated situation. No program calls these functions,
+//! but the proof of a caller may use them.
 ghost use Rattle.std.specs.Prelude.{◌≡◌, ◌<◌, ◌≤◌, []};
 ghost use Rattle.lock_core.specs.Layout.{HasLockWords, IsLockTable};
 ghost use Rattle.lock_core.specs.Views.{view_of, InTime, NeverInTime, LoadGrows, KeepsValue, IsSeatOf, IsIdle, IsOutside, HasTurn, HasTurnAwake, IsNotServed, KnowsShut, LeftQuietly, ServedOpen, SleepsAtLockWord};

@@ -1,4 +1,4 @@
-//! Opening: a lock is made, and each caller gets a seat.
+//! Opening: a lock is created, and each caller gets a seat.
 ghost use Rattle.std.specs.Prelude.{◌≡◌, ◌≢◌, ◌≤◌, IfOk, IfErr, length};
 ghost use Rattle.lock_core.specs.Layout.{max_barging_limit, HasLockWords, IsLockTable, IsValueTable};
 ghost use Rattle.lock_core.specs.Views.{view_of, IsSeatOf, IsOutside};

@@ -1,8 +1,8 @@
-//! Closing: the caller that is served shuts the lock, and a caller at its turn reopens it if no request is behind its
-//! own.
+//! Shutting and reopening: the holder shuts the lock, and a caller that has the turn reopens it if no request is behind
+//! its own.
 //!
-//! In a strict lock, the caller at its turn looks whether the lock is open (`check_open`). In a barging lock, the step
-//! that takes the lock word tells the caller.
+//! In a strict lock, a caller that has the turn checks whether the lock is open (`check_open`). In a barging lock, the
+//! step that takes the lock word reports this to the caller.
 ghost use Rattle.std.specs.Prelude.{◌≡◌, ◌≢◌, ◌+◌, ◌%◌, ◌^◌, ◌≤◌, true, false};
 ghost use Rattle.lock_core.specs.Layout.{HasLockWords, tail_at};
 ghost use Rattle.lock_core.specs.Views.{view_of, InTime, InTimeFrom, LoadGrows, IsSeatOf, IsAtTurn, HasTurnOf, Kept, KnowsShut, ServedOpen, ServedShut, SameKnown, SameNewcomersSeen, SameSleepAtLockWord, IsLaterEpoch, KeepsValue};

@@ -1,7 +1,7 @@
 //! Withdrawal: a waiter gives up its request.
 //!
-//! A withdrawn request is marked in the word of its cell, which has room for the marks of 15 rounds. A release that
-//! reaches a marked request passes it.
+//! A bit in the word of the request's cell marks the request as withdrawn. Each word has room for the marks of 15
+//! rounds. A release that reaches a marked request skips it.
 ghost use Rattle.std.specs.Prelude.{◌≡◌, ◌<◌, ◌≤◌, true, false};
 ghost use Rattle.lock_core.specs.Layout.{withdrawal_window, HasLockWords};
 ghost use Rattle.lock_core.specs.Views.{view_of, InTime, InTimeFrom, LoadGrows, IsSeatOf, IsIdle, IsQueuedWithin, IsAtTurn, IsOvertakenInBounds, SameRequest, SameTurn};

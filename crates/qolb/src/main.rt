@@ -1,4 +1,4 @@
-//! Replays scripts of calls on queued lines, and runs scripts of work over them.
+//! The program qolb, which replays scripts of calls on queued lines, and runs scripts of work on them.
 #![tactic(auto)]
 
 use qolb_serve::run;

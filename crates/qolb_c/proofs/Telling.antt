@@ -1,4 +1,4 @@
--- An export tells C what its node's call did.
+-- Lemmas about how an exported function reports to C code what the call on its node did.
 use Rattle.std.proofs.Common.{◌≡◌, ℕ, refl, sym, ap, ◌∙◌, subst}
 use Rattle.std.specs.Prelude.{Option, Some, None}
 use Rattle.qolb_nodes.specs.declared.answer.Answer.{Answer}

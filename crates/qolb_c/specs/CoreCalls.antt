@@ -1,4 +1,5 @@
--- What an export promises of the lock that C calls it with. The definitions are this project's own.
+-- What each exported function guarantees about the lock that C code passes to it. The definitions in this file were
+-- made for this project; none is taken from the literature.
 use Rattle.std.specs.Prelude.{◌≡◌, ℕ, Option, Some}
 use Rattle.qolb_locks.specs.declared.answer.Answer.{Answer}
 use Rattle.qolb_locks.specs.declared.answer.Answer.TheVariants as answer

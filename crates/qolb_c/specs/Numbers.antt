@@ -1,4 +1,5 @@
--- The numbers of C's answers. The definitions are this project's own.
+-- The numbers by which C code receives answers. The definitions in this file were made for this project; none is taken
+-- from the literature.
 use Rattle.std.specs.Prelude.{ℕ}
 use Rattle.qolb_model.specs.declared.answer.PortState.{PortState}
 use Rattle.qolb_model.specs.declared.answer.PortState.TheVariants as state

@@ -1,7 +1,7 @@
-//! The exports for C of a lock that many threads share. `c/src/core.h` declares them.
+//! Exports the proved core of a lock, which many threads share, to C. `c/src/core.h` declares these functions.
 //!
-//! C has a lock by a reference, which it may copy, and a request by a ticket of its own. That header says what C must
-//! guarantee in return.
+//! C code refers to a lock by a reference, which it may copy, and to a request by a ticket, which belongs to one
+//! caller. The header core.h also lists what the C code must guarantee.
 ghost use Rattle.std.specs.Prelude.{◌≡◌, ◌≢◌, true};
 ghost use Rattle.lock_core.specs.Views.{SameRequest};
 ghost use Rattle.qolb_locks.specs.declared.answer.Answer.{Answer};

@@ -1,7 +1,8 @@
-//! What C must know of the proved types beside their calls: sizes, numbers of words, bits and limits.
+//! The facts about the proved types that C code needs in addition to the calls: sizes, numbers of words, bits and
+//! limits.
 //!
 //! `tools/snapshot` writes these numbers, with their comments, to `c/proved/qolb_layout.h`. The sizes of the blocks
-//! that a call allocates are not here, because `tools/snapshot` measures them.
+//! that a call allocates are not in this file, because `tools/snapshot` measures them.
 ghost use Rattle.std.specs.Prelude.{◌≡◌};
 
 use line_cells::STRIDE;

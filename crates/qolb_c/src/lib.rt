@@ -1,8 +1,9 @@
-//! The exports for C: nodes of lines, as a static library. `c/src/proved.h` declares these functions, and `c/src` calls
-//! them by these names.
+//! Exports the nodes of lines to C, as a static library. `c/src/proved.h` declares these functions, and the files of
+//! `c/src` call them.
 //!
-//! C has a node by its handle, a struct of one pointer that is null if there is no node. Each export calls the handle's
-//! node. If the node's state does not allow the call, the answer is `Misuse` and nothing changes.
+//! C code has a handle for each node, which is a struct with one pointer that is null if there is no node. Each export
+//! calls the node of its handle. If the node's state does not allow the call, the result is `Misuse` and nothing
+//! changes.
 #![tactic(auto)]
 
 ghost use Rattle.std.specs.Prelude.{◌≡◌, true, false, None};

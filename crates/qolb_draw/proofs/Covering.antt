@@ -1,4 +1,4 @@
--- The bars of a timeline, over the marks that have one.
+-- Proof that the bars of a timeline cover exactly the marks that have a bar.
 use Rattle.std.proofs.Common.{◌≡◌, ℕ, zero, suc, ◌+◌, ◌*◌, ◌<◌, ◌≤◌, ◌==◌, ◌&&◌, cond, Bool, true, false, List, [], ◌∷◌, ◌++◌, length, map, filter, flat_map, slice_get, option_map, Option, Some, None, refl, sym, ap, ◌∙◌, arith, append-nil, eq-eqb, eqb-true}
 use Rattle.std.specs.List.{list_any, range_with_len, slice_index_or}
 use Rattle.std.proofs.lemmas.Bool.Decides.{nat_tests}

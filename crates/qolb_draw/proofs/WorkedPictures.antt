@@ -1,4 +1,4 @@
--- Worked pictures: the pictures of small scripts by definition, by computation.
+-- Worked examples: the pictures of small scripts, computed from the definitions.
 use Rattle.std.specs.Prelude.{◌≡◌, ◌++◌, codes, refl, Ok, Err}
 use Rattle.qolb_script.specs.declared.error.ScriptError.TheVariants.{BadLine}
 use Rattle.qolb_draw.specs.declared.form.Form.TheVariants.{Text}

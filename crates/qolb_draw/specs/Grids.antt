@@ -1,4 +1,5 @@
--- The marks of a line, command by command, and the texts of its picture. (Of this project.)
+-- The marks of a line's nodes, command by command, and the texts of the line's picture. The definitions in this file
+-- were made for this project; none is taken from the literature.
 use Rattle.std.specs.Prelude.{◌≡◌, ℕ, ◌+◌, ◌-◌, ◌*◌, ◌==◌, min, List, [], ◌∷◌, ◌++◌, length, map, filter, flat_map, take, drop, codes}
 use Rattle.std.specs.List.{list_any, range_with_len, slice_index_or}
 use Rattle.qolb_model.specs.declared.answer.PortState.{PortState}

@@ -1,4 +1,5 @@
--- Numbers as rows of digits, digit below digit. (Of this project.)
+-- Numbers as the heads of columns: the digits of each number are written below each other. The definitions in this file
+-- were made for this project; none is taken from the literature.
 use Rattle.std.specs.Prelude.{ℕ, ◌+◌, ◌-◌, ◌/◌, ◌%◌, nat_lt, nat_le, if◌then◌else◌, List, [], ◌∷◌, ◌++◌, length, map, filter, flat_map}
 use Rattle.std.specs.List.{slice_index_or}
 

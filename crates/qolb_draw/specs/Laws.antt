@@ -1,4 +1,5 @@
--- Laws of pictures: what they show is the replay's, and no shape lies outside. (Of this project.)
+-- Theorems about pictures: a picture shows what the replay does, and no shape lies outside the picture. The theorems in
+-- this file were stated for this project; none is taken from the literature.
 use Rattle.std.specs.Prelude.{◌≡◌, ℕ, ◌+◌, ◌-◌, ◌*◌, max, ◌<◌, ◌≤◌, ◌==◌, ◌&&◌, nat_le, nat_lt, true, if◌then◌else◌, List, [], ◌∷◌, flat_map, Some, slice_get}
 use Rattle.std.specs.List.{All, list_any}
 use Rattle.qolb_script.specs.Commands.{node_of}

@@ -1,4 +1,5 @@
--- The state of a node at a line after a command, as a mark of a picture. (Of this project.)
+-- The mark that shows the state of a node at a line after a command. The definitions in this file were made for this
+-- project; none is taken from the literature.
 use Rattle.std.specs.Prelude.{ℕ, ◌==◌, ◌&&◌, not, Bool, true, false, if◌then◌else◌, Option, Some, None}
 use Rattle.std.specs.Option.{option_map_or}
 use Rattle.qolb_model.specs.declared.answer.PortState.{PortState}

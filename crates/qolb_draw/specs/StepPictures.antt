@@ -1,4 +1,5 @@
--- The picture of a step script in either form. (Of this project.)
+-- The picture of a step script, as plain text and as SVG. The definitions in this file were made for this project; none
+-- is taken from the literature.
 use Rattle.std.specs.Prelude.{◌≡◌, ◌≤◌, ℕ, ◌+◌, max, List, [], ◌∷◌, ◌++◌, length, map, codes, Ok}
 use Rattle.std.specs.List.{range_with_len}
 use Rattle.link_core.specs.declared.point.Point.{Point}

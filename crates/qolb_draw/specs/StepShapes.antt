@@ -1,5 +1,6 @@
--- The shapes of a step script's picture, and their places. A column is an event, counted from 0. Row 0 is the home word; row n is node
--- n with its entry. (Of this project.)
+-- The shapes of a step script's picture, and their places. A column represents an event, counted from 0. Row 0 is the
+-- home word, and row n is node n with its entry. The definitions in this file were made for this project; none is taken
+-- from the literature.
 use Rattle.std.specs.Prelude.{ℕ, ◌+◌, ◌*◌, ◌==◌, ◌&&◌, Bool, if◌then◌else◌, List, [], ◌∷◌, ◌++◌, length, map, flat_map, drop, Option, Some, None}
 use Rattle.std.specs.Bool.{beq}
 use Rattle.std.specs.List.{range_with_len, slice_index_or}

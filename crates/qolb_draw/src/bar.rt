@@ -1,4 +1,4 @@
-//! The state of a node at a line for some time, as a bar of a timeline.
+//! The bars of a timeline. Each bar shows the state of a node at a line over a range of commands.
 ghost use Rattle.std.specs.Prelude.{◌≡◌, not};
 ghost use Rattle.qolb_draw.specs.Svg as svg;
 ghost use Rattle.qolb_draw.specs.Shapes as spec;

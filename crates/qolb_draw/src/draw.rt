@@ -1,4 +1,4 @@
-//! Pictures of schedules.
+//! Draws the picture of a schedule.
 ghost use Rattle.std.specs.Prelude.{◌≡◌, Ok, IfOk, IfErr, max};
 ghost use Rattle.qolb_replay.specs.Outcome.{HasNoReply};
 ghost use Rattle.qolb_draw.specs.Pictures.{picture_of, picture_to, in_form};

@@ -1,4 +1,4 @@
-//! A command that was done, as a timeline shows it.
+//! An executed command, with the data that a timeline shows for it: its number in the script, and what it changed.
 use crate::symbol::Change;
 use qolb_script::Command;
 

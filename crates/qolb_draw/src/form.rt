@@ -1,4 +1,4 @@
-//! The form of a picture.
+//! The two forms of a picture.
 
 /// The form of a picture.
 #[derive(Clone, Copy, Debug, PartialEq, Eq)]

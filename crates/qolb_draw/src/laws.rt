@@ -1,4 +1,4 @@
-//! Laws of pictures. Each is the contract of a function that does nothing.
+//! Theorems about pictures. Each theorem is the contract of a function that does nothing.
 ghost use Rattle.qolb_draw.specs.Laws.{BarsCoverMarks, DrawnAsReplayed, ShapesLieWithin};
 ghost use Rattle.qolb_draw.specs.StepLaws.{BarsCoverPoints, StepShapesLieWithin};
 

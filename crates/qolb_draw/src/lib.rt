@@ -1,4 +1,4 @@
-//! Pictures of schedules and of step scripts, as text or as a timeline in SVG.
+//! Draws pictures of schedules and of step scripts, as plain text or as a timeline in SVG.
 #![tactic(auto)]
 
 mod bar;

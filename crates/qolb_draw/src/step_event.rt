@@ -1,4 +1,4 @@
-//! The shapes of an event in the picture of a step script.
+//! The shapes that represent one event in the picture of a step script.
 ghost use Rattle.std.specs.Prelude.{◌≡◌, ◌++◌, ◌+◌, ◌≤◌, ◌<◌, length, OnOk, IfOk};
 ghost use Rattle.qolb_model.specs.declared.config.TheConstants.{MAX_NODES};
 ghost use Rattle.qolb_script.specs.declared.schedule.TheConstants.{MAX_COMMANDS};

@@ -1,4 +1,4 @@
-//! The shapes of a step script's picture as an SVG.
+//! Writes the shapes of a step script's picture as SVG.
 ghost use Rattle.std.specs.Prelude.{◌≡◌, ◌++◌, ◌≤◌, OnOk};
 ghost use Rattle.qolb_model.specs.declared.config.TheConstants.{MAX_NODES};
 ghost use Rattle.qolb_script.specs.declared.schedule.TheConstants.{MAX_COMMANDS};

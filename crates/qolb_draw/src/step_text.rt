@@ -1,4 +1,4 @@
-//! The picture of a step script as plain text: the numbers of nodes, and a line for each event.
+//! Draws a step script as plain text: the numbers of the nodes, and then a line for each event.
 ghost use Rattle.std.specs.Prelude.{◌≡◌, ◌≤◌, ◌++◌, IfOk, OnOk};
 ghost use Rattle.std.specs.List.{range_with_len};
 ghost use Rattle.qolb_model.specs.declared.config.TheConstants.{MAX_NODES};

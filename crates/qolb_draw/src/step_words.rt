@@ -1,4 +1,4 @@
-//! The words of an event of a step script, a place and an entry.
+//! Writes an event of a step script, a place of the line, or an entry in words.
 ghost use Rattle.std.specs.Prelude.{◌≡◌, ◌++◌, OnOk};
 ghost use Rattle.qolb_script.specs.StepReply.{step_said};
 ghost use Rattle.qolb_draw.specs.StepSvg as spec;

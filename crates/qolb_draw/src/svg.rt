@@ -1,4 +1,4 @@
-//! The shapes of an SVG: those that both kinds of pictures have, and those of schedules.
+//! Writes shapes as SVG: those that all pictures use, and those of schedules.
 ghost use Rattle.std.specs.Prelude.{◌≡◌, ◌++◌, ◌≤◌, OnOk, IfOk, flat_map};
 ghost use Rattle.qolb_script.specs.declared.schedule.TheConstants.{MAX_COMMANDS};
 ghost use Rattle.qolb_words.specs.Words.{piece_text};

@@ -1,4 +1,4 @@
-//! Marks of a picture: the state of a node at a line after a command.
+//! The marks of a picture, each of which shows the state of a node at a line after a command.
 ghost use Rattle.std.specs.Prelude.{◌≡◌};
 ghost use Rattle.qolb_draw.specs.Marks as spec;
 

@@ -1,4 +1,4 @@
-//! The picture as plain text.
+//! Draws a schedule as plain text.
 ghost use Rattle.std.specs.Prelude.{◌≡◌, ◌++◌, ◌<◌, ◌≤◌, ◌*◌, ◌-◌, ◌+◌, length, map, All, OnOk, IfOk};
 ghost use Rattle.qolb_script.specs.declared.schedule.TheConstants.{MAX_COMMANDS, MAX_LINES};
 ghost use Rattle.qolb_draw.specs.declared.text.TheConstants.{COLUMNS};

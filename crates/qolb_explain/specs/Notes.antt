@@ -1,4 +1,5 @@
--- The notes on the answers `misuse` and `refused`: the node's state or point, and what that allows. (Of this project.)
+-- The notes on the answers `misuse` and `refused`: the state or the point of the node, and the calls or events that it
+-- allows. The definitions in this file were made for this project; none is taken from the literature.
 use Rattle.std.specs.Prelude.{◌≡◌, ℕ, ◌+◌, ◌==◌, ◌&&◌, if◌then◌else◌, List, [], ◌∷◌, ◌++◌, length, map, filter, flat_map, codes, Result, Ok, Err}
 use Rattle.std.specs.List.{range_with_len}
 use Rattle.line_lanes.specs.Line.{zeros}

@@ -1,4 +1,4 @@
-//! Complaints as text: the refused line, and what may stand there.
+//! Writes the complaint about a refused script: the refused line, and what would be allowed in its place.
 ghost use Rattle.std.specs.Prelude.{◌≡◌, ℕ, MatchOption};
 ghost use Rattle.qolb_script.specs.Text.{numbered_lines, worded};
 ghost use Rattle.qolb_explain.specs.Complaints.{IsAbout, line_at};

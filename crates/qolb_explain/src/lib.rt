@@ -1,4 +1,5 @@
-//! Explanations: what may stand where a script is refused, and what an answer `misuse` or `refused` means.
+//! Explains refused scripts and refused calls: what the script may contain at the refused place, and what an answer
+//! `misuse` or `refused` means.
 #![tactic(auto)]
 
 mod complaint;

@@ -1,4 +1,5 @@
-//! The words that are near others: what a word of another subcommand or of a library of locks means here.
+//! Finds the allowed word that a wrong word resembles, and explains words from other subcommands or from other lock
+//! libraries.
 use qolb_script::Allowed;
 
 /// More bytes than any word has that is near another.

@@ -1,4 +1,4 @@
-//! Notes on the misuses of a schedule: the node's state, and which commands that allows.
+//! Writes notes on the misused calls of a schedule: the state of the node, and the commands that this state allows.
 ghost use Rattle.std.specs.Prelude.{◌≡◌, ◌≤◌, ◌++◌, Ok, IfOk, OnOk};
 ghost use Rattle.qolb_model.specs.OneOwner.{OwnerState, opened};
 ghost use Rattle.qolb_model.specs.Plain.{Agrees};

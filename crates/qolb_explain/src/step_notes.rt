@@ -1,4 +1,4 @@
-//! Notes on the refused events of a step script: the node's point, and which events that allows.
+//! Writes notes on the refused events of a step script: the point of the node, and the events that this point allows.
 ghost use Rattle.std.specs.Prelude.{◌≡◌, ◌++◌, IfErr, IfOk, OnOk};
 ghost use Rattle.link_core.specs.State.{first, point};
 ghost use Rattle.link_core.specs.Steps.{IsRefused, node_of};

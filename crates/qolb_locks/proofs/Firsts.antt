@@ -1,4 +1,4 @@
--- The atomic steps of a ticket's first call, which makes its seat.
+-- Lemmas about the atomic steps of a ticket's first call, which creates its seat.
 use Rattle.std.proofs.Common.{◌≡◌, ℕ, ◌+◌, [], ◌∷◌, sym, ap, ◌∙◌, arith}
 use Rattle.lock_core.specs.declared.view.View.{View}
 use Rattle.qolb_locks.specs.declared.ticket.Ticket.{Ticket}

@@ -1,4 +1,4 @@
--- What a ticket owns of its lock.
+-- What a ticket owns of its lock in the proofs.
 use Rattle.std.specs.Prelude.{ℕ, List}
 use base.Fml.{Fml}
 use base.Stored.{Coded}

@@ -1,4 +1,4 @@
--- What a reference to a lock holds: nothing, or what a `&'static` to the lock holds, which can be copied.
+-- What a reference to a lock holds: nothing, or the same as a `&'static` to the lock, which can be copied.
 use Rattle.std.specs.Prelude.{[]}
 use base.Fml.{Fml, ftrue}
 use base.Stored.{Coded}

@@ -1,4 +1,5 @@
--- What a ticket has, and what it knows of its lock. The definitions are this project's own.
+-- The contents of a ticket, and what the ticket knows about its lock. The definitions in this file were made for this
+-- project; none is taken from the literature.
 use Rattle.std.specs.Prelude.{◌≡◌, ◌≢◌, ℕ, ◌==◌, if◌then◌else◌, ◌≤◌, [], ◌∷◌}
 use Rattle.lock_core.specs.declared.view.View.{View}
 use Rattle.lock_core.specs.Views.{max_newcomers_of, Timely, IsIdle, IsQueuedWithin, IsAsleep, IsAtTurn, HasTurnOf, IsInside, ServedOpen, ServedShut, KnowsShut}

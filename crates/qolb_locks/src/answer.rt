@@ -1,4 +1,4 @@
-//! The answers of the calls, as C gets them.
+//! The answers of the calls on locks, as C code receives them.
 
 /// The answer of a call. C reads it as this number.
 #[derive(Clone, Copy, Debug, PartialEq, Eq)]

@@ -1,6 +1,6 @@
-//! Barging: a thread takes the lock word without a number of the queue, and so overtakes the queue.
+//! Barging: a ticket takes the lock word without a number in the queue, and so its thread overtakes the queue.
 //!
-//! A thread that barges is a *newcomer* (`lock_core`).
+//! A thread that barges is called a *newcomer* (`lock_core`).
 ghost use Rattle.qolb_locks.specs.declared.answer.Answer.{Answer};
 ghost use Rattle.qolb_locks.specs.declared.ticket.State.{State};
 ghost use Rattle.qolb_locks.specs.Calls.{IsMisuse, OnlyEntry, StepsUpTo, StepsFirst, Barges};

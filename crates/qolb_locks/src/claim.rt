@@ -1,4 +1,4 @@
-//! A claim is what a ticket owns of its lock: a seat of the lock's table.
+//! A claim: what a ticket owns of its lock in the proofs, namely a seat of the lock's table.
 ghost use Rattle.std.specs.Prelude.{◌≡◌, ℕ, List, [], ◌∷◌};
 ghost use base.Stored.{coded_list};
 ghost use Rattle.atomic_table.specs.Seated.{TableId, table_id_coded};

@@ -1,4 +1,4 @@
-//! The queue head takes the lock word, requests a handoff, and announces its sleep there.
+//! The calls of the queue head: it takes the lock word, requests a handoff, and announces that it sleeps on the word.
 ghost use Rattle.lock_core.specs.Views.{SameRequest};
 ghost use Rattle.qolb_locks.specs.declared.answer.Answer.{Answer};
 ghost use Rattle.qolb_locks.specs.declared.ticket.State.{State};

@@ -1,7 +1,7 @@
-//! Locks of `lock_core` behind handles for C. A caller has a reference to the lock, and a ticket of its own.
+//! The locks of `lock_core`, behind handles for C code. A caller has a reference to the lock, and a ticket of its own.
 //!
 //! Each call first checks the state of the ticket. If that state does not allow the call, the answer is `Misuse` and
-//! nothing changes. Each call takes a bounded number of atomic steps, and none waits.
+//! nothing changes. Each call takes a bounded number of atomic steps, and no call waits.
 #![tactic(auto)]
 
 mod answer;

@@ -1,4 +1,4 @@
-//! The type of a lock, as its callers share it.
+//! The type of a lock that several callers share.
 ghost use Rattle.std.specs.Prelude.{◌≡◌};
 ghost use Rattle.lock_core.specs.Layout.{IsLockTable};
 

@@ -1,4 +1,4 @@
-//! A reference to a lock, which C may copy and share between threads. The lock that it refers to is never freed.
+//! A reference to a lock, which C code may copy and share between threads. The lock itself is never freed.
 ghost use Rattle.std.specs.Prelude.{◌≡◌};
 ghost use Rattle.std.specs.declared.option.Option.{Option};
 ghost use Rattle.std.specs.declared.option.Option.TheVariants.{None, Some};

@@ -1,7 +1,7 @@
 //! The theorems about two tickets of one lock.
 //!
-//! Each function says that two such tickets can meet only if more requests were open at the lock than its proofs allow.
-//! No program calls these functions, but a proof about callers may.
+//! Each function states that two tickets can be in the stated situation only if more requests were open at the lock
+//! than the proofs allow. No program calls these functions, but a proof about callers may use them.
 ghost use Rattle.std.specs.Prelude.{◌≡◌, ◌<◌, ◌≤◌};
 ghost use Rattle.lock_core.specs.Meets.{IsWaiting, IsWaitingOpen, IsWaitingShut, IsStillAsleep, GrantedToNobodyAsleepAt, HadPlaceOf};
 ghost use Rattle.lock_core.specs.Views.{Timely, NeverInTime, HasTurn, KnowsShut, LeftQuietly, ServedOpen, SleepsAtLockWord};

@@ -1,4 +1,4 @@
-//! Opening: a lock is made for C.
+//! Opens a lock for C code.
 ghost use Rattle.std.specs.Prelude.{◌≡◌, ◌≢◌, ◌≤◌, max};
 ghost use Rattle.lock_core.specs.Answers.{barging_limit_of};
 ghost use Rattle.lock_core.specs.Layout.{max_barging_limit};

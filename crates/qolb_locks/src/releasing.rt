@@ -1,4 +1,4 @@
-//! Releases: the ticket at its turn grants the next number, and the ticket that holds the lock word leaves it.
+//! Releases: a ticket that has the turn grants the next number, and a ticket that holds the lock word leaves it.
 ghost use Rattle.std.specs.Prelude.{◌≡◌, ◌+◌, ◌%◌, ◌^◌, true, false};
 ghost use Rattle.lock_core.specs.Layout.{max_passed};
 ghost use Rattle.lock_core.specs.Views.{HasEnded, HasTurnOf, IsIdle};

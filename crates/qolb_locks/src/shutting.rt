@@ -1,4 +1,4 @@
-//! Closing: a ticket shuts the lock, looks whether it is open, and reopens it.
+//! Shutting and reopening: a ticket shuts the lock, checks whether the lock is open, and reopens it.
 ghost use Rattle.std.specs.Prelude.{◌≡◌, ◌≢◌, ◌+◌, ◌-◌, ◌%◌, ◌^◌, true, false};
 ghost use Rattle.lock_core.specs.Views.{HasTurnOf, ServedOpen, ServedShut};
 ghost use Rattle.qolb_locks.specs.declared.ticket.State.{State};

@@ -1,4 +1,4 @@
-//! A ticket: the request of one caller, in memory that C holds.
+//! A ticket, which represents the request of one caller and lies in memory of the C code.
 ghost use Rattle.std.specs.Prelude.{◌≡◌, ◌<◌, ◌≤◌, true, false};
 ghost use Rattle.qolb_locks.specs.declared.answer.Answer.{Answer};
 ghost use Rattle.qolb_locks.specs.Calls.{IsHead};

@@ -1,4 +1,4 @@
--- Each answer of a call gives the whole of what the call promises of its port.
+-- Proof that each answer of a call implies everything that the call guarantees about its port.
 use Rattle.std.proofs.Common.{◌≡◌, ℕ, List, inl, inr, refl}
 use Rattle.qolb_model.specs.declared.answer.Enq.{Enq}
 use Rattle.qolb_model.specs.declared.answer.Enq.TheVariants as enq

@@ -1,4 +1,4 @@
--- Each call of a plain line: its answer, the moves that it makes, and the state that it leaves.
+-- Lemmas about each call of a plain line: its answer, the moves that it makes, and the state after it.
 use Rattle.std.proofs.Common.{◌≡◌, ℕ, ◌≤◌, Bool, true, false, not, ◌&&◌, if◌then◌else◌, List, [], ◌∷◌, ◌++◌, map, refl, ap, sym, ◌∙◌, subst}
 use Rattle.std.specs.List.{list_any}
 use Rattle.qolb_model.specs.declared.answer.Poll.{Poll}

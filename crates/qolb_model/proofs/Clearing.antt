@@ -1,4 +1,4 @@
--- How clear lists grow.
+-- Lemmas about how clear lists grow.
 use Rattle.std.proofs.Common.{◌≡◌, ℕ, ◌<◌, ◌≤◌, inl, inr, false, true, List, [], ◌∷◌, ◌++◌, Some, slice_get, subst, sym, arith}
 use mathlib.Core.List.{IsPrefix}
 use Rattle.qolb_model.specs.declared.request.Request.{Request}

@@ -1,4 +1,4 @@
--- How many requests of a line's nodes are in a list.
+-- Lemmas about how many requests of a line's nodes a list contains.
 use Rattle.std.proofs.Common.{◌≡◌, ◌≢◌, ℕ, zero, suc, ◌+◌, ◌<◌, ◌≤◌, List, [], ◌∷◌, length, Bool, cond, eqb, sym, refl, ap, ◌∙◌, arith, zero-add, eq-eqb, ne_eqb, Some, slice_get}
 use mathlib.Core.Logic.{dite}
 use native.Mathlib.Decide.{ℕ_discrete}

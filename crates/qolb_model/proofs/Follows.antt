@@ -1,5 +1,5 @@
--- A port's call on a line whose other ports know its whole history. The answer is the one that the state of one owner
--- gives, and what the port knows afterwards is the state that the call leaves.
+-- Proof about a port's call on a line whose other ports know its whole history. The call gives the answer that a single
+-- owner would get, and what the port knows afterwards is the state after the owner's call.
 use Rattle.std.proofs.Common.{◌≡◌, ◌≢◌, ℕ, ◌≤◌, ◌==◌, ◌⊎◌, inl, inr, Bool, true, false, ◌&&◌, ◌||◌, if◌then◌else◌, List, [], ◌∷◌, ◌++◌, length, Some, slice_get, refl, ap, sym, ◌∙◌, subst, arith}
 use Rattle.std.specs.Option.{option_map_or}
 use Rattle.std.proofs.Math.Bool.{or-false}

@@ -1,4 +1,4 @@
--- What two ports know once each has learned what the other knew.
+-- Lemmas about what two ports know after each has learned what the other one knew.
 use Rattle.std.proofs.Common.{ℕ, inl, inr, List, [], ◌∷◌, refl, sym, subst}
 use Rattle.std.proofs.lemmas.List.Folds.{list_any-append}
 use Rattle.qolb_model.specs.declared.view.View.{View}

@@ -1,4 +1,4 @@
--- How many requests end before a node's own request.
+-- Lemmas about how many requests end before a node's own request.
 use Rattle.std.proofs.Common.{◌≡◌, ℕ, ◌+◌, ◌<◌, ◌≤◌, List, ◌∷◌, [], length, drop, Some, slice_get, sym, ap, ◌∙◌, arith, length-drop}
 use Rattle.std.proofs.lemmas.Option.{slice_get_within}
 use Rattle.qolb_model.specs.declared.request.Request.{Request}

@@ -1,6 +1,6 @@
--- A port releases its line, or forwards it because it was told that the line is closed, and the other ports know the
--- line's whole history. The release passed the requests that the state of one owner passes, and what the port knows
--- afterwards is the state that the release leaves.
+-- Proof about a port that releases its line, or forwards it because the line is closed, while the other ports know the
+-- line's whole history. The release skips the requests that the release of a single owner would skip, and what the port
+-- knows afterwards is the state after the owner's release.
 use Rattle.std.proofs.Common.{◌≡◌, ◌≢◌, ℕ, zero, suc, ◌+◌, ◌<◌, ◌≤◌, inl, inr, true, false, if◌then◌else◌, List, [], ◌∷◌, ◌++◌, length, drop, replicate, Some, slice_get, refl, ap, sym, ◌∙◌, subst, arith, append_assoc, length-append}
 use Rattle.std.proofs.lemmas.Bool.{cases_eq, cases_order, false_from_ne_true}
 use Rattle.std.proofs.lemmas.List.{length-replicate, length-drop}

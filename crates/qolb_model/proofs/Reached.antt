@@ -1,4 +1,4 @@
--- A property of all states that one owner's calls can reach holds after each call.
+-- Proof that a property of all states which a single owner's calls can reach holds after each call.
 use Rattle.std.proofs.Common.{◌≡◌, ℕ, ◌≤◌, Bool, true, false, List, map, refl, ◌∙◌}
 use Rattle.qolb_model.specs.declared.answer.Poll.{Poll}
 use Rattle.qolb_model.specs.declared.answer.Poll.TheVariants as poll

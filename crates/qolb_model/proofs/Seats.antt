@@ -1,4 +1,4 @@
--- The entries of nodes stay in the seats of their table: when seats begin, when they are split and joined, and when
+-- Proof that the entries of nodes stay in the seats of their table when seats are created, split or joined, and when
 -- entries change.
 use Rattle.std.proofs.Common.{◌≡◌, ◌≢◌, ◌⊎◌, ℕ, zero, suc, ◌+◌, ◌-◌, ◌<◌, ◌≤◌, List, [], ◌∷◌, ◌++◌, length, set, slice_get, sym, refl, ap, ◌∙◌, subst, inl, inr, ⊎_elim, arith, length-set, Some}
 use mathlib.Core.Logic.{dite}

@@ -1,4 +1,4 @@
--- A function that is changed at one number.
+-- Lemmas about a function whose value is changed at one number.
 use Rattle.std.proofs.Common.{◌≡◌, ◌≢◌, ℕ, refl}
 use native.Mathlib.Decide.{ℕ_discrete}
 

@@ -1,4 +1,5 @@
--- The waiting nodes are distinct, and no more than the line has nodes, after every step.
+-- Proof that after every step the waiting nodes are distinct, so that there are no more of them than the line has
+-- nodes.
 use Rattle.std.proofs.Common.{◌≡◌, ℕ, ◌+◌, ◌<◌, ◌≤◌, ◌==◌, eqb, inl, inr, Bool, true, false, ◌||◌, cond, if◌then◌else◌, List, [], ◌∷◌, ◌++◌, map, length, take, drop, Some, refl, ap, sym, ◌∙◌, arith, Option}
 use Rattle.std.specs.List.{list_any, find, IsDistinct, AllByRecursion}
 use Rattle.std.specs.Option.{is_some}

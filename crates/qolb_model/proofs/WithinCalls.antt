@@ -1,4 +1,4 @@
--- The atomic steps of several calls of a port.
+-- Lemmas about the atomic steps of several calls of a port.
 use Rattle.std.proofs.Common.{◌≡◌, ℕ, ◌+◌, ◌*◌, ◌≤◌, ap, sym, ◌∙◌, arith}
 use Rattle.std.proofs.Math.Nat.{add-mul}
 use Rattle.qolb_model.specs.Counting.{Counters, IsWithinCalls}

@@ -1,4 +1,4 @@
--- The bytes that ends leave, and the data invariant that they keep.
+-- Lemmas about the line's bytes after each end, and about the data invariant that these bytes satisfy.
 use Rattle.std.proofs.Common.{◌≡◌, ℕ, zero, suc, Bool, true, false, List, [], ◌∷◌, ◌++◌, replicate, filter, refl, ◌∙◌}
 use Rattle.qolb_model.specs.declared.write.Write.{Write}
 use Rattle.qolb_model.specs.declared.end.End.{End}

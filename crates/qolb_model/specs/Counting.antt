@@ -1,4 +1,4 @@
--- The counters of a port: how many atomic steps and polls its calls took.
+-- The counters of a port, which record how many atomic steps and polls its calls have taken.
 use Rattle.std.specs.Prelude.{◌≡◌, ◌+◌, ◌*◌, ◌≤◌, ℕ, Bool}
 use Rattle.qolb_model.specs.declared.answer.Enq.{Enq}
 use Rattle.qolb_model.specs.declared.answer.Poll.{Poll}

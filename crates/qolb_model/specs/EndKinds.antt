@@ -1,4 +1,4 @@
--- The kinds of ends: a request is served, withdrawn, or notified that the line is closed.
+-- The three ways in which a request can end: it is served, withdrawn, or notified that the line is closed.
 use Rattle.std.specs.Prelude.{Bool, true, false}
 use Rattle.qolb_model.specs.declared.end.End.{End}
 use Rattle.qolb_model.specs.declared.end.End.TheVariants.{Served, Gone, Told}

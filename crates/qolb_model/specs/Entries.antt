@@ -1,5 +1,5 @@
--- The entries of a line's nodes in the seats of its table. Each node has one entry, at one place of one seat. The
--- definitions are this project's own.
+-- The entries of a line's nodes in the seats of its table. Each node has one entry, which is in one place of one seat.
+-- The definitions in this file were made for this project; none is taken from the literature.
 use Rattle.std.specs.Prelude.{◌≡◌, ℕ, zero, suc, ◌<◌, ◌≤◌, List, [], ◌∷◌, slice_get, Some}
 use mathlib.Core.Option.{some}
 use lib.ListN.{get_elem?}

@@ -1,4 +1,5 @@
--- Finishing a line, which takes the ports of all its nodes. The definitions are this project's own.
+-- Finishing a line, which takes the ports of all its nodes. The definitions in this file were made for this project;
+-- none is taken from the literature.
 use Rattle.std.specs.Prelude.{◌≡◌, ◌≢◌, ℕ, zero, suc, ◌<◌, ◌≤◌, true, false, List, length, slice_get, Some}
 use Rattle.qolb_model.specs.declared.unfinished.FinishError.{FinishError}
 use Rattle.qolb_model.specs.declared.unfinished.FinishError.TheVariants.{Memory, Unquiet, Missing}

@@ -1,5 +1,5 @@
--- A history of a line is an order of requests, together with the ends of the first of them. The definitions are this
--- project's own.
+-- A history of a line: the order in which requests were made, and how the first requests in this order ended. The
+-- definitions in this file were made for this project; none is taken from the literature.
 use Rattle.std.specs.Prelude.{◌≡◌, ℕ, ◌+◌, ◌<◌, ◌≤◌, List, ◌++◌, [], ◌∷◌, length, take, drop, Option, Some, slice_get}
 use Rattle.qolb_model.specs.declared.request.Request.{Request}
 use Rattle.qolb_model.specs.declared.end.End.{End}

@@ -1,4 +1,5 @@
--- What it means that all turns of a line keep its data invariant. The definitions are this project's own.
+-- Defines when all turns of a line preserve the line's data invariant. The definitions in this file were made for this
+-- project; none is taken from the literature.
 use Rattle.std.specs.Prelude.{ℕ, List, [], ◌∷◌}
 use Rattle.qolb_model.specs.declared.write.Write.{Write}
 use Rattle.qolb_model.specs.declared.end.End.{End}

@@ -1,5 +1,5 @@
 -- Leases: a program may open a line with a limit on the number of served turns, and the last of these turns closes the
--- line. The definitions are this project's own.
+-- line. The definitions in this file were made for this project; none is taken from the literature.
 use Rattle.std.specs.Prelude.{ℕ, ◌+◌, ◌-◌, ◌≤◌, ◌==◌, Bool, false, ◌||◌, List, Option, Some, None, count_by}
 use Rattle.qolb_model.specs.declared.end.End.{End}
 use Rattle.qolb_model.specs.EndKinds.{is_served}

@@ -1,4 +1,5 @@
--- The views of several ports are of one history if they are all true of it. The definitions are this project's own.
+-- Views of several ports that belong to one history, which means that this history makes all of them true. The
+-- definitions in this file were made for this project; none is taken from the literature.
 use Rattle.std.specs.Prelude.{◌≡◌, ℕ, ◌≤◌, false, List, [], length, slice_get, Some}
 use mathlib.Core.List.{IsPrefix}
 use Rattle.qolb_model.specs.declared.answer.PortState.TheVariants.{Holding}

@@ -1,4 +1,4 @@
--- The states of a port.
+-- The possible states of a port.
 use Rattle.std.specs.Prelude.{Bool, true, false}
 use Rattle.qolb_model.specs.declared.answer.PortState.{PortState}
 use Rattle.qolb_model.specs.declared.answer.PortState.TheVariants.{Idle, Linking, Queued, Holding, Left, Rolled, Shut}

@@ -1,6 +1,6 @@
 -- Requests, and the order in which they were made. A requester puts itself at the head of the line's list, and the
--- oldest requester is at the tail. An order is a list with the oldest request first, and places are counted from 0.
--- (The sharing list is from IEEE Std 1596-1992, and queueing at it from Goodman, Vernon and Woest, 1989.)
+-- oldest requester is at the tail. An order is a list in which the oldest request is first, and places are counted from
+-- 0. (The sharing list is from IEEE Std 1596-1992, and using it as a queue is from Goodman, Vernon and Woest, 1989.)
 use Rattle.std.specs.Prelude.{◌≡◌, ◌≢◌, ℕ, ◌+◌, ◌<◌, ◌≤◌, ◌==◌, ◌&&◌, Bool, true, false, List, count_by, Some, slice_get}
 use Rattle.std.specs.List.{list_any}
 use Rattle.qolb_model.specs.declared.request.Request.{Request}

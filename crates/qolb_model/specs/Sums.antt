@@ -1,4 +1,5 @@
--- Sums over the turns of a line, and over the turns of one port. The definitions are this project's own.
+-- Sums over all turns of a line, and over the turns of one port. The definitions in this file were made for this
+-- project; none is taken from the literature.
 use Rattle.std.specs.Prelude.{◌≡◌, ℕ, ◌+◌, ◌==◌, if◌then◌else◌, List, [], ◌∷◌, take, slice_get, Bool, Some}
 use Rattle.qolb_model.specs.declared.request.Request.{Request}
 use Rattle.qolb_model.specs.declared.end.End.{End}

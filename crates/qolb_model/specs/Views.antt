@@ -1,4 +1,5 @@
--- What a port knows of its line (its view), and how that knowledge grows. The definitions are this project's own.
+-- The view of a port, which is what the port knows about its line, and how this knowledge grows. The definitions in
+-- this file were made for this project; none is taken from the literature.
 use Rattle.std.specs.Prelude.{◌≡◌, ℕ, List}
 use mathlib.Core.List.{IsPrefix}
 use Rattle.qolb_model.specs.declared.request.Request.{Request}

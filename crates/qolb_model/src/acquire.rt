@@ -1,4 +1,4 @@
-//! Acquiring a line with a bounded number of polls.
+//! Acquires a line with a bounded number of polls.
 ghost use Rattle.std.specs.Prelude.{◌≡◌, ◌≤◌, ◌+◌, IsTrue};
 ghost use Rattle.qolb_model.specs.PortStates.{may_ask};
 ghost use Rattle.qolb_model.specs.Calls.{Withdraws};

@@ -1,4 +1,4 @@
-//! The answers of a line's calls, and the states of a port.
+//! The answers of the calls on a line, and the states of a port.
 ghost use Rattle.std.specs.Prelude.{◌≡◌};
 ghost use Rattle.qolb_model.specs.PortStates.{may_ask};
 

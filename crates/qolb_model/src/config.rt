@@ -1,4 +1,4 @@
-//! The configuration with which a line is opened.
+//! The configuration with which a program opens a line.
 ghost use Rattle.std.specs.Prelude.{◌≢◌, MatchResult};
 ghost use Rattle.qolb_model.specs.Opening.{MayOpen, MayNotOpen};
 

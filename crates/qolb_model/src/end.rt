@@ -1,4 +1,4 @@
-//! The ends that a request can have.
+//! The ways in which a request can end.
 use crate::write::Write;
 
 /// The end of a request.

@@ -1,4 +1,4 @@
-//! The data invariant of a line. The program that opens the line chooses it.
+//! The data invariant of a line, which the program that opens the line chooses.
 ghost use Rattle.std.specs.Prelude.{List, ℕ};
 
 /// The data invariant of a line: which bytes are good, and which changes a turn may make.

@@ -1,8 +1,8 @@
-//! The specification of a queued line, against which every kind of line is proved.
+//! The specification of a queued line. Every kind of line is proved to satisfy it.
 //!
-//! It defines requests, their ends, and the bytes after these ends; the queue as a state machine; and a plain line with
-//! one owner, which runs that machine. The trait `LineSync` has the calls of a shared line, and its contracts say what
-//! each call promises to the node that makes it.
+//! The crate defines requests, the ways in which they end, and the bytes of the line after these ends. It defines the
+//! queue as a state machine, and a plain line with one owner, which executes that machine. The trait `LineSync` has the
+//! calls of a shared line, and its contracts state what each call guarantees to the node that makes it.
 #![tactic(auto)]
 
 mod acquire;

@@ -1,4 +1,4 @@
-//! The trait of lines on which a waiter can park.
+//! The trait for lines on which a waiting thread can park.
 ghost use Rattle.std.specs.Prelude.{◌≡◌};
 
 use crate::answer::PortState;

@@ -1,4 +1,4 @@
-//! The number of polls of a port. It is ghost state, which only proofs read.
+//! Counts the polls of a port. The count is ghost state, which exists only in proofs.
 ghost use Rattle.std.specs.Prelude.{◌≡◌, ℕ, ◌+◌};
 ghost use Rattle.std.specs.Borrow.{ftrue};
 

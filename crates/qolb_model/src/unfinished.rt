@@ -1,4 +1,4 @@
-//! What `finish` returns if it could not finish a line: the line, its ports, and the cause.
+//! What `finish` returns if it could not finish a line: the line, its ports, and the reason.
 ghost use Rattle.std.specs.Prelude.{◌≡◌, ℕ};
 
 /// Why a line could not be finished.

@@ -1,4 +1,4 @@
-//! The entry of a waiting node in a plain line.
+//! The record that a plain line keeps for each waiting node.
 
 /// An entry of a waiting node, and whether the node has withdrawn.
 #[derive(Clone, Copy, Debug, Default, PartialEq, Eq)]

@@ -1,4 +1,4 @@
--- One poll is a wait of one poll.
+-- Proof that one poll is the same as a wait that makes a single poll.
 use Rattle.std.proofs.Common.{arith}
 use Rattle.qolb_nodes.specs.declared.answer.Answer.{Answer}
 use Rattle.qolb_nodes.specs.declared.any_node.AnyNode.{AnyNode}

@@ -1,4 +1,5 @@
--- The answers of the calls of a node, by the answers of its line. The definitions are this project's own.
+-- How the answers of calls on a node follow from the answers of its line. The definitions in this file were made for
+-- this project; none is taken from the literature.
 use Rattle.std.specs.Prelude.{Bool, true, false}
 use Rattle.qolb_model.specs.declared.answer.Enq.{Enq}
 use Rattle.qolb_model.specs.declared.answer.Enq.TheVariants as enq

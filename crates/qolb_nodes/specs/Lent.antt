@@ -1,4 +1,5 @@
--- A handle that lends its node to a call. The definitions are this project's own.
+-- A handle that lends its node to a call. The definitions in this file were made for this project; none is taken from
+-- the literature.
 use Rattle.std.specs.Prelude.{Option, Some}
 use Rattle.std.specs.Borrow.{Fml, MutBor, LendsIf}
 use Rattle.qolb_nodes.specs.contracts.any_node.AnyNode as node

@@ -1,5 +1,6 @@
--- What a node of any kind of line is and promises, as the definitions see it. This file has the only match over the
--- kinds, and their list. The definitions are this project's own.
+-- The properties of a node of any kind of line that the definitions use. Only this file lists the kinds and
+-- distinguishes between them. The definitions in this file were made for this project; none is taken from the
+-- literature.
 use Rattle.std.specs.Prelude.{ℕ, List, [], ◌∷◌}
 use Rattle.qolb_model.specs.declared.view.View.{View}
 use Rattle.line_generic.specs.declared.discipline.Discipline as discipline

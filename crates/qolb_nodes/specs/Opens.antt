@@ -1,4 +1,5 @@
--- The results of opening a line for C, and the causes of a refusal. The definitions are this project's own.
+-- The results of opening a line for C code, and the reasons why a line is not opened. The definitions in this file were
+-- made for this project; none is taken from the literature.
 use Rattle.std.specs.Prelude.{◌≡◌, ◌≢◌, ◌⊎◌, ℕ, ◌<◌, ◌≤◌, ◌==◌, if◌then◌else◌, List, [], ◌∷◌, ◌++◌, map, drop, length, slice_get, Option, Some, None}
 use Rattle.std.specs.List.{All}
 use Rattle.qolb_model.specs.declared.answer.OpenError.{OpenError}

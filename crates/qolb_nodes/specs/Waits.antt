@@ -1,4 +1,5 @@
--- The words on which the nodes of a line wait, as numbers for C. The definitions are this project's own.
+-- The words on which the nodes of a line wait, as numbers for C code. The definitions in this file were made for this
+-- project; none is taken from the literature.
 use Rattle.std.specs.Prelude.{ℕ, Option}
 use Rattle.qolb_model.specs.declared.view.View.{View}
 use Rattle.qolb_nodes.specs.declared.any_node.AnyNode.{AnyNode}

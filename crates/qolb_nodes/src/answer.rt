@@ -1,4 +1,4 @@
-//! The answers of calls, as C gets them.
+//! The answers of the calls on nodes, as C code receives them.
 ghost use Rattle.std.specs.Prelude.{◌≡◌};
 ghost use Rattle.qolb_nodes.specs.Answers.{enq_told, prep_told, poll_told, out_told, clear_told};
 

@@ -1,4 +1,4 @@
-//! The handle of a node for C: a pointer, which is null if there is no node.
+//! The handle by which C code refers to a node: a pointer, which is null if there is no node.
 ghost use Rattle.std.specs.Prelude.{◌≡◌, true, false};
 ghost use Rattle.std.specs.Option.{MatchOption};
 ghost use Rattle.std.specs.declared.option.Option.{Option};

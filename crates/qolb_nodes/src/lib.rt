@@ -1,7 +1,7 @@
-//! Nodes of lines of any kind for programs in C. Each node is behind a handle of one pointer.
+//! Nodes of lines of any kind, for programs in C. C code refers to each node by a handle, which is one pointer.
 //!
-//! Each call of a node first checks the node's state. If that state does not allow the call, the answer is `Misuse` and
-//! nothing changes. The exports of `qolb_c` call these functions, and name no kind of line.
+//! Each call on a node first checks the node's state. If that state does not allow the call, the answer is `Misuse` and
+//! nothing changes. The functions that `qolb_c` exports call these functions, and so need not know the kind of line.
 #![tactic(auto)]
 
 mod answer;

@@ -1,4 +1,4 @@
-//! Opening a line for C.
+//! Opens a line for C code.
 ghost use Rattle.std.specs.Prelude.{◌≡◌, ◌≢◌, ◌≤◌, ◌++◌, ℕ, true, false, length, map, drop, Some, None, IsTrue, IfOk, IfErr};
 ghost use Rattle.qolb_model.specs.Opening.{MayOpen, MayNotOpen};
 ghost use Rattle.qolb_nodes.specs.Opens.{AreOfLine, held_by, AreEmpty, HasNode, AreOpened, WhyRefused, refused_by};

@@ -1,4 +1,5 @@
--- Commands at a line by ports that all meet: each answer, and the state after it, are those of one owner.
+-- Proof about commands on a line whose ports all meet: the answer to each command, and the state after it, are those of
+-- a single owner.
 use Rattle.std.proofs.Common.{◌≡◌, ℕ, ◌+◌, ◌<◌, Bool, true, false, if◌then◌else◌, List, [], ◌∷◌, ◌++◌, map, length, get_or, set, option_map, Some, slice_get, refl, sym, ap, ◌∙◌, subst}
 use Rattle.std.proofs.lemmas.List.{map-set}
 use Rattle.std.proofs.lemmas.Option.{slice_get-map}

@@ -1,4 +1,4 @@
--- What a command does at a line by the port of its node.
+-- How a command changes a line when the port of the command's node executes it.
 use Rattle.std.specs.Prelude.{◌≡◌, ℕ, ◌+◌, true, false, List, Some, slice_get, slice_set}
 use Rattle.qolb_model.specs.declared.answer.Enq.{Enq}
 use Rattle.qolb_model.specs.declared.answer.Poll.{Poll}

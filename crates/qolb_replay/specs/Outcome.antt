@@ -1,4 +1,4 @@
--- How a replay of some bytes ends.
+-- The outcome of a replay whose script consists of given bytes.
 use Rattle.std.specs.Prelude.{◌≡◌, ◌≢◌, ◌<◌, ◌≤◌, ◌⊎◌, ◌↔◌, ℕ, true, false, List, length, Option, Result, Ok, Err, OnOk, IfErr, IfSome}
 use Rattle.std.specs.Io.KnownBytes.{Appends}
 use Rattle.qolb_replay.specs.declared.replay.ReplayError.{ReplayError}

@@ -1,4 +1,4 @@
--- A line of a replay, with the counts of its answers.
+-- A line of a replay, together with the counts of its answers.
 use Rattle.std.specs.Prelude.{◌≡◌, ℕ, ◌+◌, ◌<◌, ◌≤◌, Bool, if◌then◌else◌, List, length}
 use Rattle.std.specs.List.{slice_index_or}
 use Rattle.qolb_model.specs.OneOwner.{OwnerState}

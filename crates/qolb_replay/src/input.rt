@@ -1,4 +1,4 @@
-//! Reading the whole input before anything else is done.
+//! Reads the whole input of a replay before the replay begins.
 ghost use Rattle.std.specs.Prelude.{◌≡◌, ◌≢◌, ◌↔◌, ◌<◌, ◌≤◌, true, length, IfOk, IfSome, Err, vec_len};
 ghost use Rattle.qolb_script.specs.declared.error.ScriptError.{ScriptError};
 ghost use Rattle.qolb_script.specs.Watched.{inner_of, has_failed};

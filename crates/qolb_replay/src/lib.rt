@@ -1,4 +1,5 @@
-//! Replays of scripts over queued lines of any type: schedules, and steps on the core of reversed links.
+//! Replays scripts on queued lines of any kind. A script is a schedule, or a sequence of single steps of the link
+//! line's core.
 #![tactic(auto)]
 
 mod input;

@@ -1,4 +1,5 @@
-//! The lines of a replay: the interface by which it calls one, a line that each node calls through its own port, and the counts of its answers.
+//! The lines of a replay: the interface by which a replay calls a line, a line that each node calls through its own
+//! port, and the counts of the answers.
 ghost use Rattle.std.specs.Prelude.{◌≡◌, ℕ, ◌<◌, ◌≤◌, ◌||◌, length, map, All};
 ghost use Rattle.qolb_model.specs.OneOwner.{OwnerState, opened, state_of};
 ghost use Rattle.qolb_model.specs.Opening.{AreNew, MayOpen};

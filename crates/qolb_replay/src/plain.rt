@@ -1,4 +1,4 @@
-//! The plain line in a replay.
+//! Implements the interface of a replay's lines (`ReplayLine`) for the plain line.
 ghost use Rattle.std.specs.Prelude.{◌≡◌, ◌≤◌};
 ghost use Rattle.qolb_model.specs.OneOwner.{OwnerState};
 ghost use Rattle.qolb_model.specs.Plain.{Agrees};

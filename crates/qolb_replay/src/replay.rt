@@ -1,4 +1,4 @@
-//! Replays of schedules: what is said of each command, and then of each line.
+//! Replays schedules: it writes the answer to each command, and then the counts of each line.
 ghost use Rattle.std.specs.Prelude.{◌≡◌, ℕ, List, length, Ok, Err, IfOk, IfErr};
 ghost use Rattle.qolb_script.specs.Script.{IsBegun};
 ghost use Rattle.qolb_script.specs.Reply.{config_of, replay_start, reply_of, reply_to};

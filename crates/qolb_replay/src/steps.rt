@@ -1,4 +1,4 @@
-//! Runs of step scripts on the list's core: what each event tells, and then the line's counts.
+//! Runs step scripts on the link line's core: it writes the result of each event, and then the counts of the line.
 ghost use Rattle.std.specs.Prelude.{◌≡◌, ◌≤◌, ℕ, List, Option, length, Ok, Err, OnOk, OnErr, IfOk, IfErr, ◌++◌};
 ghost use Rattle.qolb_script.specs.StepReply.{step_said};
 ghost use Rattle.qolb_script.specs.StepScript.{AreBegun, StepScript, steps_of};

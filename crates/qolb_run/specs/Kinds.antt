@@ -1,4 +1,5 @@
--- What is said of each lock: the kinds that name it, and a property of work. (Of this project.)
+-- How the names of the kinds of lines are related, and how a property is stated for the kind that a name selects. The
+-- definitions in this file were made for this project; none is taken from the literature.
 use Rattle.std.specs.Prelude.{Option, Some, None}
 use Rattle.line_kinds.specs.declared.Lock.{Lock}
 use Rattle.line_kinds.specs.declared.Lock.TheVariants as lock

@@ -1,4 +1,4 @@
--- How a task with some bytes for its script ends.
+-- The outcome of a task whose script consists of given bytes.
 use Rattle.std.specs.Prelude.{◌≡◌, ◌≢◌, ◌<◌, ◌≤◌, ◌⊎◌, ℕ, List, length, Ok, Err}
 use Rattle.qolb_replay.specs.declared.replay.ReplayError.{ReplayError}
 use Rattle.qolb_replay.specs.declared.replay.ReplayError.TheVariants as error

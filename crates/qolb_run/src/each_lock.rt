@@ -1,4 +1,4 @@
-//! What names each lock: the kinds of a replay and of work, and what is promised of work.
+//! Maps the name of each kind of line to its type, for replays and for work scripts.
 ghost use Rattle.std.specs.Prelude.{◌≡◌};
 ghost use Rattle.qolb_script.specs.declared.report.Report.{Report};
 ghost use Rattle.qolb_script.specs.WorkScript.{WorkScript};

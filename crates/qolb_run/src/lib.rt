@@ -1,5 +1,5 @@
-//! Runs over queued lines by the names of locks: workers that share lines, and replays of scripts. What `line_blocking`, `qolb_replay` and
-//! `qolb_work` have is given on under the same names.
+//! Runs scripts on lines whose kind is chosen by name: workers that share lines, and replays. The crate also re-exports
+//! the public items of `line_blocking`, `qolb_replay` and `qolb_work`.
 #![tactic(auto)]
 
 mod each_lock;

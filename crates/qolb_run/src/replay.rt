@@ -1,4 +1,4 @@
-//! Replays of schedules by lines of each kind.
+//! Replays schedules on lines of each kind.
 ghost use Rattle.std.specs.Prelude.{◌≡◌, Ok, Err, IfOk, IfErr};
 ghost use Rattle.qolb_script.specs.Reply.{reply_to};
 ghost use Rattle.qolb_script.specs.Script.{IsBegun};

@@ -1,4 +1,4 @@
-//! Work scripts: from the bytes of the script to the text of the report.
+//! Executes a work script: it reads the bytes of the script and returns the text of the report.
 ghost use Rattle.std.specs.Prelude.{◌≡◌, ◌≤◌, ℕ, length, Ok, Err, IfOk, IfErr};
 ghost use Rattle.qolb_replay.specs.declared.input.TheConstants.{MAX_BYTES};
 ghost use Rattle.qolb_script.specs.declared.report.Report.{Report};

@@ -1,4 +1,4 @@
-//! The tasks that take a script, and why one is not done.
+//! The tasks that process a script, and the reasons why a task can fail.
 ghost use Rattle.std.specs.Prelude.{◌≡◌};
 ghost use Rattle.qolb_run.specs.Outcome.{replay_ending, script_ending, work_ending};
 

@@ -1,4 +1,4 @@
-//! Work over lines by their names.
+//! Runs work scripts on lines whose kind is chosen by name.
 ghost use Rattle.std.specs.Prelude.{◌≡◌, ℕ, Err, IfOk, IfErr};
 ghost use Rattle.qolb_work.specs.Workers.{MayStop};
 ghost use Rattle.qolb_work.specs.Reports.{IsReportOf};

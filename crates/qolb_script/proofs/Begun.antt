@@ -1,4 +1,4 @@
--- The header and the first line below it, in a script that is read whole.
+-- Lemmas about the header of a script and the first line below it, in a script that is read completely.
 use Rattle.std.proofs.Common.{◌≡◌, ℕ, List, [], ◌∷◌, take, Result, Ok, Err, IsOk, refl}
 use Rattle.qolb_script.specs.declared.job.WorkKind.{WorkKind}
 use Rattle.qolb_script.specs.declared.reason.Refusal.{Refusal}

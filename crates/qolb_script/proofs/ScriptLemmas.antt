@@ -1,4 +1,4 @@
--- The items of lines, after some of the lines were read; and the errors of refusals.
+-- Lemmas about the items of lines after some of the lines have been read, and about the errors of refusals.
 use Rattle.std.proofs.Common.{◌≡◌, ◌≢◌, ℕ, ◌+◌, ◌<◌, nat_le, false, if◌then◌else◌, List, [], ◌∷◌, ◌++◌, All, length, take, Result, Ok, Err, IsOk, refl, sym, ap, subst, ◌∙◌, arith, append_assoc, length-append}
 use Rattle.std.proofs.lemmas.Bool.Decides.{nat_tests}
 use Rattle.std.proofs.lemmas.List.Elements.{All-push}

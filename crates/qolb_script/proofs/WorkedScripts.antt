@@ -1,4 +1,4 @@
--- Worked scripts: the values of the definitions of a script and of its reply, by computation.
+-- Worked examples: a script and its reply, computed from the definitions.
 use Rattle.std.specs.Prelude.{◌≡◌, [], ◌∷◌, ◌++◌, codes, map, replicate, refl, Some, None, Ok, Err}
 use Rattle.std.specs.Fmt.{digits}
 use Rattle.hex.specs.Hex.{encode_with, decode_pairs}

@@ -1,4 +1,5 @@
--- The commands of a schedule, and the header. (Of this project.)
+-- The commands of a schedule, and its header. The definitions in this file were made for this project; none is taken
+-- from the literature.
 use Rattle.std.specs.Prelude.{ℕ, ◌+◌, ◌-◌, ◌/◌, ◌^◌, nat_le, if◌then◌else◌, List, [], ◌∷◌, length, codes, Option, Some, None, Result, Ok, Err}
 use Rattle.std.specs.Str.{bytes_eq}
 use Rattle.hex.specs.Hex.{decode_of}

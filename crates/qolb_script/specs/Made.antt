@@ -1,4 +1,5 @@
--- The commands of a node and a line. (Of this project.)
+-- Commands that are made for a given node and line. The definitions in this file were made for this project; none is
+-- taken from the literature.
 use Rattle.std.specs.Prelude.{ℕ, List, codes}
 use Rattle.qolb_script.specs.declared.command.Command.{Command}
 use Rattle.qolb_script.specs.declared.command.Command.TheVariants as command

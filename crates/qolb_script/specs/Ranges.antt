@@ -1,4 +1,5 @@
--- The ranges of a script's numbers. (Of this project.)
+-- The allowed ranges of the numbers in a script. The definitions in this file were made for this project; none is taken
+-- from the literature.
 use Rattle.std.specs.Prelude.{◌≡◌, ◌≤◌, length}
 use Rattle.qolb_model.specs.declared.config.TheConstants.{MAX_NODES}
 use Rattle.qolb_model.specs.Leases.{IsLease}

@@ -1,4 +1,5 @@
--- The rest that readers of lines and words have left. (Of this project.)
+-- The part of the input that remains after a line or a word has been read. The definitions in this file were made for
+-- this project; none is taken from the literature.
 use Rattle.std.specs.Prelude.{ℕ, ◌==◌, List, [], Option, Some, None}
 use Rattle.std.specs.Borrow.{Bor}
 use Rattle.std.specs.List.{slice_split, enumerate_from}

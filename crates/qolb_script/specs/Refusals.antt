@@ -1,4 +1,5 @@
--- Why bytes are no script, and the error of it. (Of this project.)
+-- The reasons why bytes are not a script, and the error for each reason. The definitions in this file were made for
+-- this project; none is taken from the literature.
 use Rattle.std.specs.Prelude.{ℕ, if◌then◌else◌, List, Result, Ok, Err}
 use Rattle.std.specs.Str.{bytes_eq}
 use Rattle.qolb_script.specs.declared.error.ScriptError.{ScriptError}

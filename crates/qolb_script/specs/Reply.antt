@@ -1,4 +1,5 @@
--- The reply of a script: the answer to each command, and then the counts of each line. (Of this project.)
+-- The reply to a script: the answer to each command, and then the counts of each line. The definitions in this file
+-- were made for this project; none is taken from the literature.
 use Rattle.std.specs.Prelude.{ℕ, ◌==◌, ◌&&◌, ◌||◌, Bool, true, false, if◌then◌else◌, List, [], ◌∷◌, ◌++◌, map, fold, flat_map, count_by, replicate, slice_set, None, Result, Ok, Err}
 use Rattle.std.specs.List.{slice_index_or, range_with_len}
 use Rattle.line_lanes.specs.Line.{zeros}

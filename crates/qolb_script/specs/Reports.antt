@@ -1,4 +1,5 @@
--- The text of a report of work: a line for each number. (Of this project.)
+-- The text of a report of work, which has one line for each number. The definitions in this file were made for this
+-- project; none is taken from the literature.
 use Rattle.std.specs.Prelude.{ℕ, List, [], ◌∷◌, ◌++◌, codes, decimal}
 use Rattle.qolb_script.specs.declared.report.Report.{Report}
 use Rattle.qolb_script.specs.declared.report.Report.TheVariants.{Board, Bank}

@@ -1,4 +1,5 @@
--- The script that some bytes are, or the first fault in them. (Of this project.)
+-- The script that given bytes represent, or the first fault in these bytes. The definitions in this file were made for
+-- this project; none is taken from the literature.
 use Rattle.std.specs.Prelude.{ℕ, ◌+◌, ◌<◌, ◌≤◌, nat_le, if◌then◌else◌, List, [], ◌∷◌, All, take, Option, Result, Ok, Err, IsOk}
 use Rattle.qolb_script.specs.declared.command.Command.{Command}
 use Rattle.qolb_script.specs.declared.error.ScriptError.{ScriptError}

@@ -1,4 +1,5 @@
--- The step script that some bytes are, or the first fault in them. (Of this project.)
+-- The step script that given bytes represent, or the first fault in these bytes. The definitions in this file were made
+-- for this project; none is taken from the literature.
 use Rattle.std.specs.Prelude.{ℕ, ◌≤◌, List, [], ◌∷◌, All, take, Option, Result, Ok, Err, IsOk}
 use Rattle.link_core.specs.declared.event.Event.{Event}
 use Rattle.link_core.specs.Steps.{node_of}

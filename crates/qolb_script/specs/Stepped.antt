@@ -1,4 +1,5 @@
--- The steps of a node. (Of this project.)
+-- The steps of a node in a step script. The definitions in this file were made for this project; none is taken from the
+-- literature.
 use Rattle.std.specs.Prelude.{ℕ, List, codes}
 use Rattle.link_core.specs.declared.event.Event.{Event}
 use Rattle.link_core.specs.declared.event.Event.TheVariants as event

@@ -1,4 +1,5 @@
--- A watched reader or writer, as contracts see it. (Of this project.)
+-- A reader or writer that remembers a fault, in the terms that contracts use. The definitions in this file were made
+-- for this project; none is taken from the literature.
 use Rattle.std.specs.Prelude.{Bool}
 use Rattle.qolb_script.specs.declared.watched.Watched.{Watched}
 

@@ -1,4 +1,4 @@
-//! Why a script is refused.
+//! The reasons why a script is refused.
 ghost use Rattle.std.specs.Prelude.{◌≡◌, ℕ};
 
 use std::error::Error;

@@ -1,4 +1,4 @@
-//! The kind of script that a header begins.
+//! Determines from a header which kind of script follows.
 ghost use Rattle.std.specs.Prelude.{◌≡◌};
 ghost use Rattle.qolb_script.specs.Headers as spec;
 

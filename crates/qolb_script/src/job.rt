@@ -1,4 +1,4 @@
-//! The jobs of workers.
+//! The jobs of workers in a work script.
 ghost use Rattle.std.specs.Prelude.{◌≡◌};
 ghost use Rattle.qolb_script.specs.Jobs.{worker_of};
 

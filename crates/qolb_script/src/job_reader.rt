@@ -1,4 +1,4 @@
-//! Reading the header and the jobs of a work script.
+//! Reads the header and the jobs of a work script.
 ghost use Rattle.std.specs.Prelude.{◌≡◌, ◌≤◌, ◌<◌, ◌*◌, IfOk};
 ghost use Rattle.qolb_model.specs.Opening.{AreNodes};
 ghost use Rattle.qolb_script.specs.Commands.{read_line};

@@ -1,4 +1,5 @@
-//! Scripts of calls, steps and work: their readers, the text of answers, and readers and writers that remember a fault.
+//! Reads scripts of calls, steps and work, writes the text of answers, and wraps readers and writers so that they
+//! remember a fault.
 #![tactic(auto)]
 
 mod command;

@@ -1,4 +1,5 @@
-//! Why bytes are no script: the line that is refused, the word of it that is wrong, and what may stand there.
+//! Describes why bytes are not a script: the line that is refused, the wrong word in it, and what would be allowed in
+//! its place.
 ghost use Rattle.std.specs.Prelude.{◌≡◌};
 ghost use Rattle.qolb_script.specs.Refusals.{error_of, unless_same};
 

@@ -1,4 +1,4 @@
-//! Reports of work.
+//! The reports of work scripts.
 ghost use Rattle.std.specs.Prelude.{◌≡◌, ◌↔◌, true, IsErr, OnOk};
 ghost use Rattle.std.specs.Io.KnownBytes.{Appends};
 ghost use Rattle.qolb_script.specs.Watched.{inner_of, has_failed};

@@ -1,4 +1,4 @@
-//! The events of a node that differ only by their first word.
+//! The events of a step script that differ only in their first word.
 ghost use Rattle.std.specs.Prelude.{◌≡◌, find};
 ghost use Rattle.std.specs.Str.{bytes_eq};
 ghost use Rattle.qolb_script.specs.Stepped.{word_of, event_of};

@@ -1,4 +1,5 @@
-//! The text of scripts: its lines, their words, the numbers that words write, and the items that lines are.
+//! The text of scripts: how it divides into lines and words, which words denote numbers, and which item each line
+//! denotes.
 ghost use Rattle.std.specs.Prelude.{◌≡◌, ◌==◌, ◌+◌, ◌<◌, ◌≤◌, ◌^◌, ◌∷◌, [], length, not, IfOk, IfSome, MatchOption};
 ghost use Rattle.std.specs.List.{slice_split};
 ghost use Rattle.std.specs.Option.{ForSome};

@@ -1,4 +1,4 @@
-//! Work scripts: what workers do on a board or at a bank.
+//! Work scripts, which list what workers do on a board or in a bank.
 ghost use Rattle.std.specs.Prelude.{◌≡◌, ◌≢◌, IfOk, IfErr};
 ghost use Rattle.qolb_script.specs.WorkScript.{IsWorkBegun, parsed_work, work_of};
 

@@ -1,4 +1,4 @@
--- The meaning of an outcome for its subcommand.
+-- Lemmas about what an outcome means for its subcommand.
 use Rattle.std.proofs.Common.{◌≡◌, ◌≢◌, ℕ, Bool, List, Option, Some, None, Result, Ok, Err, IfSome, inl, inr, refl, subst, ◌∙◌, arith}
 use Rattle.line_kinds.specs.declared.Lock.{Lock}
 use Rattle.qolb_script.specs.declared.report.Report.{Report}

@@ -1,4 +1,4 @@
--- The meaning of a refused command line for its words.
+-- Lemmas about what the refusal of a command line implies about its words.
 use Rattle.std.proofs.Common.{◌≡◌, ◌≢◌, Bool, true, false, not, ◌&&◌, List, ap, refl, ◌∙◌, IfErr, IsErrAnd, Result, Ok, Err}
 use Rattle.clap.specs.Words.{App, Text, kind_of, takes}
 use Rattle.clap.specs.declared.error.Error.{Error}

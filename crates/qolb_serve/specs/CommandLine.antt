@@ -1,4 +1,5 @@
--- What the words of a command line ask for. (What a command makes of words is defined by the library that reads them, clap.)
+-- What the words of a command line request. (The library clap, which reads the words, defines what a command makes of
+-- them.)
 use Rattle.std.specs.Prelude.{Bool, ◌≡◌, true, false, if◌then◌else◌, List, [], ◌∷◌, map, Option, Some, None, option_map, codes}
 use Rattle.std.specs.Borrow.{Bor}
 use Rattle.std.specs.Option.{unwrap_or}

@@ -1,4 +1,5 @@
-//! The program as a function: what the words of its command line ask for, what is done, and the exit status.
+//! The program qolb as a function: it reads the words of a command line, does what they request, and returns the exit
+//! status.
 #![tactic(auto)]
 
 mod command_line;

@@ -1,4 +1,4 @@
-//! The program as a process: its words, its standard streams and its exit status.
+//! Connects the program to its process: the command line, the standard streams and the exit status.
 use crate::program::{refuse_words, serve};
 use std::alloc::AllocGlobal;
 use std::env;

@@ -1,4 +1,4 @@
--- A text that is written piece by piece.
+-- Lemmas about a text that is written piece by piece.
 use Rattle.std.proofs.Common.{◌≡◌, ℕ, List, ◌++◌, ap, ◌∙◌, append_assoc}
 
 -- `now` is `start`, with `text` behind it

@@ -1,4 +1,4 @@
-//! Words of scripts, for notes and for pictures: of commands, of events, and of points.
+//! The words of scripts, for use in notes and pictures: those of commands, of events, and of the points of nodes.
 #![tactic(auto)]
 
 ghost use Rattle.std.specs.Prelude.{◌≡◌, ◌++◌, OnOk, decimal, flat_map};

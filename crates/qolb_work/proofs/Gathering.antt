@@ -1,4 +1,4 @@
--- The states of workers, gathered, summed up and freshly made.
+-- Lemmas about the states of workers: how they are created, collected, and summed up.
 use Rattle.std.proofs.Common.{◌≡◌, ℕ, zero, suc, ◌+◌, ◌<◌, ◌≤◌, ◌==◌, inl, inr, List, [], ◌∷◌, ◌++◌, length, map, take, All, option_map, Option, Some, None, slice_get, refl, ap, sym, ◌∙◌, subst, arith}
 use Rattle.std.proofs.lemmas.List.{length-take-le}
 use Rattle.std.proofs.lemmas.List.Sums.{length-filter, count_by-le-length}

@@ -1,4 +1,4 @@
--- The states of a board's workers, and the views of their ports.
+-- Lemmas about the states of a board's workers, and about the views of their ports.
 use Rattle.std.proofs.Common.{◌≡◌, ℕ, zero, suc, ◌+◌, ◌≤◌, List, [], ◌∷◌, length, map, option_map, Some, None, slice_get, refl, ap, sym, ◌∙◌, subst, arith}
 use Rattle.std.proofs.lemmas.Option.{slice_get-map}
 use Rattle.qolb_model.specs.declared.view.View.{View}

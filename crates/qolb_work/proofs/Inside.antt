@@ -1,4 +1,4 @@
--- What is known over wrappers of lines, as `ParkOnPoll` is one, holds over the lines inside. (Of this project.)
+-- Proof that what a wrapper of a line, such as `ParkOnPoll`, guarantees also holds for the line inside it.
 use Rattle.std.proofs.Common.{◌≡◌, ℕ, zero, suc, ◌+◌, ◌<◌, List, [], ◌∷◌, All, Vec, map, length, get_or, option_map, slice_get, Result, Ok, Err, IfOk, sym, subst, ap, ◌∙◌, refl, arith}
 use Rattle.std.specs.Global.{Global}
 use Rattle.std.proofs.lemmas.List.{length-map}

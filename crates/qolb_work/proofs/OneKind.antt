@@ -1,4 +1,4 @@
--- A report is one of a board or of a bank.
+-- Proof that each report is the report of a board or of a bank.
 use Rattle.std.proofs.Common.{◌≡◌, sym, ◌∙◌, IfOk, Result, Ok, Err}
 use Rattle.qolb_model.specs.declared.config.LineConfig.{LineConfig}
 use Rattle.qolb_model.specs.declared.view.View.{View}

@@ -1,4 +1,5 @@
--- Why a line is not finished: with all ports there and at rest, only for want of memory.
+-- Proof that if all ports are present and none has an open request, a line can only fail to be finished because memory
+-- runs out.
 use Rattle.std.proofs.Common.{◌≡◌, ℕ, zero, suc, List, refl}
 use Rattle.qolb_model.specs.declared.unfinished.FinishError.{FinishError}
 use Rattle.qolb_model.specs.declared.unfinished.FinishError.TheVariants.{Memory, Unquiet, Missing}

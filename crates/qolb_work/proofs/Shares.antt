@@ -1,4 +1,4 @@
--- Each job is one worker's: the sum over all workers is the sum over all jobs.
+-- Proof that each job belongs to exactly one worker, so that the sum over all workers is the sum over all jobs.
 use Rattle.std.proofs.Common.{◌≡◌, ◌≢◌, inl, inr, ℕ, zero, suc, ◌+◌, ◌<◌, ◌≤◌, ◌==◌, Bool, cond, List, [], ◌∷◌, length, All, None, Some, slice_get, refl, ap, sym, ◌∙◌, subst, arith}
 use Rattle.std.specs.List.{sum_by, count_by}
 use mathlib.Core.Bool.{not}

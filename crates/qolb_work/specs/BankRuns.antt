@@ -1,4 +1,5 @@
--- The sums that the jobs of a bank give, by the outcomes of the jobs. (Of this project.)
+-- The sums that result from the jobs of a bank, depending on the outcomes of the jobs. The definitions in this file
+-- were made for this project; none is taken from the literature.
 use Rattle.std.specs.Prelude.{◌≡◌, ℕ, ◌+◌, ◌-◌, ◌==◌, nat_lt, if◌then◌else◌, Bool, true, false, List, [], ◌∷◌, length, All, Some, slice_get}
 use Rattle.std.specs.List.{sum_by}
 use Rattle.line_accounts.specs.declared.law.TheConstants.{MAX_BALANCE}

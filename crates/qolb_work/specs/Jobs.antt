@@ -1,4 +1,5 @@
--- The jobs of a work script, and of each worker. (Of this project.)
+-- The jobs of a work script, and the jobs of each worker in it. The definitions in this file were made for this
+-- project; none is taken from the literature.
 use Rattle.std.specs.Prelude.{◌≡◌, ℕ, ◌==◌, Bool, true, false, List, count_by}
 use Rattle.std.specs.List.{filter}
 use Rattle.qolb_script.specs.declared.job.Job.{Job}

@@ -1,4 +1,5 @@
--- What a report tells of the work that was done. (Of this project.)
+-- How a report describes the work that was done. The definitions in this file were made for this project; none is taken
+-- from the literature.
 use Rattle.std.specs.Prelude.{◌≡◌, ◌≤◌, ℕ, ◌+◌, List}
 use Rattle.line_accounts.specs.declared.law.TheConstants.{MAX_BALANCE}
 use Rattle.qolb_script.specs.declared.job.Job.{Job}

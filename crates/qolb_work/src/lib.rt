@@ -1,4 +1,4 @@
-//! Workers that share queued lines of any type: a board, or the accounts of a bank.
+//! Runs workers that share queued lines of any kind: a task board, or the accounts of a bank.
 #![tactic(auto)]
 
 mod bank;

@@ -1,4 +1,4 @@
-//! Opening lines that workers share.
+//! Opens the lines that workers share.
 ghost use Rattle.std.specs.Prelude.{◌≡◌, IfOk, IfErr, vec_len};
 ghost use Rattle.line_lanes.specs.Line.{zeros};
 ghost use Rattle.qolb_model.specs.Opening.{AreNodes};

@@ -1,4 +1,4 @@
--- A node that has the line clears the cell at its turn.
+-- Proof about the step with which a node that has the line clears the cell at its turn.
 use Rattle.std.proofs.Common.{◌≡◌, ◌≢◌, ◌⊎◌, ℕ, ◌+◌, ◌<◌, List, [], ◌∷◌, length, set, true, sym, refl, ap, ◌∙◌, ⊎_elim, arith, mod-lt}
 use mathlib.Core.Option.{none, some}
 use lib.ListN.{get_elem?}

@@ -1,4 +1,4 @@
--- A release walks over withdrawn requests, and clears each cell before it grants the next.
+-- Lemmas about a release that skips withdrawn requests, and clears each cell before it grants the next one.
 use Rattle.std.proofs.Common.{◌≡◌, ◌≢◌, ℕ, ◌+◌, ◌*◌, ◌≤◌, List, [], ◌∷◌, ◌++◌, length, sym, ap, ◌∙◌, subst, arith, refl, length-append}
 use Rattle.qolb_model.specs.declared.config.TheConstants.{MAX_NODES}
 use Rattle.qolb_model.specs.PortStates.{state_after}

@@ -1,5 +1,5 @@
--- What a ring adds to the theorems about tables of tickets and cells. This file is in `specs`, because the proof of a
--- theorem may not name anything of `proofs`.
+-- The theorems about tables of tickets and cells that are specific to a ring. This file is in `specs`, because the
+-- proof of a theorem may not name anything from `proofs`.
 use Rattle.std.proofs.Common.{◌≡◌, ℕ, ◌+◌, ◌^◌, ◌<◌, ◌≤◌, List, false, arith}
 use Rattle.qolb_model.specs.declared.config.TheConstants.{MAX_NODES}
 use Rattle.line_cells.specs.declared.layout.TheConstants.{CELLS}

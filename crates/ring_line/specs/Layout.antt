@@ -1,4 +1,4 @@
--- The contents of a ring's words.
+-- The contents of the words in a ring's table.
 use Rattle.std.specs.Prelude.{ℕ, ◌/◌, List, Bool, not, ◌==◌}
 use Rattle.line_cells.specs.declared.layout.TheConstants.{CELLS}
 use Rattle.line_cells.specs.Layout as array

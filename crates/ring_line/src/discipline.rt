@@ -1,7 +1,7 @@
-//! The queue discipline of the ring.
+//! The queue algorithm of the ring.
 //!
 //! This file implements the trait `Discipline` of `line_generic` with the atomic steps of this crate. The calls that
-//! all kinds of lines share are written over this trait.
+//! all kinds of lines share are built on this trait.
 ghost use Rattle.std.specs.Prelude.{◌≡◌};
 ghost use Rattle.qolb_model.specs.PortStates as states;
 ghost use Rattle.ring_line.specs.Layout.{word_count, cell_of};

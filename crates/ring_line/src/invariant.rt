@@ -1,4 +1,4 @@
-//! The type of the ring's queue discipline, its ghost state, and its invariant.
+//! The type that represents the ring's queue algorithm, its ghost state, and its invariant.
 ghost use Rattle.line_generic.specs.Slots.{in_single_slot, open_in_single_slot};
 ghost use Rattle.ring_line.specs.Layout.{cell_of};
 ghost use Rattle.line_cells.specs.declared.layout.TheConstants.{CELLS};

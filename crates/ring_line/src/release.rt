@@ -1,4 +1,4 @@
-//! The release of the line: the holder clears its cell, grants the next one, and passes withdrawn requests.
+//! Releases the line: the holder clears its cell, grants the next cell, and skips withdrawn requests.
 ghost use Rattle.std.specs.Prelude.{◌≡◌, ◌≢◌, ◌+◌, [], length};
 ghost use Rattle.qolb_model.specs.declared.config.TheConstants.{MAX_NODES};
 ghost use Rattle.line_generic.specs.Steps.{IsSeatOf};

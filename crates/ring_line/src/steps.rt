@@ -1,20 +1,20 @@
-//! The atomic steps. Each step is one sequentially consistent operation on one word. The type argument of the operation
-//! is its play, which is the ghost transition that counts the step.
+//! The atomic steps of the ring. Each step is one sequentially consistent operation on one word. This operation takes a
+//! type argument, its *play*, which is the change of ghost state that belongs to the step.
 //!
-//! - A *node* is a participant. To *free* a node is to set its *node word*, which is 0 until then. Afterwards the
-//!   node's withdrawn request is clear.
-//! - A *seat* is a node's access to the shared table. It has the ghost state of the node (`me.0`, a list of one:
-//!   `IsOfOneNode`), and the slot with the line while the seat has it (`me.1`).
-//! - A *cell* is the word at which a request waits (a slot of Anderson's). It is 0, `GRANTED`, `WITHDRAWN_UNIT` times
-//!   the node that withdrew there, or the sum of the last two. The *slot* has the line's 64 bytes, and whether the line
-//!   is closed.
-//! - A request is *at its turn* once its cell is granted. Its node's seat *has* the line from the step that finds this
-//!   grant. Its port *holds* the line only if the line is not closed.
-//! - To *pass* a withdrawn request is to go on from its cell with the line. Each grant ends the request at its turn:
+//! - A *node* is a user of the line. To *free* a node is to set its *node word*, which is 0 until then. From then on
+//!   the node's withdrawn request is clear.
+//! - A *seat* is a node's access to the shared table. A seat contains the ghost state of the node (`me.0`, a list with
+//!   one element: `IsOfOneNode`), and the slot with the line while the seat has the line (`me.1`).
+//! - A *cell* is the word on which a request waits (a slot in Anderson's lock). A cell contains 0, `GRANTED`,
+//!   `WITHDRAWN_UNIT` times the number of the node that withdrew there, or the sum of the last two. The *slot* contains
+//!   the line's 64 bytes and a flag for a closed line.
+//! - A request is *at its turn* once its cell is granted. From the step that finds this grant on, the seat of the
+//!   request's node *has* the line. The node's port *holds* the line only if the line is not closed.
+//! - To *pass* a withdrawn request is to continue from its cell with the line. Each grant ends the request at its turn:
 //!   first the releasing node's own request, then each request that was passed.
-//! - A node's last request is *clear* once no other node will use the node's word because of it. The node's next
-//!   request is then not answered `Busy`.
-//! - A view's `count` is the number of its node's requests.
+//! - A node's last request is *clear* once no other node will use the node's word because of it. Then the answer to the
+//!   node's next request is not `Busy`.
+//! - The `count` of a view is the number of its node's requests.
 ghost use Rattle.std.specs.Prelude.{◌≡◌, ◌≢◌, ◌⊎◌, ℕ, ◌≤◌, ◌∷◌, [], List, true, false};
 ghost use Rattle.qolb_model.specs.declared.request.Request.{Request};
 ghost use Rattle.qolb_model.specs.Requests.{Has};

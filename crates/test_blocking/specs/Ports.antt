@@ -1,4 +1,5 @@
--- Ports of a test's line. The definitions are this project's own.
+-- The ports of a line in a test. The definitions in this file were made for this project; none is taken from the
+-- literature.
 use Rattle.std.specs.Prelude.{IsTrue}
 use Rattle.qolb_model.specs.declared.view.View.{View}
 use Rattle.qolb_model.specs.PortStates.{may_ask}

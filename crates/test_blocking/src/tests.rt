@@ -1,5 +1,6 @@
-//! The examples and waiters, over all lines. The tests are generic over the line. The kinds are named in one place
-//! only, because the prover needs some seconds to see that a kind is a line, wherever it is named.
+//! Runs the examples and the waiting calls on all kinds of lines. The tests are generic over the line. The kinds are
+//! named in only one place, because wherever a kind is named, the prover needs a few seconds to check that it is a
+//! line.
 ghost use Rattle.std.specs.Prelude.{◌≡◌, IsTrue};
 ghost use Rattle.qolb_model.specs.PortStates.{may_ask};
 

@@ -1,4 +1,4 @@
-//! A line with its ports, which a test calls by node number. It makes a call only if the port's state allows the call.
+//! A line with its ports, which a test calls by node number. A call is made only if the port's state allows it.
 ghost use Rattle.std.specs.Prelude.{◌≡◌, All, IfErr, IsTrue};
 ghost use Rattle.qolb_model.specs.PortStates.{may_ask};
 

@@ -1,6 +1,6 @@
-//! The calls of each kind of line, made by one thread, node by node.
+//! Tests of the calls of each kind of line. One thread makes the calls for all nodes.
 //!
-//! The modules of this crate are compiled only for its tests, so that they are proved once.
+//! The modules of this crate are compiled only for its tests, so that they are proved only once.
 #![tactic(auto)]
 
 #[cfg(test)]

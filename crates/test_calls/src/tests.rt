@@ -1,6 +1,6 @@
-//! Each call of each kind of line. The answers are written once, over any line. A test names a kind by its queue
-//! discipline, because the prover then sees only once that a line of any discipline is a line; it would see that again
-//! at each named line.
+//! Tests each call of each kind of line. The expected answers are written once, for any line. A test names a kind by
+//! its queue algorithm. Then the prover proves only once, for all queue algorithms, that such a line implements the
+//! trait of lines; it would prove this again for each line type that a test names.
 
 mod asleep;
 mod did;

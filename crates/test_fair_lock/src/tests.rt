@@ -1,4 +1,4 @@
-//! The tests of the fair lock, and the threads that they run.
+//! The list of the tests of the fair lock, with the threads that they start.
 mod answers;
 mod order;
 mod threads;

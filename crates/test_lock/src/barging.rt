@@ -1,4 +1,4 @@
-//! Threads at a barging lock.
+//! Threads that share a barging lock, for tests.
 ghost use Rattle.std.specs.Prelude.{◌≡◌, ◌≤◌, true, false};
 ghost use Rattle.lock_core.specs.Views.{view_of, InTime, IsSeatOf, IsIdle, IsAtTurn, IsHeadInside, IsInside};
 

@@ -1,5 +1,5 @@
-//! Counts of what threads do in their critical sections. Only the thread that is served writes, so plain loads and
-//! stores lose nothing.
+//! Counts what threads do in their critical sections. Only the holder writes these counts, so plain loads and stores
+//! lose nothing.
 use std::sync::atomic::{AtomicU64, Ordering};
 
 /// What was seen in critical sections.

@@ -1,4 +1,4 @@
-//! Pseudorandom numbers by which a thread chooses its next call.
+//! Pseudorandom numbers, with which a thread chooses its next call.
 
 /// A sequence of numbers that is the same for the same seed (Marsaglia's xorshift).
 #[derive(Drop)]

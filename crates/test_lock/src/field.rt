@@ -1,4 +1,4 @@
-//! A lock that threads share, with the words on which they sleep.
+//! A lock that threads share, together with the words on which they sleep.
 ghost use Rattle.std.specs.Prelude.{◌≡◌, ◌<◌, ◌≤◌, IfOk, IfSome, IfNone, true, false};
 ghost use Rattle.lock_core.specs.Layout.{IsLockTable};
 ghost use Rattle.lock_core.specs.Views.{view_of, InTime, LoadGrows, IsSeatOf, IsIdle, IsQueued, IsAtTurn, HasTurnOf, SameTurn};

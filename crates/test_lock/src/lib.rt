@@ -1,6 +1,6 @@
-//! Tests of the lock's core: threads share a lock, and single callers get each answer.
+//! Tests of the lock's core: several threads share a lock, and single callers get each possible answer.
 //!
-//! The modules of this crate are compiled only for its tests, so that they are proved once.
+//! The modules of this crate are compiled only for its tests, so that they are proved only once.
 #![tactic(auto)]
 
 #[cfg(test)]

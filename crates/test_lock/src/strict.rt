@@ -1,4 +1,4 @@
-//! Threads at a strict lock.
+//! Threads that share a strict lock, for tests.
 ghost use Rattle.std.specs.Prelude.{◌≡◌, ◌≤◌};
 ghost use Rattle.lock_core.specs.Views.{InTime, IsSeatOf, IsIdle};
 

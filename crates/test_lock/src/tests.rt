@@ -1,4 +1,4 @@
-//! The tests of the lock's core.
+//! The list of the tests of the lock's core.
 
 mod answers;
 mod lock_word;

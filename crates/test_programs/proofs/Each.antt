@@ -1,4 +1,4 @@
--- What holds of all items, one by one.
+-- Lemmas about a property that holds for every item of a list.
 use Rattle.std.proofs.Common.{◌≡◌, List, [], ◌∷◌, ◌++◌, Bool, true, false, if◌then◌else◌, sym, subst, All}
 use Rattle.std.proofs.lemmas.List.Elements.{All-nil, All-cons, All-push}
 

@@ -1,4 +1,4 @@
--- A line that one node hands to another.
+-- Lemmas about a line that one node hands over to another.
 use Rattle.std.proofs.Common.{◌≡◌, ℕ, List, [], ◌∷◌, length, ap, sym, ◌∙◌, arith, Some}
 use Rattle.qolb_model.specs.declared.config.LineConfig.{LineConfig}
 use Rattle.qolb_model.specs.declared.answer.PortState.TheVariants.{Holding}

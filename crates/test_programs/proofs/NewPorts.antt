@@ -1,4 +1,4 @@
--- Ports of a line that was just opened.
+-- Lemmas about the ports of a line that was just opened.
 use Rattle.std.proofs.Common.{◌≡◌, ℕ, zero, suc, lit≤, arith, ◌<◌, ◌+◌, List, [], ◌∷◌, ◌++◌, length, All, Option, Some, slice_index_or, refl, sym, ap, ◌∙◌, subst}
 use Rattle.std.specs.Option.{option_map, option_map_or}
 use Rattle.std.proofs.lemmas.List.{length-map, length-append, get_or_append_left, get_or_push}

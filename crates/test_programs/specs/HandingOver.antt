@@ -1,4 +1,5 @@
--- A line that one node hands to another. The definitions are this project's own.
+-- A line that one node hands over to another. The definitions in this file were made for this project; none is taken
+-- from the literature.
 use Rattle.std.specs.Prelude.{◌≡◌, ℕ, length, List}
 use Rattle.qolb_model.specs.declared.view.View.{View}
 use Rattle.qolb_model.specs.Views.{Extends, bytes_of}

@@ -1,4 +1,4 @@
-//! Calls of a board, one after another, with their answers.
+//! Makes calls on a board, one after another, and checks their answers.
 ghost use Rattle.std.specs.Prelude.{IsTrue};
 ghost use Rattle.qolb_model.specs.PortStates.{may_ask};
 

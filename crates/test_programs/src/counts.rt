@@ -1,4 +1,5 @@
-//! Nodes count in the first lane of a line: each node in its own thread, and in a race of a release with a withdrawal.
+//! Nodes that count in the first lane of a line. Each node has its own thread; in one test, a release races with a
+//! withdrawal.
 ghost use Rattle.std.specs.Prelude.{◌≡◌, All, IfSome};
 ghost use Rattle.line_accounts.specs.NewDesks.{IsNewPort};
 ghost use Rattle.test_programs.specs.Ports.{HoldsOrWaits, MayAskFor};

@@ -1,4 +1,4 @@
-//! Calls of desks, one after another, with their answers.
+//! Makes calls on desks, one after another, and checks their answers.
 ghost use Rattle.std.specs.Prelude.{◌≡◌, ◌+◌, ◌∷◌, [], IsTrue, IfOk, IfSome};
 ghost use Rattle.qolb_model.specs.PortStates.{may_ask};
 ghost use Rattle.line_accounts.specs.Desks.{IsDeskOver};

@@ -1,4 +1,4 @@
-//! New lines, with their ports.
+//! Opens new lines for the tests, and returns each line with its ports.
 ghost use Rattle.std.specs.Prelude.{All, IfSome};
 ghost use Rattle.line_lanes.specs.Line.{zeros};
 ghost use Rattle.line_accounts.specs.NewDesks.{IsNewPort};

@@ -1,4 +1,4 @@
-//! One node of any line hands the line to another.
+//! One node of a line hands the line to another node, on any kind of line.
 ghost use Rattle.std.specs.Prelude.{◌≡◌, IfSome};
 ghost use Rattle.test_programs.specs.HandingOver.{HandsOver};
 

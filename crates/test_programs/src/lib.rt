@@ -1,7 +1,7 @@
-//! Boards, desks and programs of threads over any line, with their tests. The tests only need a line that they can
-//! open.
+//! Boards, desks and programs with threads on any kind of line, and their tests. The tests require of a line only that
+//! they can open it.
 //!
-//! The modules that only these tests call are compiled only for the tests, so that they are proved once.
+//! Modules that only these tests call are compiled only for the tests, so that they are proved only once.
 #![tactic(auto)]
 
 #[cfg(test)]

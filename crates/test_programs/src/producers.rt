@@ -1,4 +1,5 @@
-//! A board between threads. Two producers put numbered tasks, and two consumers take tasks until all are taken.
+//! A board that threads share. Two producers put numbered tasks on the board, and two consumers take tasks until all
+//! have been taken.
 ghost use Rattle.std.specs.Prelude.{◌*◌, ◌<◌, ◌^◌, All, IfSome, IsTrue};
 ghost use Rattle.qolb_model.specs.PortStates.{may_ask};
 ghost use Rattle.line_accounts.specs.NewDesks.{IsNewPort};

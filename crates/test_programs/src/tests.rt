@@ -1,4 +1,4 @@
-//! Each test, over each kind of line. The answers are written once, over any line.
+//! Runs each test on each kind of line. The expected answers are written once, for any line.
 
 mod boards;
 mod counts;

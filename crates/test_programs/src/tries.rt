@@ -1,4 +1,4 @@
-//! Hooks that count the busy tries of a line's nodes.
+//! Hooks that count how often the nodes of a line are busy when they try to make a request.
 use qolb_model::{Keep, ParkingLine};
 use std::sync::atomic::{AtomicU64, Ordering};
 use std::thread::yield_now;

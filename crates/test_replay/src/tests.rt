@@ -1,4 +1,4 @@
-//! The tests, by what they try.
+//! The list of the tests of this crate, by subject.
 
 mod pictures;
 mod replays;

@@ -1,4 +1,4 @@
-//! The program `qolb` again, with a stored run of a script that it refuses.
+//! A second copy of the program `qolb`, with a recorded run of a script that it refuses.
 #![tactic(auto)]
 
 use qolb_serve::run;

@@ -1,4 +1,4 @@
-//! A wrapper of a line that calls hooks beside the line's own calls.
+//! A wrapper for a line that also calls hooks when a call on the line is made.
 ghost use Rattle.std.specs.Prelude.{◌≡◌, ◌≤◌, map, All, IfOk, IfErr};
 ghost use Rattle.qolb_model.specs.Requests.{Lacks};
 ghost use Rattle.qolb_model.specs.Views.{own};

@@ -1,4 +1,4 @@
-//! Tests of workers that share lines, of progress messages, and of the variants and errors as they are written for users.
+//! Tests of workers that share lines, of progress messages, and of the texts that users see for each variant and error.
 #![tactic(auto)]
 
 #[cfg(test)]

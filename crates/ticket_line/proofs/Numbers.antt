@@ -1,4 +1,4 @@
--- The numbers of tickets, and what a cell tells about them.
+-- Lemmas about the numbers of tickets, and about what a cell reveals about them.
 use Rattle.std.proofs.Common.{◌≡◌, ◌≢◌, ℕ, ◌+◌, ◌-◌, ◌*◌, ◌/◌, ◌%◌, ◌^◌, ◌<◌, ◌≤◌, Bool, if◌then◌else◌, sym, ap, ◌∙◌, arith, eq-eqb, ne_eqb}
 use native.Mathlib.Nat.{mod-add-mod}
 use lib.Pow.{mod-mod-pow}

@@ -1,4 +1,4 @@
--- The steps on cells, as the table allows them to a node that knows how many nodes the line has.
+-- Lemmas about the steps on cells that the table allows to a node which knows how many nodes the line has.
 use Rattle.std.proofs.Common.{◌≡◌, ℕ, ◌+◌, ◌≤◌, true, List, [], ◌∷◌, length, sym, ap, ◌∙◌, subst}
 use mathlib.Core.Option.{none}
 use Rattle.atomic_table.specs.Table.{Allows, step}

@@ -1,5 +1,5 @@
--- What each step of a release requires and ensures of the holder's seat. There is one record for each step, over the
--- table `t` and the line's rule `allows`.
+-- What each step of a release requires of the holder's seat and ensures for it. There is one record for each step, with
+-- parameters for the table `t` and for the changes `allows` that the line's data invariant permits.
 use Rattle.std.specs.Prelude.{◌≡◌, ◌≢◌, ◌⊎◌, ℕ, ◌+◌, ◌*◌, ◌≤◌, List, [], ◌∷◌, length}
 use Rattle.qolb_model.specs.declared.config.TheConstants.{MAX_NODES}
 use Rattle.qolb_model.specs.declared.request.Request.{Request}

@@ -1,5 +1,5 @@
--- What tickets add to the theorems about tables of tickets and cells. This file is in `specs`, because the proof of a
--- theorem may not name anything of `proofs`.
+-- The theorems about tables of tickets and cells that are specific to the ticket line. This file is in `specs`, because
+-- the proof of a theorem may not name anything from `proofs`.
 use Rattle.std.proofs.Common.{◌≡◌, ℕ, ◌+◌, ◌-◌, ◌/◌, ◌%◌, ◌^◌, ◌<◌, ◌≤◌, List, [], ◌∷◌, Option, set, slice_index, false, refl, sym, ap, ◌∙◌, subst, arith, length-set, mod-lt}
 use Rattle.std.proofs.Math.Nat.{mod-eq_of_lt}
 use mathlib.Core.Option.{some}

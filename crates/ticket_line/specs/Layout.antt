@@ -1,4 +1,4 @@
--- The contents of a ticket line's words.
+-- The contents of the words in a ticket line's table.
 use Rattle.std.specs.Prelude.{◌≡◌, ◌<◌, ℕ, ◌+◌, ◌-◌, ◌*◌, ◌/◌, ◌%◌, ◌^◌, List, Bool, ◌==◌, if◌then◌else◌}
 use Rattle.line_cells.specs.Counting.{cells_for}
 use Rattle.line_cells.specs.Layout as array

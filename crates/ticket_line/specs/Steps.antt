@@ -1,4 +1,4 @@
--- What each atomic step tells the port that takes it, as far as that depends on ticket numbers.
+-- What each atomic step reveals to the port that takes it, as far as that is specific to ticket numbers.
 use Rattle.std.specs.Prelude.{◌≡◌, ◌≢◌, ℕ, ◌+◌, ◌%◌, ◌^◌, List, length}
 use Rattle.atomic_table.specs.Table.{Step}
 use Rattle.atomic_table.specs.Seated.{TableId}

@@ -1,7 +1,7 @@
-//! The queue discipline of the ticket line.
+//! The queue algorithm of the ticket line.
 //!
 //! This file implements the trait `Discipline` of `line_generic` with the atomic steps of this crate. The calls that
-//! all kinds of lines share are written over this trait.
+//! all kinds of lines share are built on this trait.
 ghost use Rattle.std.specs.Prelude.{◌≡◌};
 ghost use Rattle.qolb_model.specs.PortStates as states;
 ghost use Rattle.line_cells.specs.Counting.{mask_for};

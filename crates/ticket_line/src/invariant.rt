@@ -1,4 +1,4 @@
-//! The type of the ticket line's queue discipline, its ghost state, and its invariant.
+//! The type that represents the ticket line's queue algorithm, its ghost state, and its invariant.
 ghost use Rattle.ticket_line.specs.Slots as slots;
 ghost use Rattle.line_cells.specs.Layout.{ticket_of};
 ghost use Rattle.line_cells.specs.Counting.{cells_for};

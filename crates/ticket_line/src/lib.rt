@@ -1,8 +1,8 @@
-//! The ticket line, a partitioned ticket lock that hands over a line. A node draws a ticket, and waits on a cell until
-//! the cell has the ticket's number.
+//! The ticket line: a partitioned ticket lock that hands over a line. A node draws a ticket, and waits on a cell until
+//! the cell contains the ticket's number.
 //!
-//! Several tickets share a cell, but at most one of them waits at a time. No cell is ever cleared, so a release takes
-//! one swap if no successor has withdrawn.
+//! Several tickets share a cell, but at most one of them waits at any time. Cells are never cleared, so a release takes
+//! only one swap if no successor has withdrawn.
 #![tactic(auto)]
 
 mod discipline;

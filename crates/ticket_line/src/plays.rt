@@ -1,4 +1,4 @@
-//! The ghost updates of the atomic steps on a cell.
+//! The kinds of atomic steps on a cell, each with the change of ghost state that it makes.
 ghost use Rattle.ticket_line.specs.Steps.{loaded, rolled, handed};
 
 use atomic_table::Play;

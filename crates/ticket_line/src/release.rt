@@ -1,4 +1,4 @@
-//! The release of the line, and what a node that had withdrawn does before its next request.
+//! Releases the line, and prepares the next request of a node that has withdrawn its last one.
 ghost use Rattle.std.specs.Prelude.{◌≡◌, ◌≢◌, ◌+◌, ◌*◌};
 ghost use Rattle.qolb_model.specs.declared.config.TheConstants.{MAX_NODES};
 ghost use Rattle.line_cells.specs.Steps.{IsAt, ghost_of, SeatAdvances};

@@ -1,4 +1,5 @@
-//! The slots of a ticket line: a holder's copy of its own slot, and the last slot of a table that is finished.
+//! The slots of a ticket line: the copy that a holder has of its own slot, and the last slot of a table that is
+//! finished.
 ghost use Rattle.std.specs.Prelude.{◌≡◌};
 ghost use mathlib.Core.Option.{some};
 ghost use lib.ListN.{get_elem?};

@@ -1,4 +1,4 @@
--- By the invariant of the nodes, the views of their ports are true of one history.
+-- The invariant of the nodes implies that the views of their ports agree with one history.
 use Rattle.std.proofs.Common.{◌≡◌, ◌⊎◌, ℕ, ◌+◌, ◌<◌, ◌≤◌, inl, inr, ⊎_elim, Bool, true, false, List, [], ◌∷◌, length, sym, refl, ap, ◌∙◌, subst, Some, arith, ne_eqb}
 use Rattle.std.specs.Prelude.{not}
 use Rattle.std.proofs.lemmas.Bool.{cases_lt}

@@ -1,4 +1,5 @@
--- What two views in one seat say about each other.
+-- Theorems about two ports whose views are in the same seat: what the view of one port implies about the view of the
+-- other.
 use Rattle.std.proofs.Common.{◌≡◌, ◌≢◌, ℕ, ◌≤◌, inl, inr, List, [], ◌∷◌, ◌++◌, set, slice_index, sym, refl, ap, ◌∙◌, subst, arith, length-set}
 use mathlib.Core.List.{IsPrefix}
 use mathlib.Core.Option.{none, some}

@@ -1,4 +1,4 @@
--- The phases of a node are consistent, and its steps can be counted.
+-- Theorems which state that the phases of a node are consistent, and that its steps can be counted.
 use Rattle.std.proofs.Common.{◌≡◌, ◌^◌, ◌<◌, ◌≤◌, ℕ, Bool, Option, Some, None, if◌then◌else◌, length, refl, sym, ap, ◌∙◌, arith}
 use Rattle.qolb_model.specs.declared.answer.PortState.{PortState}
 use Rattle.qolb_model.specs.declared.answer.PortState.TheVariants as port_state

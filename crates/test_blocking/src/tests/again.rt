@@ -1,4 +1,5 @@
-//! A port whose withdrawn request has not been passed asks again until it is, over all lines, with each blocking call.
+//! Tests a port whose withdrawn request is still in the queue: each blocking call tries again until that request has
+//! been skipped, and then makes a new request. The tests run on each kind of line.
 use crate::tests::held::{Scene, SleepLine, all_see, for_nodes, wait_until};
 use example_line::timed::add_within;
 use line_blocking::{Got, TimedAcquire, acquire, acquire_parking};

@@ -1,4 +1,5 @@
-//! Waiters sleep, over all lines. Each of them is woken, and a node that timed out may ask again.
+//! Tests that waiters sleep and are woken, and that a node which timed out may make another request. The tests run on
+//! all kinds of lines.
 ghost use Rattle.std.specs.Prelude.{◌≡◌, IsTrue};
 ghost use Rattle.qolb_model.specs.PortStates.{may_ask};
 ghost use Rattle.qolb_model.specs.AtTurn.{IsGranted};

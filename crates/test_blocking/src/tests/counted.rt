@@ -1,4 +1,4 @@
-//! A waiter is counted as a sleeper while it sleeps, and no longer, over all lines.
+//! Tests, on all kinds of lines, that a line counts a waiter as a sleeper exactly while the waiter sleeps.
 use crate::tests::held::{Scene, SleepLine, all_see, expect, for_nodes};
 use line_blocking::{Got, acquire_parking};
 use line_generic::{Discipline, Line};

@@ -1,4 +1,4 @@
-//! One node holds a line while others wait behind it, each in its own thread.
+//! A helper for tests: one node holds a line while other nodes wait behind it, each in its own thread.
 ghost use Rattle.std.specs.Prelude.{◌≡◌, All, IfSome, IsTrue, None};
 ghost use Rattle.qolb_model.specs.PortStates.{may_ask};
 ghost use Rattle.line_blocking.specs.Places.{AllAt};

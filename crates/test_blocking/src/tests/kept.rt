@@ -1,4 +1,5 @@
-//! A mailbox does not change the other lanes, each addition takes one turn, and values arrive in their order.
+//! Tests that the mailbox does not change other lanes, that each addition acquires the line once, and that values
+//! arrive in order.
 use crate::tests::held::{SleepLine, expect, finish_one, open_one};
 use example_line::{counter, mailbox};
 use line_lanes::{Line64, lane, with_lane};

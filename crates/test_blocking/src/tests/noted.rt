@@ -1,5 +1,5 @@
-//! How waiters sleep: the tests use a line with hooks that note each sleep, and a clock that advances by one tick at
-//! each reading.
+//! Tests how waiters sleep. The tests use a line with hooks that record each sleep, and a clock that advances by one
+//! tick whenever it is read.
 ghost use Rattle.std.specs.Prelude.{IfSome, IsTrue};
 ghost use Rattle.qolb_model.specs.PortStates.{may_ask};
 

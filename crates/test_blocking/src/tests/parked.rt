@@ -1,4 +1,4 @@
-//! How long a sleep takes, over all lines, by the system's clock.
+//! Tests how long a sleep takes on the system's clock, on all kinds of lines.
 ghost use Rattle.std.specs.Prelude.{◌≡◌};
 
 use crate::tests::held::{Scene, SleepLine, all_see, expect, for_nodes, open_three, wait_until};

@@ -1,4 +1,4 @@
-//! A node that withdraws at a closed line forwards the line to its successor, which sleeps.
+//! Tests that a node which withdraws from a closed line forwards the line to its sleeping successor.
 ghost use Rattle.std.specs.Prelude.{◌≡◌, IsTrue};
 ghost use Rattle.qolb_model.specs.PortStates.{may_ask};
 

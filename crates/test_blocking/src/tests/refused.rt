@@ -1,4 +1,4 @@
-//! `run_scoped` with limited memory: if a thread or a list is refused, no output is left behind.
+//! Tests `run_scoped` with limited memory: if a thread or a list cannot be allocated, all outputs are dropped.
 use crate::tests::held::{expect, expect_at};
 use line_blocking::scoped::{ScopedTask, run_scoped};
 use std::alloc::Global;

@@ -1,4 +1,4 @@
-//! What waiters do between two polls: how often `wait_by` asks a strategy, and when. A wait begins with all its polls
+//! Tests what waiters do between two polls: how often `wait_by` calls a strategy, and when. A wait makes all its polls
 //! before the waiter sleeps.
 use crate::tests::held::{Scene, SleepLine, all_see_hooked, expect, expect_at, wait_until};
 use line_blocking::{Got, WaitStrategy, acquire_parking, wait, wait_by};

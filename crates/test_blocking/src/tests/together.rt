@@ -1,4 +1,4 @@
-//! `run_scoped` without a line.
+//! Tests `run_scoped` without a line.
 use crate::tests::held::{expect, wait_until};
 use line_blocking::scoped::{ScopedTask, run_scoped};
 use std::alloc::Global;

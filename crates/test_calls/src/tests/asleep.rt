@@ -1,4 +1,4 @@
-//! A waiter that has slept is no longer counted, over each kind of line.
+//! Tests, for each kind of line, that the line no longer counts a waiter that has woken up.
 
 use crate::checked_line::Instrumented;
 use crate::tests::rows::expect_eq;

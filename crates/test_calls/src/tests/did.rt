@@ -1,4 +1,4 @@
-//! Tables of calls by node, each with its outcome.
+//! Tables of calls, each with its node and its expected outcome.
 
 use crate::checked_line::{CheckedLine, Instrumented, SplitCalls};
 use crate::tests::rows::expect_at;

@@ -1,5 +1,5 @@
-//! The answers of a line on which nodes make a request by two calls (the link line). A release does not wait for the
-//! link.
+//! Tests the answers of the link line, on which nodes can make a request in two calls. A release must not wait for the
+//! second call.
 
 use crate::checked_line::{CheckedLine, SplitCalls};
 use crate::tests::did::{CallOutcome, expect_by_halves};

@@ -1,4 +1,4 @@
-//! The answers of each kind of line, called by one thread, node by node.
+//! Tests the answers of each kind of line, which one thread calls for all nodes.
 
 use crate::checked_line::{CheckedLine, Instrumented};
 use crate::tests::did::{CallOutcome, expect};

@@ -1,4 +1,4 @@
-//! Lines that are opened by the calls of their kind, and not as an `OpenLine`.
+//! Tests lines that are opened by the functions of their kind, and not through the trait `OpenLine`.
 
 use crate::tests::rows::{expect_at, expect_eq};
 use crate::tests::{Part, over_each};

@@ -1,4 +1,5 @@
-//! Calls as text. A step is a node, a call and its answer, for example `2 enq queued`; semicolons separate the steps.
+//! Reads calls from text. A step consists of a node, a call and its answer, for example `2 enq queued`, and semicolons
+//! separate the steps.
 
 use crate::checked_line::{CheckedLine, Instrumented};
 use crate::tests::did::{CallOutcome, answered};

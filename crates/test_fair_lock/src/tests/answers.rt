@@ -1,4 +1,4 @@
-//! Each answer of a fair lock, in one thread.
+//! Tests each answer of a fair lock, with one thread.
 use super::{Answer, add, add_within, enter, enter_within, lock_of, try_add, try_enter};
 use fair_lock::{FairLock, NewError, OpenError};
 use std::rt::Clock;

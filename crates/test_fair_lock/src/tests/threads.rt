@@ -1,4 +1,4 @@
-//! Threads share a value: no acquisition is lost, and no two overlap.
+//! Tests that threads can share a value: no acquisition is lost, and no two critical sections overlap.
 use super::{add, add_within, lock_of, try_add};
 use fair_lock::FairLock;
 use std::rt::Clock;

@@ -1,4 +1,4 @@
-//! Timeouts, by a clock that a test moves.
+//! Tests timeouts, with a clock that the test advances.
 use super::{Answer, enter_within, lock_of};
 use fair_lock::FairLock;
 use std::io;

@@ -1,4 +1,5 @@
-//! Each answer of the queue and of closing, to a few callers in one thread.
+//! Tests each possible answer of the calls that use the queue and of those that shut the lock, with a few callers in
+//! one thread.
 ghost use Rattle.std.specs.Prelude.{◌≤◌, IfOk};
 ghost use Rattle.lock_core.specs.Layout.{IsLockTable};
 

@@ -1,4 +1,4 @@
-//! Each answer at the lock word, to a few callers in one thread.
+//! Tests each possible answer of the calls that use the lock word, with a few callers in one thread.
 ghost use Rattle.std.specs.Prelude.{◌≤◌, IfOk};
 ghost use Rattle.lock_core.specs.Layout.{IsLockTable};
 

@@ -1,4 +1,4 @@
-//! What a lock requests from the allocator.
+//! Tests how much memory a lock requests from the allocator.
 use lock_core::{LockKind, OpenError, open};
 use std::alloc::Global;
 use std::test::Fail;

@@ -1,4 +1,4 @@
-//! A lock is opened, or an error names why it was refused.
+//! Tests that a lock can be opened, or that an error gives the reason why not.
 use lock_core::{LockKind, OpenError, open};
 use std::format;
 use std::test::Fail;

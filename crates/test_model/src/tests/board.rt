@@ -1,4 +1,4 @@
-//! The format of a board in a line, and lines that are no boards.
+//! Tests the format of a board in a line, and lines that are not boards.
 use crate::tests::rows::{Bytes, FULL, expect, line_with};
 use line_board::{Tasks, decode, encode};
 use line_lanes::Line64;

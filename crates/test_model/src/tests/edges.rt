@@ -1,4 +1,5 @@
-//! What is said at the edges: of numbers just outside their ranges, words far from all that are known, and bytes on which a terminal acts.
+//! Tests the messages for extreme inputs: numbers just outside their ranges, words that resemble no known word, and
+//! bytes that control a terminal.
 use crate::tests::reasons::refusal_of;
 use crate::tests::rows::expect;
 use qolb_explain::complaint_about;

@@ -1,4 +1,4 @@
-//! Masks, lanes, and placed bytes.
+//! Tests masks, lanes, and bytes that are placed into a line.
 use crate::tests::rows::{Bytes, FULL, SEVENS, expect, expect_at, line_with, with_bytes};
 use line_lanes::{
     Line64, Mask, add_lanes, agrees, changed, lane, lane_sum, merge, placed, set_lane, with_lane,

@@ -1,4 +1,4 @@
-//! Words that are near those that may stand at a place.
+//! Tests which allowed words are suggested for a wrong word.
 use crate::tests::rows::expect;
 use qolb_explain::Complaint;
 use qolb_script::{Allowed, Reason};

@@ -1,4 +1,4 @@
-//! The plain line, call by call, and the configurations that open a line.
+//! Tests the plain line, call by call, and the configurations with which a line can be opened.
 ghost use Rattle.std.specs.Prelude.{◌≡◌};
 
 use crate::tests::rows::{expect, expect_at};

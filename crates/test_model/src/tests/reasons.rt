@@ -1,4 +1,4 @@
-//! The reasons for refusing a script: the line, and the first thing that is wrong with it.
+//! Tests the reasons for refusing a script: the line, and the first fault in that line.
 use crate::tests::rows::expect;
 use qolb_explain::complaint_about;
 use qolb_script::{

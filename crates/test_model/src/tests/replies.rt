@@ -1,4 +1,4 @@
-//! The text of the answer to each call and step.
+//! Tests the text of the answer to each call and each step.
 use crate::tests::rows::expect_at;
 use link_core::Told;
 use qolb_model::{Enq, Out, Poll};

@@ -1,4 +1,4 @@
-//! The texts of reports.
+//! Tests the text of reports.
 use crate::tests::rows::expect_at;
 use qolb_script::{Report, Watched, write_report};
 use std::test::Fail;

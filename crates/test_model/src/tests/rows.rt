@@ -1,4 +1,4 @@
-//! What the tests of this crate share.
+//! Helper functions that the tests of this crate share.
 use line_lanes::Line64;
 use linked_list_allocator::LocalHeap;
 use qolb_script::ScriptError;

@@ -1,4 +1,4 @@
-//! Scripts of calls.
+//! Tests the reader of schedules, which are scripts of calls.
 use crate::tests::rows::{expect, expect_at, expect_refusals};
 use line_lanes::{Line64, Mask};
 use linked_list_allocator::LocalHeap;

@@ -1,4 +1,4 @@
-//! Scripts of word steps.
+//! Tests the reader of step scripts, whose events are atomic steps.
 use crate::tests::rows::{expect, expect_at, expect_refusals};
 use line_lanes::{Line64, Mask};
 use link_core::Event;

@@ -1,4 +1,4 @@
-//! What is said of each fault: what may stand there, and the form of the line.
+//! Tests the message for each fault in a script: what would be allowed in its place, and the form of the line.
 use crate::tests::rows::expect;
 use qolb_explain::Complaint;
 use qolb_script::{Allowed, Form, Reason, ScriptKind};

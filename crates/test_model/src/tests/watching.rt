@@ -1,4 +1,4 @@
-//! Readers and writers that remember a fault.
+//! Tests readers and writers that remember a fault.
 use crate::tests::rows::{expect, expect_at};
 use qolb_script::{Fault, Watched};
 use std::io;

@@ -1,4 +1,4 @@
-//! Scripts of boards and banks.
+//! Tests the reader of work scripts, for boards and for banks.
 use crate::tests::rows::{expect, expect_at, expect_refusals};
 use qolb_script::{Job, ScriptError, WorkKind, read_work};
 use std::alloc::{AllocError, Global};

@@ -1,4 +1,4 @@
-//! The reasons for refusing a work script.
+//! Tests the reasons for refusing a work script.
 use crate::tests::reasons::expect_reasons;
 use qolb_script::{Allowed, Form, Reason, ScriptKind};
 

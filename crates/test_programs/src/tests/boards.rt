@@ -1,4 +1,4 @@
-//! The answers of the board's calls, on a line of zeros.
+//! Tests the answers of the board's calls, on a line of zeros.
 ghost use Rattle.std.specs.Prelude.{IfSome};
 ghost use Rattle.line_accounts.specs.NewDesks.{IsNewPort};
 

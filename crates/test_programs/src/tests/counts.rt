@@ -1,4 +1,4 @@
-//! Threads that count.
+//! Tests threads that count together.
 
 use crate::counts::{race, raise_all};
 use crate::fixtures::{open_zeros, with_two};

@@ -1,4 +1,4 @@
-//! The answers of the desks' calls, and the settled totals, on lines of zeros.
+//! Tests the answers of the desks' calls, and the settled totals, on lines of zeros.
 ghost use Rattle.std.specs.Prelude.{◌≡◌, All, IfSome};
 ghost use Rattle.line_accounts.specs.Desks.{IsDeskOver};
 ghost use Rattle.line_accounts.specs.NewDesks.{IsNewPort};

@@ -1,4 +1,4 @@
-//! Pictures of schedules.
+//! Tests the pictures of schedules.
 use crate::tests::rows::{expect, expect_refusals};
 use crate::tests::styles::{Sheet, are_seen, signs_differ};
 use qolb_draw::{Form, draw_schedule};

@@ -1,4 +1,4 @@
-//! Replays of scripts by lines of each kind.
+//! Tests replays of schedules on lines of each kind.
 use crate::tests::rows::{expect, expect_at};
 use line_kinds::{ALL, Lock};
 use linked_list_allocator::LocalHeap;

@@ -1,4 +1,4 @@
-//! What the tests of this crate share.
+//! Helper functions that the tests of this crate share.
 use linked_list_allocator::LocalHeap;
 use qolb_run::ReplayError;
 use std::alloc::Global;

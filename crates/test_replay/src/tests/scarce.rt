@@ -1,4 +1,4 @@
-//! Replays in a room of memory, which show that a replay opens lines of its kind or type.
+//! Tests replays with limited memory. Their need for memory shows that a replay opens lines of the requested kind.
 use crate::tests::rows::expect_at;
 use line_kinds::{Lock, TicketLine};
 use qolb_model::Free;

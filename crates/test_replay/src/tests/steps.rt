@@ -1,4 +1,4 @@
-//! Replays of step scripts.
+//! Tests replays of step scripts.
 use crate::tests::replays::repeated;
 use crate::tests::rows::{expect, expect_at};
 use linked_list_allocator::LocalHeap;

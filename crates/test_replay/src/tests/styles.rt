@@ -1,5 +1,5 @@
-//! Demands on the style of pictures, read from the pictures themselves: what is drawn can be seen on a light page and on a dark one, and no
-//! two kinds of bars look alike.
+//! Tests the style of pictures, by reading the pictures themselves: all shapes must be visible on a light page and on a
+//! dark page, and no two kinds of bars may look alike.
 use crate::tests::rows::{expect, expect_at};
 use std::process::Abort;
 

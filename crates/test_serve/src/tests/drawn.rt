@@ -1,4 +1,4 @@
-//! Pictures, and runs of step scripts.
+//! Tests pictures, and runs of step scripts.
 use crate::tests::runs::{expect, told};
 use std::test::Fail;
 

@@ -1,4 +1,4 @@
-//! Refused scripts with `--explain`: what may stand there.
+//! Tests refused scripts with `--explain`, which prints what would be allowed.
 use crate::tests::runs::{expect, told};
 use std::test::Fail;
 

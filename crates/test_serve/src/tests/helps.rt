@@ -1,4 +1,4 @@
-//! Tests of the help: its lines are compared whole, and its examples are run.
+//! Tests the help texts: they are compared in full, and their examples are executed.
 use crate::tests::runs::{expect, run};
 use std::alloc::Global;
 use std::process::Abort;

@@ -1,4 +1,4 @@
-//! Readers and writers that fail at one of their calls, or move few bytes at a time.
+//! Readers and writers that fail at one of their calls, or transfer only a few bytes at a time.
 use crate::tests::runs::run;
 use std::io::{self, Read, Write};
 use std::test::Fail;

@@ -1,4 +1,4 @@
-//! Long scripts and long answers.
+//! Tests long scripts and long answers.
 use crate::tests::hostile::{HAND_OVER, HANDED_OVER};
 use crate::tests::runs::run;
 use std::alloc::Global;

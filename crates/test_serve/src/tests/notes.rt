@@ -1,4 +1,4 @@
-//! Notes behind an answer: why `misuse` and `refused` are said.
+//! Tests the notes that follow an answer, which explain the answers `misuse` and `refused`.
 use crate::tests::runs::{KINDS, expect};
 use std::test::Fail;
 

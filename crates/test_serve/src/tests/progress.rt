@@ -1,4 +1,4 @@
-//! What the program says beside its output: its progress, if that is asked for, and nothing else.
+//! Tests what the program prints in addition to its output: its progress if that is requested, and nothing else.
 use crate::tests::hostile::RUNS;
 use crate::tests::runs::told;
 use std::alloc::Global;

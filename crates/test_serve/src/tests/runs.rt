@@ -1,4 +1,4 @@
-//! Runs of the program: words and script, with the status and the output.
+//! Tests complete runs of the program: the words and the script, with the expected status and output.
 use crate::tests::long::with_explain;
 use line_kinds::{LOCKS, lock_names};
 use qolb_serve::serve;

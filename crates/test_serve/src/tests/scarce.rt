@@ -1,4 +1,4 @@
-//! The program in rooms of memory that grow.
+//! Tests the program with limited memory, in amounts that increase step by step.
 use crate::tests::hostile::{BOARD, BOARD_REPORT, HAND_OVER, HANDED_OVER_DRAWN, LATE_LINK, LINKED};
 use qolb_serve::serve;
 use std::alloc::Global;

@@ -1,4 +1,4 @@
-//! Words of the command line: what they ask for, what is not taken, help and version.
+//! Tests the words of the command line: what they request, which words are refused, and the output of help and version.
 use crate::tests::runs::{run, told};
 use qolb_serve::refuse_words;
 use std::io;

@@ -1,4 +1,4 @@
-//! Boards and banks: reports, scripts that are none, workers that stall.
+//! Tests boards and banks: their reports, refused scripts, and workers that stall.
 use crate::tests::runs::expect;
 use qolb_run::TaskError;
 use qolb_serve::fail;

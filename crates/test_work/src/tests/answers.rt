@@ -1,4 +1,4 @@
-//! The variants of each answer and state, in their order.
+//! Tests that each answer and each state has all its variants, in order.
 use crate::tests::rows::{expect, expect_at};
 use line_accounts::Reply;
 use line_board::Put;

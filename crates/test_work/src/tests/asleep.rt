@@ -1,4 +1,5 @@
-//! Workers sleep if they are told to, and else do not: over lines whose holder keeps the line until a waiter has waited so.
+//! Tests that workers sleep if they are configured to sleep, and do not sleep otherwise. In these tests a holder keeps
+//! the line until a waiter has waited in the expected way.
 use crate::tests::gates::Closed;
 use crate::tests::rows::expect;
 use line_accounts::AccountLaw;

@@ -1,4 +1,5 @@
-//! Eight workers at a gate: each is asked for like the first.
+//! Tests a gate with eight workers: each worker must ask the gate before each of its jobs, and a run must name the
+//! first worker that gives up.
 use crate::tests::gates::{Begun, Closed};
 use crate::tests::rows::{expect, expect_at};
 use line_kinds::ALL;

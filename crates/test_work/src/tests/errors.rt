@@ -1,4 +1,4 @@
-//! The errors with their numbers, each variant of them.
+//! Tests the number that represents each error variant.
 use crate::tests::rows::{expect, expect_at};
 use line_accounts::SettleError;
 use link_core::NotEnabled;

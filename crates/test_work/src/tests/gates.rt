@@ -1,4 +1,4 @@
-//! Workers at a gate.
+//! Tests workers at a gate.
 use crate::tests::rows::{expect, expect_at};
 use crate::tests::work::{EITHER, expect_work};
 use line_kinds::{ALL, Lock};

@@ -1,4 +1,4 @@
-//! The messages about the progress of work, and their times.
+//! Tests the messages about the progress of the work, and when they appear.
 use crate::tests::rows::{expect, expect_at};
 use line_blocking::scoped::{ScopedTask, run_scoped};
 use qolb_run::{Gate, Progress};

@@ -1,4 +1,4 @@
-//! What the tests of this crate share.
+//! Helper functions that the tests of this crate share.
 use std::fmt::Debug;
 use std::process::Abort;
 

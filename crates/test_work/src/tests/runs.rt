@@ -1,4 +1,4 @@
-//! Runs: a wait for a line, gates and workers.
+//! Tests complete runs: a thread that waits for a line, gates, and workers.
 use crate::tests::rows::expect;
 use line_kinds::RingLine;
 use line_lanes::Line64;

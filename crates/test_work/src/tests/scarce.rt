@@ -1,4 +1,5 @@
-//! Work in a room of memory: work is refused or done, and refused work is not begun twice.
+//! Tests work with limited memory: work is either refused or done completely, and work that was refused is not begun a
+//! second time.
 use crate::tests::eight::{Counts, loaded};
 use crate::tests::rows::{expect, expect_at};
 use line_kinds::{ALL, Lock};

@@ -1,4 +1,4 @@
-//! Workers that share lines, over lines of each kind, awake and asleep.
+//! Tests workers that share lines of each kind, with waiting workers that sleep and that do not.
 ghost use Rattle.std.specs.Prelude.{◌<◌};
 
 use crate::tests::rows::{expect, expect_at};

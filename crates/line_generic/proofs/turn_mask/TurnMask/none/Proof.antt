@@ -1,4 +1,4 @@
--- `none` makes the value without bytes, and says that its mask is empty.
+-- Proof that `none` returns the value without bytes, and that its mask is empty.
 use Rattle.std.proofs.Common.{[], ◌∷◌, refl}
 use Rattle.std.proofs.raw_atomic.Walks.{proved}
 use base.Fml.{ftrue}

@@ -1,4 +1,4 @@
--- `same` makes the value without bytes, and says that its mask is the same.
+-- Proof that `same` returns the value without bytes, and that its mask is unchanged.
 use Rattle.std.proofs.Common.{[], ◌∷◌, refl}
 use Rattle.std.proofs.raw_atomic.Walks.{proved}
 use base.Fml.{ftrue}

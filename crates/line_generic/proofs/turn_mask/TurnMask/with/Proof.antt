@@ -1,4 +1,4 @@
--- `with` makes the value without bytes, and says that the places of a write are added to its mask.
+-- Proof that `with` returns the value without bytes, and that the places of a write are added to its mask.
 use Rattle.std.proofs.Common.{bit_or, [], ◌∷◌, refl}
 use Rattle.std.proofs.raw_atomic.Walks.{proved}
 use base.Fml.{ftrue}

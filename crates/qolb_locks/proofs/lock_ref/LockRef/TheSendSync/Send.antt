@@ -1,4 +1,4 @@
--- A reference to a lock may go to another thread, because it names nothing that belongs to one thread.
+-- A reference to a lock may move to another thread, because it refers to nothing that belongs to only one thread.
 use mathlib.Core.List.{[]}
 use base.Shift.{Keyless}
 use denote.RawPtr.{Ptr}

@@ -1,4 +1,4 @@
--- `get` copies what the reference holds out of a `&` to the reference.
+-- Proof that `get` copies what the reference holds out of a `&` to the reference.
 use Rattle.std.proofs.Common.{◌≡◌, ℕ, List, [], ◌∷◌, refl, sym, ap}
 use mir.Syntax.{named}
 use mir.Val.{Val, vptr}

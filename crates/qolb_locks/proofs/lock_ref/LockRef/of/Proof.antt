@@ -1,4 +1,4 @@
--- `of` keeps what a `&'static` to a lock holds.
+-- Proof that `of` keeps what a `&'static` to a lock holds.
 use Rattle.std.proofs.Common.{◌≡◌, ℕ, [], ◌∷◌, refl}
 use mir.Syntax.{static}
 use mir.Val.{Val, vptr}

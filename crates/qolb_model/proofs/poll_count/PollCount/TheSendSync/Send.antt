@@ -1,4 +1,4 @@
--- A `PollCount` may go to another thread, because it owns nothing.
+-- A `PollCount` may move to another thread, because it owns nothing.
 use denote.Param.Send.{IsSend, owning_send}
 use Rattle.qolb_model.specs.contracts.poll_count.PollCount.{the_row, the_type}
 

@@ -1,4 +1,4 @@
--- `and_one` makes the value without bytes, and says that its count is one more.
+-- Proof that `and_one` returns the value without bytes, and that its count is greater by one.
 use Rattle.std.proofs.Common.{◌+◌, [], ◌∷◌, refl}
 use Rattle.std.proofs.raw_atomic.Walks.{proved}
 use base.Fml.{ftrue}

@@ -1,4 +1,4 @@
--- `none` makes the value without bytes, and says that its count is 0.
+-- Proof that `none` returns the value without bytes, and that its count is 0.
 use Rattle.std.proofs.Common.{[], ◌∷◌, refl}
 use Rattle.std.proofs.raw_atomic.Walks.{proved}
 use base.Fml.{ftrue}

@@ -1,4 +1,4 @@
--- A handle may go to another thread, because it owns nothing, or a box of a node that may go there.
+-- A handle may move to another thread, because it owns nothing, or a box of a node that may move there.
 use mir.Raw.{raw}
 use base.Shift.{Keyless}
 use denote.Memory.{lone}

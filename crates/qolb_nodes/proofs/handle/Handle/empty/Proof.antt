@@ -1,4 +1,4 @@
--- `empty` makes a null pointer, which owns nothing.
+-- Proof that `empty` returns a null pointer, which owns nothing.
 use Rattle.std.proofs.Common.{◌≡◌, [], ◌∷◌, refl, lit<}
 use mir.Val.{Val}
 use base.Logic.{SProp, emp}

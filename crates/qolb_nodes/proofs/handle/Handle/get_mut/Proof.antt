@@ -1,4 +1,4 @@
--- `get_mut` tests the pointer and lends the node behind it. A change of the node is a change of the handle.
+-- Proof that `get_mut` tests the pointer and lends the node behind it. A change of the node is a change of the handle.
 use Rattle.std.proofs.Common.{◌≡◌, ℕ, List, [], ◌∷◌, refl, sym, ap, ◌∙◌, lit<}
 use seplogic.Ra.Ura.{Ura}
 use base.Fraction.{full_share}

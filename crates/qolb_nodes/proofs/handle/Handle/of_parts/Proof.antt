@@ -1,4 +1,4 @@
--- `of_parts` moves the pointer, and what the parts own, into the handle.
+-- Proof that `of_parts` moves the pointer, and what the parts own, into the handle.
 use Rattle.std.proofs.Common.{◌≡◌, List, [], ◌∷◌, ◌++◌, refl, sym, subst}
 use mir.Val.{Val}
 use base.Logic.{SProp, ent, emp, id⊢}
