@@ -40,7 +40,7 @@ OF_THREAD = "static BY_THREAD struct caller *in_call;\n"
 assert OF_THREAD in SOURCES["callbacks.c"]
 SOURCES["callbacks.c"] = SOURCES["callbacks.c"].replace(OF_THREAD, "void **model_in_call(void);\n#define in_call (*(struct caller **)model_in_call())\n")
 SOURCES["hints.h"] = """#include "line.h"
-static const char *slot_of(struct node *my) { return 0; }
+static const char *slot_at(const struct node *my, uint64_t word) { return 0; }
 static void hint_turn(const struct node *my, const char *slot) {}
 static void hint_release(const struct node *my) {}
 """
@@ -73,7 +73,7 @@ NODE_LOOK = "    unsigned word = atomic_load(&place->word);\n    uint32_t got = 
 WAKES = "    atomic_fetch_add(&place->word, 1);\n    qolb_wake_at_(&place->word, INT32_MAX);\n"
 RELEASES = "    return let_go(my, qolb_deqolb_proved_(&my->proved));\n"
 COUNTED_EARLY = "    unsigned early = atomic_load(&my->line->callbacks.waiting);\n    uint32_t got = qolb_deqolb_proved_(&my->proved);\n    return early && got != QOLB_MISUSE ? woken(my, got) : got;\n"
-NEXT = "    wake_at(place_at(line, next));\n    wake_at(place_at(line, ahead));\n"
+NEXT = "    wake_at(place_at(line, look.went_to));\n    wake_at(place_at(line, look.went_ahead));\n"
 FAULTS = {
     "nodes: the sleeper does not count itself at its place": (COUNT + IN_LINE, IN_LINE, OFF_PLACE, ""),
     "nodes: the sleeper does not count itself in its line": (COUNT + IN_LINE, COUNT, OFF_LINE, ""),
@@ -89,10 +89,10 @@ FAULTS = {
     "nodes: a wake adds nothing": (WAKES, WAKES.splitlines(True)[1]),
     "nodes: the wake comes before the addition": (WAKES, "".join(reversed(WAKES.splitlines(True)))),
     "nodes: who releases reads the count before the release": (RELEASES, COUNTED_EARLY),
-    "nodes: a sleeper sleeps at another's place": ("place_at(my->line, qolb_waits_at_proved_(&my->proved))", "place_at(my->line, qolb_waits_at_proved_(&my->proved) + LAYOUT_PLACE_WORDS)"),
+    "nodes: a sleeper sleeps at another's place": ("sleep_at_place(my, place_at(my->line, word), limit)", "sleep_at_place(my, place_at(my->line, word + LAYOUT_PLACE_WORDS), limit)"),
     "nodes: a sleeper does not take itself off its place": (OFF_PLACE, ""),
     "nodes: a sleeper does not take itself off its line": (OFF_LINE, ""),
-    "nodes: who releases wakes at its own place": ("qolb_went_to_proved_(&my->proved)", "qolb_waits_at_proved_(&my->proved)"),
+    "nodes: who releases wakes at its own place": ("wake_at(place_at(line, look.went_to))", "wake_at(place_at(line, look.wait_word))"),
     "nodes: the one behind the next holder is woken alone": (NEXT, NEXT.splitlines(True)[1]),
     "nodes: the first that closes frees the line": (".callbacks.others = nodes - 1", ".callbacks.others = 0"),
     "nodes: who closes does not let go of the line": ("    qolb_let_go_(&my->line->callbacks);\n", ""),
@@ -115,7 +115,7 @@ FAULTS |= {
     "callbacks: a callback is not counted": (LISTED, LISTED.splitlines(True)[0], UNCOUNTED, "    return 1;\n"),
     "callbacks: a callback is counted after the look": (LISTED, LISTED.splitlines(True)[0], LISTENS, LISTENS + "    atomic_fetch_add(&of->waiting, 1);\n"),
     "callbacks: a callback that is taken out is still counted": (UNCOUNTED, "    return 1;\n"),
-    "callbacks: who releases makes no call": ("    if (atomic_load(&line->callbacks.first)) qolb_make_call_(&line->callbacks, next);\n", ""),
+    "callbacks: who releases makes no call": ("    if (atomic_load(&line->callbacks.first)) qolb_make_call_(&line->callbacks, look.went_to);\n", ""),
     "callbacks: who releases makes any call of the line": ("    while (it && it->key != key) it = it->next;\n", ""),
     "callbacks: who releases takes no guard": (TAKES, TAKES.splitlines(True)[0]),
     "callbacks: who releases makes the call under the guard": (NOTED, NOTED.replace("    return_guard(&of->guard);\n", ""), CALLS, CALLS + "    return_guard(&of->guard);\n"),
@@ -131,14 +131,14 @@ FAULTS |= {
     "callbacks: a waiter for a call's end says so after the guard": ("    call->awaited = 1;\n    unsigned ended = atomic_load(&of->ended);\n    return_guard(&of->guard);\n", "    unsigned ended = atomic_load(&of->ended);\n    return_guard(&of->guard);\n    call->awaited = 1;\n"),
     "callbacks: a call that is done is still waited for": ("void qolb_notify_done(void) {\n    struct running *me = in_call ? in_call->running : NULL;\n    if (!me) return;\n", "void qolb_notify_done(void) {}\nstatic void ends(void) {\n    struct running *me = in_call->running;\n", "    call(arg);\n    qolb_notify_done();\n", "    call(arg);\n    ends();\n"),
     "callbacks: closing leaves the callback": ("    qolb_notify_off(handle);\n", ""),
-    "callbacks: a second wish leaves the first": ("    qolb_notify_off(node);\n    my->callback.call", "    if (!my->line->callbacks.first) qolb_notify_off(node);\n    my->callback.call"),
+    "callbacks: a second wish leaves the first": ("    qolb_notify_off(node);\n    my->callback.key", "    if (!my->line->callbacks.first) qolb_notify_off(node);\n    my->callback.key"),
     "callbacks: a call is made inside another": ("    if (is_put_off(of, key)) return;\n", ""),
     "callbacks: calls that were put off are not made": ("    make_put_off(&me);\n    in_call = outer;\n    pthread", "    in_call = outer;\n    pthread"),
     "callbacks: a call that was put off does not keep its line": ("    atomic_fetch_add(&of->others, 1);\n", "", "        qolb_let_go_(of);\n", ""),
     "callbacks: a call that was made keeps its line": ("        qolb_let_go_(of);\n", ""),
     "callbacks: who is told that it is closed makes no call": ("    return told(my, got);\n}\n\nenum qolb_result qolb_notify_off", "    return got;\n}\n\nenum qolb_result qolb_notify_off"),
     "callbacks: who releases reads the count before the release": (RELEASES, COUNTED_EARLY),
-    "callbacks: who releases calls for its own place": ("qolb_went_to_proved_(&my->proved)", "qolb_waits_at_proved_(&my->proved)"),
+    "callbacks: who releases calls for its own place": ("qolb_make_call_(&line->callbacks, look.went_to)", "qolb_make_call_(&line->callbacks, look.wait_word)"),
     "callbacks: a callback is counted before the look, and listed after it": (LISTED, LISTED.splitlines(True)[0], LISTENS + AFTER_LOOK, "    atomic_fetch_add(&of->waiting, 1);\n    uint32_t got = qolb_poll_proved_(&my->proved);\n    if (got == QOLB_WAITING) qolb_put_in_list_(of, &my->callback);\n    else atomic_fetch_add(&of->waiting, -1u);\n"),
     "callbacks: the look comes after the guard": (LISTENS + AFTER_LOOK, "    qolb_put_in_list_(of, &my->callback);\n    return_guard(&of->guard);\n    uint32_t got = qolb_poll_proved_(&my->proved);\n    take_guard(&of->guard);\n" + AFTER_LOOK),
     "callbacks: who is granted the line by its look stays in the list": (LISTENS + AFTER_LOOK, LISTENS),

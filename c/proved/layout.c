@@ -1,8 +1,9 @@
-/* Prints the numbers of qolb_layout.h, one on each line in the order of the header. These are COUNT numbers that the
- * proved part returns (crates/qolb_c/src/layout.rt), and the sizes of the blocks that opening a line or a lock
- * allocates. tools/snapshot writes the header by this program, and `make -C c check` compares the two.
+/* Prints the numbers of qolb_layout.h, one on each line in the order of the header. These are NODES numbers that the
+ * nodes return (crates/qolb_nodes/src/layout.rt), LOCKS numbers that the locks return
+ * (crates/qolb_locks/src/layout.rt), and the sizes of the blocks that opening a line or a lock allocates.
+ * tools/snapshot writes the header by this program, and `make -C c check` compares the two.
  *
- *   layout COUNT
+ *   layout NODES LOCKS
  *
  * The program is linked with the proved part alone, so it has functions of its own for the memory of the proved part.
  */
@@ -19,7 +20,8 @@ struct tried {
 struct tried rattle_alloc(size_t size, size_t align);
 struct tried rattle_realloc(void *block, size_t kept, size_t size, size_t align);
 void rattle_dealloc(void *block);
-uint32_t qolb_core_open_proved_(uint64_t burst, uint64_t label, void *out);
+uint32_t qolb_core_open_proved_(uint64_t barging_limit, uint64_t label, void *out);
+void qolb_core_layout_proved_(uint64_t *numbers);
 
 /* The blocks that are allocated now, in the order of their allocation. */
 enum { MOST = 64 };
@@ -105,16 +107,23 @@ static struct measured measure_lines(void) {
     return ring;
 }
 
-int main(int argc, char **argv) {
+/* Prints the numbers that a crate returns, of which there are this many. */
+static void print_told(void (*tell)(uint64_t *numbers), const char *many_told) {
     enum { MOST_TOLD = 256 };
     uint64_t told[MOST_TOLD];
-    size_t count = argc == 2 ? strtoul(argv[1], NULL, 10) : 0;
-    if (count == 0 || count >= MOST_TOLD) fail("the command is: layout COUNT");
+    size_t count = strtoul(many_told, NULL, 10);
+    if (count == 0 || count >= MOST_TOLD) fail("the command is: layout NODES LOCKS");
     memset(told, 0xff, sizeof told);
-    qolb_layout_proved_(told);
+    tell(told);
     if (told[count - 1] == UINT64_MAX || told[count] != UINT64_MAX)
         fail("the proved part tells another count of numbers");
     for (size_t k = 0; k < count; k++) printf("%llu\n", (unsigned long long)told[k]);
+}
+
+int main(int argc, char **argv) {
+    if (argc != 3) fail("the command is: layout NODES LOCKS");
+    print_told(qolb_layout_proved_, argv[1]);
+    print_told(qolb_core_layout_proved_, argv[2]);
 
     const void *lock;
     struct measured it = measure_lines();

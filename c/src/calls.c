@@ -30,10 +30,10 @@ static void wake_at(struct place *place) {
  * callback is called last, because it may take a while. */
 __attribute__((noinline)) static uint32_t woken(struct node *my, uint32_t got) {
     struct line *line = my->line;
-    uint64_t next = qolb_went_to_proved_(&my->proved), ahead = qolb_went_ahead_proved_(&my->proved);
-    wake_at(place_at(line, next));
-    wake_at(place_at(line, ahead));
-    if (atomic_load(&line->callbacks.first)) qolb_make_call_(&line->callbacks, next);
+    struct qolb_look look = look_at(my);
+    wake_at(place_at(line, look.went_to));
+    wake_at(place_at(line, look.went_ahead));
+    if (atomic_load(&line->callbacks.first)) qolb_make_call_(&line->callbacks, look.went_to);
     return got;
 }
 
@@ -108,7 +108,8 @@ enum qolb_result qolb_settle_node(qolb_node *node) {
 /* ---- Waiting for a turn ---- */
 
 static inline struct probed of_node(struct node *my) {
-    return (struct probed){qolb_label_proved_(&my->proved), qolb_number_proved_(&my->proved), (uintptr_t)my->line};
+    struct qolb_look look = look_at(my);
+    return (struct probed){look.label, look.number, (uintptr_t)my->line};
 }
 
 /* Returns an upper bound on the nodes before one that waits: all others, if the line has few nodes, and otherwise that
@@ -120,9 +121,8 @@ static uint64_t most_before(const struct node *my) {
 
 /* Polls until it is time to sleep, or the timeout has expired. It polls at least once. Returns GRANTED, CLOSED or
  * WAITING. */
-static uint32_t spin(struct node *my, const struct limit *limit, struct spin *spun) {
+static uint32_t spin(struct node *my, const char *slot, const struct limit *limit, struct spin *spun) {
     uint64_t before = most_before(my);
-    const char *slot = slot_of(my);
     for (;;) {
         hint_turn(my, slot);
         uint32_t got = qolb_poll_proved_(&my->proved);
@@ -130,10 +130,8 @@ static uint32_t spin(struct node *my, const struct limit *limit, struct spin *sp
     }
 }
 
-/* Sleeps at the node's place, which does not change until the node is granted the line. It polls once between counting
- * itself as a sleeper and the sleep. */
-static uint32_t sleep_at_place(struct node *my, const struct limit *limit) {
-    struct place *place = place_at(my->line, qolb_waits_at_proved_(&my->proved));
+/* Sleeps at the node's place. It polls once between counting itself as a sleeper and the sleep. */
+static uint32_t sleep_at_place(struct node *my, struct place *place, const struct limit *limit) {
     atomic_fetch_add(&place->sleepers, 1);
     atomic_fetch_add(&my->line->callbacks.waiting, 1);
     unsigned word = atomic_load(&place->word);
@@ -154,12 +152,15 @@ static uint32_t give_up_turn(struct node *my) {
     return got == QOLB_WITHDRAWN ? (uint32_t)QOLB_TIMEDOUT : got;
 }
 
-/* Waits until the request is at its turn. Returns GRANTED, CLOSED or TIMEDOUT. */
+/* Waits until the request is at its turn. Until then the node's word, and therefore its place, does not change. Returns
+ * GRANTED, CLOSED or TIMEDOUT. */
 static uint32_t await_turn(struct node *my, const struct limit *limit) {
+    uint64_t word = look_at(my).wait_word;
+    const char *slot = slot_at(my, word);
     struct spin spun = {.yields_from = YIELD_UNSURE};
     for (;;) {
-        uint32_t got = spin(my, limit, &spun);
-        if (got == QOLB_WAITING && left(limit)) got = sleep_at_place(my, limit);
+        uint32_t got = spin(my, slot, limit, &spun);
+        if (got == QOLB_WAITING && left(limit)) got = sleep_at_place(my, place_at(my->line, word), limit);
         if (got != QOLB_WAITING) return got;
         if (left(limit) == 0) return give_up_turn(my);
     }
@@ -209,11 +210,10 @@ enum qolb_result qolb_acquire_within(qolb_node *node, uint64_t nanoseconds) { re
 
 /* ---- Having a callback made (callbacks.h) ---- */
 
-/* Puts the callback into the line's list, with the place at which the node waits as its key, and polls. The callback
- * will be called if the result is WAITING, and only then. */
+/* Puts the callback into the line's list and polls. The callback will be called if the result is WAITING, and only
+ * then. */
 static uint32_t want_call(struct node *my) {
     struct callbacks *of = &my->line->callbacks;
-    my->callback.key = qolb_waits_at_proved_(&my->proved);
     qolb_tell_release_(&my->callback);
     take_guard(&of->guard);
     qolb_put_in_list_(of, &my->callback);
@@ -225,8 +225,10 @@ static uint32_t want_call(struct node *my) {
 
 enum qolb_result qolb_notify(qolb_node *node, void (*call)(void *), void *arg) {
     struct node *my = node_of(node);
-    if (!my || !call || qolb_state_proved_(&my->proved) != QOLB_STATE_QUEUED) return QOLB_MISUSE;
+    struct qolb_look look = my ? look_at(my) : (struct qolb_look){0};
+    if (!call || look.state != QOLB_STATE_QUEUED) return QOLB_MISUSE;
     qolb_notify_off(node);
+    my->callback.key = look.wait_word;
     my->callback.call = call;
     my->callback.arg = arg;
     uint32_t got = want_call(my);
@@ -276,22 +278,22 @@ enum qolb_result qolb_add_lane(qolb_node *node, uint64_t lane, uint64_t by, uint
 
 uint64_t qolb_turns_left(qolb_node *node) {
     struct node *my = node_of(node);
-    return my ? qolb_turns_left_proved_(&my->proved) : 0;
+    return my ? look_at(my).turns_left : 0;
 }
 
 uint64_t qolb_number(qolb_node *node) {
     struct node *my = node_of(node);
-    return my ? qolb_number_proved_(&my->proved) : 0;
+    return my ? look_at(my).number : 0;
 }
 
 uint64_t qolb_label(qolb_node *node) {
     struct node *my = node_of(node);
-    return my ? qolb_label_proved_(&my->proved) : 0;
+    return my ? look_at(my).label : 0;
 }
 
 uint32_t qolb_state(qolb_node *node) {
     struct node *my = node_of(node);
-    return my ? qolb_state_proved_(&my->proved) : (uint32_t)QOLB_STATE_EMPTY;
+    return my ? look_at(my).state : (uint32_t)QOLB_STATE_EMPTY;
 }
 
 /* The library that a program runs with may have another version than the header that it was compiled with. */

@@ -1,4 +1,4 @@
-/* The proved core of a lock, which decides which thread is next. crates/qolb_c/src/core_calls.rt exports these
+/* The proved core of a lock, which decides which thread is next. crates/qolb_locks/src/exports.rt exports these
  * calls, and the files of lock/ make them. Any number of threads may make calls on one lock at the same time, and no
  * call waits. A call takes at most three atomic steps. A ticket's first call on a lock takes one more, and a release
  * takes two more for each withdrawn request that it skips, of which there are at most 64. Only the call that opens a

@@ -43,10 +43,11 @@ static inline const char *slots_of(const struct node *my) {
     return address_in(proved_line_of(my), LAYOUT_LINE_TO_SLOTS);
 }
 
-/* Returns the slot that a waiting node will read: that of its place in a ticket line, and the only slot in others. */
-static inline const char *slot_of(struct node *my) {
+/* Returns the slot that a node which waits at this word will read: that of the word's cell in a ticket line, and the
+ * only slot in others. */
+static inline const char *slot_at(const struct node *my, uint64_t word) {
     if (my->line->kind != QOLB_TICKET) return slots_of(my);
-    return slots_of(my) + qolb_waits_at_proved_(&my->proved) / LAYOUT_PLACE_WORDS * LAYOUT_SLOT_BYTES;
+    return slots_of(my) + word / LAYOUT_PLACE_WORDS * LAYOUT_SLOT_BYTES;
 }
 
 /* Return the word of the last request of a link line, and the entry of a node. */
@@ -72,7 +73,7 @@ static inline void hint_turn_of_link(const struct node *my, const char *slot) {
     will_write(own);
 }
 
-/* Prefetches before a poll. `slot` is slot_of(my). */
+/* Prefetches before a poll. `slot` is slot_at of the node's word. */
 static inline void hint_turn(const struct node *my, const char *slot) {
     if (my->line->kind == QOLB_LINK) hint_turn_of_link(my, slot);
     else will_read(slot);

@@ -45,7 +45,7 @@ enum qolb_result qolb_open(uint32_t kind, uint64_t label, uint64_t nodes, uint64
 }
 
 static int may_close(struct node *my) {
-    uint32_t state = qolb_state_proved_(&my->proved);
+    uint32_t state = look_at(my).state;
     return state == QOLB_STATE_IDLE || state == QOLB_STATE_LEFT || state == QOLB_STATE_ROLLED ||
            state == QOLB_STATE_SHUT;
 }

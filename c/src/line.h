@@ -61,4 +61,10 @@ static inline struct place *place_at(struct line *line, uint64_t word) {
 /* Returns the node of a handle, or NULL if the handle is empty. */
 static inline struct node *node_of(const qolb_node *handle) { return handle->own; }
 
+static inline struct qolb_look look_at(struct node *my) {
+    struct qolb_look look;
+    qolb_look_proved_(&my->proved, &look);
+    return look;
+}
+
 #endif

@@ -1,4 +1,4 @@
-/* The proved calls on nodes, as crates/qolb_c/src/lib.rt exports them. calls.c and line.c make these calls. Without
+/* The proved calls on nodes, as crates/qolb_nodes/src/lib.rt exports them. calls.c and line.c make these calls. Without
  * _proved_, the name of a proved call is the name of the call in qolb.h that makes it. core.h has the proved calls on
  * locks.
  *
@@ -24,27 +24,28 @@ uint32_t qolb_write_proved_(qolb_node *node, uint64_t mask, const qolb_bytes *by
 uint32_t qolb_read_lane_proved_(qolb_node *node, uint64_t lane, uint64_t *out);
 uint32_t qolb_write_lane_proved_(qolb_node *node, uint64_t lane, uint64_t value);
 uint32_t qolb_add_lane_proved_(qolb_node *node, uint64_t lane, uint64_t by, uint64_t *was);
-uint64_t qolb_turns_left_proved_(qolb_node *node);
 uint32_t qolb_clear_proved_(qolb_node *node);
 uint32_t qolb_deqolb_proved_(qolb_node *node);
 uint32_t qolb_shut_proved_(qolb_node *node);
 uint32_t qolb_close_proved_(qolb_node *node);
-uint64_t qolb_number_proved_(qolb_node *node);
-uint64_t qolb_label_proved_(qolb_node *node);
-uint32_t qolb_state_proved_(qolb_node *node);
 uint64_t qolb_memory_proved_(uint32_t kind, uint64_t nodes);
-/* Writes the first LAYOUT_TOLD numbers of ../proved/qolb_layout.h, in the order of that file. */
+/* Writes the first LAYOUT_TOLD_OF_NODES numbers of ../proved/qolb_layout.h, in the order of that file. */
 void qolb_layout_proved_(uint64_t *numbers);
 
-/* These three calls return the numbers of words of the node's line on which nodes wait. A number only names a place:
- * these calls read no word.
- *
- * Returns the place of the node's own request, which stays the same from the request until its grant. */
-uint64_t qolb_waits_at_proved_(qolb_node *node);
-/* Return the place of the next holder, and that of the waiter behind the next holder, after the node's last release or
- * after it was told that the line is closed. The first is proved, the second is not. If there is no such node, they
- * return a number at which no node waits. */
-uint64_t qolb_went_to_proved_(qolb_node *node);
-uint64_t qolb_went_ahead_proved_(qolb_node *node);
+/* What a node is, and where it waits. For an empty handle, `number`, `label`, `turns_left` and `state` are 0, and the
+ * words are UINT64_MAX. Each word is the number of a word of the node's line on which nodes wait. The number only names
+ * a place. */
+struct qolb_look {
+    uint64_t number, label, turns_left; /* as the calls of qolb.h with these names return them */
+    uint64_t wait_word;                 /* the place of the node's own request, which stays the same until its grant */
+    /* The place of the next holder, and that of the waiter behind the next holder, after the node's last release or
+     * after it was told that the line is closed. The first is proved, the second is not. If there is no such node, they
+     * are numbers at which no node waits. */
+    uint64_t went_to, went_ahead;
+    uint32_t state; /* enum qolb_node_state */
+};
+
+/* Writes what the node is, and where it waits. Reads no word of the line. */
+void qolb_look_proved_(qolb_node *node, struct qolb_look *out);
 
 #endif

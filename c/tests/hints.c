@@ -15,6 +15,12 @@ enum { MOST = 200 };
 
 static qolb_node node[MOST];
 
+/* The slot of a node that waits. */
+static const char *slot_of(const qolb_node *it) {
+    struct node *my = node_of(it);
+    return slot_at(my, look_at(my).wait_word);
+}
+
 static uint64_t read_word(const _Atomic uint64_t *word) { return atomic_load(word); }
 
 static void open_line(uint32_t kind, uint64_t nodes, const qolb_bytes *opening) {
@@ -30,7 +36,7 @@ static void hand_over_link(const qolb_bytes *opening) {
     struct node *my = node_of(&node[1]);
     qolb_bytes bytes = *opening;
     uint64_t was;
-    CHECK(memcmp(slot_of(my), opening, sizeof *opening) == 0);
+    CHECK(memcmp(slots_of(my), opening, sizeof *opening) == 0);
     CHECK(qolb_enqolb(&node[1]) == QOLB_GRANTED);
     CHECK(read_word(home_of_link(my)) == 2);
     CHECK(qolb_enqolb(&node[2]) == QOLB_QUEUED);
@@ -41,7 +47,7 @@ static void hand_over_link(const qolb_bytes *opening) {
     CHECK(qolb_add_lane(&node[1], 0, 5, &was) == QOLB_DONE && qolb_deqolb(&node[1]) == QOLB_DONE);
     CHECK(read_word(entry_of(my, 3)) & IS_GRANTED);
     bytes.byte[0] += 5;
-    CHECK(memcmp(slot_of(my), &bytes, sizeof bytes) == 0);
+    CHECK(memcmp(slots_of(my), &bytes, sizeof bytes) == 0);
     CHECK(qolb_poll(&node[2]) == QOLB_GRANTED && qolb_deqolb(&node[2]) == QOLB_DONE);
     CHECK(read_word(home_of_link(my)) == 0);
 }
@@ -51,14 +57,14 @@ static void hand_over_link(const qolb_bytes *opening) {
 static void hand_over(uint32_t kind, const qolb_bytes *opening) {
     enum { TURNS = 2 * 256 };
     qolb_bytes bytes = *opening;
-    const char *first = slot_of(node_of(&node[0]));
+    const char *first = slot_of(&node[0]);
     int apart = 0;
     uint64_t was;
     CHECK(qolb_enqolb(&node[0]) == QOLB_GRANTED);
     for (int k = 0; k < TURNS; k++) {
         qolb_node *holder = &node[k % 2], *next = &node[(k + 1) % 2];
         CHECK(qolb_enqolb(next) == QOLB_QUEUED);
-        const char *slot = slot_of(node_of(next));
+        const char *slot = slot_of(next);
         CHECK(qolb_add_lane(holder, 0, 1, &was) == QOLB_DONE);
         CHECK(kind == QOLB_RING || memcmp(slot, &bytes, sizeof bytes) != 0 || k == 0);
         CHECK(qolb_read(holder, &bytes) == QOLB_DONE && qolb_deqolb(holder) == QOLB_DONE);

@@ -2,9 +2,10 @@
  * program replaces the clock by one that it advances itself. It also tests what a call returns if the line is granted
  * or closed between the call's last poll and its withdrawal, and which calls wake which sleepers. A single thread plays
  * several threads. The program is linked with --wrap for clock_gettime, nanosleep, sched_yield, syscall, and the proved
- * calls that request, poll, withdraw and name the next holder. Prints only errors. */
+ * calls that request, poll, withdraw and look at a node. Prints only errors. */
 #define _GNU_SOURCE
 #include "want.h"
+#include <probes.h>
 #include <proved.h>
 #include <sched.h>
 #include <spin.h>
@@ -22,9 +23,16 @@ enum { US = 1000, MS = 1000000 };
 #define NEVER UINT64_MAX
 
 /* The time in nanoseconds; and, counted since `begins`, the clock calls, the yields and sleeps, the longest time that a
- * sleep may have lasted, the requests, polls and spins of the node, how often it was asked for the next holder, the
- * wakes, and the calls that a waiter must not make. */
+ * sleep may have lasted, the requests, polls and spins of the node, the looks at a node that does not wait (by which a
+ * release finds the next holder), the wakes, and the calls that a waiter must not make. */
 static uint64_t now, clocks, yields, sleeps, longest, asks, spins, spun, looks, names, wakes, wrong;
+
+/* In a library with probes, each probe also looks at its node. */
+#ifdef DTRACE_PROBE3
+enum { BY_PROBE = 1 };
+#else
+enum { BY_PROBE = 0 };
+#endif
 
 /* How often a node polls before it sleeps, as qolb.h says, with four processors. It polls every 60 ns: for 50 us on a
  * line of at most eight nodes, and for 20 us on other lines. It polls for at least 2 us, and for at least 10 us once it
@@ -61,7 +69,7 @@ uint32_t __real_qolb_enqolb_proved_(qolb_node *node);
 uint32_t __real_qolb_wait_proved_(qolb_node *node, uint64_t polls);
 uint32_t __real_qolb_poll_proved_(qolb_node *node);
 uint32_t __real_qolb_withdraw_proved_(qolb_node *node);
-uint64_t __real_qolb_went_to_proved_(qolb_node *node);
+void __real_qolb_look_proved_(qolb_node *node, struct qolb_look *out);
 long __real_syscall(long number, ...);
 
 static void happens(void) {
@@ -147,9 +155,9 @@ uint32_t __wrap_qolb_withdraw_proved_(qolb_node *node) {
     return __real_qolb_withdraw_proved_(node);
 }
 
-uint64_t __wrap_qolb_went_to_proved_(qolb_node *node) {
-    names++;
-    return __real_qolb_went_to_proved_(node);
+void __wrap_qolb_look_proved_(qolb_node *node, struct qolb_look *out) {
+    __real_qolb_look_proved_(node, out);
+    if (out->state != QOLB_STATE_QUEUED) names++;
 }
 
 /* Begins a test. The calling thread forgets what it has learned about spinning. */
@@ -527,9 +535,10 @@ static void is_not_called(void *unused) {
     wrong++;
 }
 
-/* A node that is told late of the shut line asks for the next holder, as the node that shut it did. A third node counts
- * as a waiter, because it has left a requested notification behind. */
-static int is_told_late(uint32_t kind, uint32_t (*call)(qolb_node *node)) {
+/* A node that is told late of the shut line looks for the next holder, as the node that shut it did. A third node
+ * counts as a waiter, because it has left a requested notification behind. `probes` is the number of probes that the
+ * call passes while its node does not wait. */
+static int is_told_late(uint32_t kind, uint32_t (*call)(qolb_node *node), unsigned probes) {
     qolb_bytes zeros = {{0}};
     qolb_node n[3] = {{0}};
     WANT(qolb_open(kind, 1, 3, QOLB_NO_LEASE, &zeros, n, 3), QOLB_DONE);
@@ -540,7 +549,7 @@ static int is_told_late(uint32_t kind, uint32_t (*call)(qolb_node *node)) {
     other = &n[0];
     begins(NULL);
     WANT(call(&n[1]), QOLB_CLOSED);
-    WANT(names, 2);
+    WANT(names, 2 + probes * BY_PROBE);
     for (int k = 0; k < 3; k++) WANT(qolb_node_free(&n[k]), QOLB_DONE);
     return 0;
 }
@@ -576,7 +585,7 @@ static int each_passes_on(uint32_t kind) {
     if (asks_a_closed_one(kind, qolb_enqolb) || asks_a_closed_one(kind, acquires) ||
         asks_a_closed_one(kind, acquires_within))
         return 1;
-    if (is_told_late(kind, is_told_as_it_gives_up) || is_told_late(kind, is_told_after_being_busy)) return 1;
+    if (is_told_late(kind, is_told_as_it_gives_up, 1) || is_told_late(kind, is_told_after_being_busy, 2)) return 1;
     return kind == QOLB_LINK && (passes_on(kind, qolb_link, 1) || asks_a_closed_one(kind, qolb_prepend));
 }
 

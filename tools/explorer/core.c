@@ -1,5 +1,5 @@
 /* A stand-in in C for the proved core of a lock. It returns the results of the calls in c/src/core.h, which
- * crates/qolb_c exports, and takes the same atomic steps on the same words. The library does not contain this file:
+ * crates/qolb_locks exports, and takes the same atomic steps on the same words. The library does not contain this file:
  * ../explore_lock.py model-checks the C code of the lock with it, and c/tests/core_calls.c compares it with the proved
  * core.
  *

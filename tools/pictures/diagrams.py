@@ -12,7 +12,7 @@ RIGHT = WIDTH - SIDE - MODEL - GAP
 
 # Of each layer its name, and its parts: a title, its crates or files, and a colour.
 LAYERS = (
-    ("program and C", (("program", "qolb, qolb_serve, qolb_run", "a"), ("your program in Rattle", "line_board, line_accounts", "a"), ("calls for C", "qolb_c, qolb_nodes", "a"), ("C, C++, Rust", "c/src, c/rust", "c"))),
+    ("program and C", (("program", "qolb, qolb_serve, qolb_run", "a"), ("your program in Rattle", "line_board, line_accounts", "a"), ("calls for C", "qolb_nodes, qolb_locks", "a"), ("C, C++, Rust", "c/src, c/rust", "c"))),
     ("waits", (("Rattle", "line_blocking", "a"), ("C", "calls.c, callbacks.c, lock/", "c"))),
     ("line body", (("Line<K, Q>: every call, once for all locks", "line_generic", "b"),)),
     ("discipline", (("ring", "ring_line, line_cells", "b"), ("ticket line", "ticket_line, line_cells", "b"), ("link line", "link_line, link_core", "b"))),

@@ -3,3 +3,4 @@ pub mod Held
 pub mod Meets
 pub mod Shared
 pub mod Tickets
+pub mod Exports

@@ -1,4 +1,5 @@
-//! The locks of `lock_core`, behind handles for C code. A caller has a reference to the lock, and a ticket of its own.
+//! The locks of `lock_core`, behind handles for C code, as a static library. A caller has a reference to the lock, and a
+//! ticket of its own. `exports.rt` exports the calls to C.
 //!
 //! Each call first checks the state of the ticket. If that state does not allow the call, the answer is `Misuse` and
 //! nothing changes. Each call takes a bounded number of atomic steps, and no call waits.
@@ -8,7 +9,9 @@ mod answer;
 mod barging;
 mod claim;
 mod drawing;
+mod exports;
 mod head;
+mod layout;
 mod lock;
 mod lock_ref;
 mod meets;

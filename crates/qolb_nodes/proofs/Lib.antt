@@ -3,3 +3,4 @@ pub mod AsBox
 pub mod Handles
 pub mod Filling
 pub mod Opened
+pub mod Telling

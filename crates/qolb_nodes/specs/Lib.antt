@@ -10,3 +10,5 @@ pub mod HolderBytes
 pub mod Opens
 pub mod Closing
 pub mod Memory
+pub mod Numbers
+pub mod Exports

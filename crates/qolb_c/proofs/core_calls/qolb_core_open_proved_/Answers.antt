@@ -1,4 +1,0 @@
-use Rattle.qolb_c.proofs.core_calls.qolb_core_open_proved_.Goals as goal
-
-pub returns : goal.returns
-returns c = (c.open.result, c.number.ensures, c.open.ensures.does, c.open.ensures.unchanged)

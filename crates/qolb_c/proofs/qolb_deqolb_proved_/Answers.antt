@@ -1,7 +1,0 @@
-use Rattle.std.proofs.Common.{false}
-use Rattle.qolb_nodes.specs.Calls.{Releases}
-use Rattle.qolb_c.proofs.Telling.{called}
-use Rattle.qolb_c.proofs.qolb_deqolb_proved_.Goals as goal
-
-pub returns-in-Some : goal.returns-in-Some
-returns-in-Some c = called (Releases false) _ _ _ _ _ c.in-Some.ensures.node c.number-in-Some.ensures c.release.ensures

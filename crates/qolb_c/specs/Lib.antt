@@ -1,3 +1,0 @@
-pub mod CoreCalls
-pub mod Numbers
-pub mod Exports

@@ -1,0 +1,16 @@
+use Rattle.qolb_locks.proofs.exports.qolb_core_draw_near_proved_.Goals as goal
+
+pub returns-clause-known : goal.returns-clause-known
+returns-clause-known c = (c.get.result.now, c.get.ensures, c.draw_near.ensures.known)
+
+pub returns-clause-misuse : goal.returns-clause-misuse
+returns-clause-misuse c = (c.get.result.now, c.draw_near.result, c.get.ensures, c.number.ensures, c.draw_near.ensures.misuse)
+
+pub returns-clause-does : goal.returns-clause-does
+returns-clause-does c = (c.get.result.now, c.draw_near.result, c.get.ensures, c.number.ensures, c.draw_near.ensures.does)
+
+pub returns-clause-after : goal.returns-clause-after
+returns-clause-after c = (c.get.result.now, c.draw_near.result, c.get.ensures, c.number.ensures, c.draw_near.ensures.after)
+
+pub returns-clause-kept : goal.returns-clause-kept
+returns-clause-kept c = (c.get.result.now, c.draw_near.result, c.get.ensures, c.number.ensures, c.draw_near.ensures.kept)

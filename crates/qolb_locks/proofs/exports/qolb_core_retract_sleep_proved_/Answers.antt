@@ -1,0 +1,16 @@
+use Rattle.qolb_locks.proofs.exports.qolb_core_retract_sleep_proved_.Goals as goal
+
+pub returns-clause-known : goal.returns-clause-known
+returns-clause-known c = (c.get.result.now, c.get.ensures, c.retract_sleep.ensures.known)
+
+pub returns-clause-misuse : goal.returns-clause-misuse
+returns-clause-misuse c = (c.get.result.now, c.retract_sleep.result, c.get.ensures, c.number.ensures, c.retract_sleep.ensures.misuse)
+
+pub returns-clause-does : goal.returns-clause-does
+returns-clause-does c = (c.get.result.now, c.retract_sleep.result, c.get.ensures, c.number.ensures, c.retract_sleep.ensures.does)
+
+pub returns-clause-same : goal.returns-clause-same
+returns-clause-same c = (c.get.result.now, c.retract_sleep.result, c.get.ensures, c.number.ensures, c.retract_sleep.ensures.same)
+
+pub returns-clause-kept : goal.returns-clause-kept
+returns-clause-kept c = (c.get.result.now, c.retract_sleep.result, c.get.ensures, c.number.ensures, c.retract_sleep.ensures.kept)

@@ -1,0 +1,6 @@
+use Rattle.qolb_nodes.specs.Calls.{Polls}
+use Rattle.qolb_nodes.proofs.Telling.{called}
+use Rattle.qolb_nodes.proofs.qolb_poll_proved_.Goals as goal
+
+pub returns-in-Some : goal.returns-in-Some
+returns-in-Some c = called Polls _ _ _ _ _ c.in-Some.ensures.node c.number-in-Some.ensures c.poll.ensures
