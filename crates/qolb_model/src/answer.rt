@@ -55,7 +55,7 @@ pub enum Out {
 pub enum PortState {
     /// The node has no open request, and may make one.
     Idle,
-    /// The node's request is in the order, and not linked to its predecessor's yet.
+    /// The node's request has its place in the order, but its predecessor does not know of it yet.
     Linking,
     /// The node's request waits.
     Queued,

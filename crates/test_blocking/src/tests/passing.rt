@@ -20,7 +20,7 @@ use std::time::Duration;
 const NAP_MILLIS: u64 = 30;
 
 /// The first node holds the line, the second waits behind it, and the third sleeps behind both. The first node shuts
-/// the line. Then the second one withdraws, and thereby forwards the closed line.
+/// the line. Then the second one withdraws, and its withdrawal forwards the closed line.
 #[derive(Drop)]
 struct Passing {
     /// The stage that the three nodes have reached.
@@ -173,7 +173,7 @@ impl<Q: SplitEnqueue<Free>> SplitCalls for Line<Free, Q> {
 }
 
 /// The first node holds a list, the second has prepended its node but not linked it, and the third sleeps behind both.
-/// The first node shuts the list. Then the second one links, and thereby forwards the closed line.
+/// The first node shuts the list. Then the second one links, and its link forwards the closed line.
 #[derive(Drop)]
 struct LinkingLate {
     passing: Passing,
