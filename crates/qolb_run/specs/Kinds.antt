@@ -10,18 +10,18 @@ use Rattle.qolb_run.specs.declared.each_lock.Lines.TheVariants as lines
 use Rattle.qolb_run.specs.declared.each_lock.Kind.{Kind}
 use Rattle.qolb_run.specs.declared.each_lock.Kind.TheVariants as kind
 
--- the lock of these lines
+-- the lock that these lines use
 abbrev pub lock_of : Lines → Lock
 lock_of lines.Ring = lock.Ring
 lock_of lines.Link = lock.Link
 
--- the lock of lines of this kind that nodes share; the plain reference has none
+-- the lock of lines of this kind. The plain reference has none
 abbrev pub shared_lock : Kind → Option Lock
 shared_lock kind.Plain = None
 shared_lock kind.Ring = Some lock.Ring
 shared_lock kind.Link = Some lock.Link
 
--- the property for rings, for link lines, or for ticket lines, by the lock
+-- chooses among three properties by the lock: ring lines, link lines, or ticket lines
 abbrev pub by_lock : (rings links tickets : WorkScript → Report → Type 0) → Lock → WorkScript → Report → Type 0
 by_lock rings links tickets lock.Ring = rings
 by_lock rings links tickets lock.Link = links

@@ -23,12 +23,13 @@ use Rattle.qolb_script.specs.Script.{IsBegun}
 use Rattle.qolb_script.specs.StepScript.{AreBegun}
 use Rattle.qolb_script.specs.WorkScript.{IsWorkBegun, WorkScript, work_of}
 
--- the bytes are this work script
+-- The input is short enough, and its bytes are this work script.
 pub record IsWork (kind : WorkKind) (input : List ℕ) (work : WorkScript) : Type 0 where
   pub fits : length input ≤ MAX_BYTES
   pub read : work_of kind input ≡ Ok work
 
--- the bytes are a work script, and the text is a report of its work. The work was done over such lines
+-- The input is a work script, and the text is a report of its work. `IsOver` holds for the work and the report; it says
+-- over which lines the work was done.
 pub record IsReplyOver (IsOver : WorkScript → Report → Type 0) (kind : WorkKind) (input text : List ℕ) : Type 0 where
   pub work : WorkScript
   pub is : IsWork kind input work
@@ -37,7 +38,8 @@ pub record IsReplyOver (IsOver : WorkScript → Report → Type 0) (kind : WorkK
   pub over : IsOver work report
   pub text_is : text ≡ report_text report
 
--- the text is the reply to the bytes; and the first fault of the bytes, as a script of the task, is this one
+-- `Answers`: the text is the reply of the task to the input. `HasWorkFault` and `HasFault`: this is the first fault of
+-- the input, which is read as a work script or as a script of the task.
 abbrev pub Answers : (Lock → WorkScript → Report → Type 0) → Task → List ℕ → List ℕ → Type 0
 Answers KindSpec (Replay kind) input text = IsReply input text
 Answers KindSpec (Steps detail) input text = IsStepReplyTo detail input text
@@ -51,27 +53,29 @@ HasFault (Replay kind) input fault = HasReplayFault input fault
 HasFault (Steps detail) input fault = HasStepFault input fault
 HasFault (Work kind lock waits) input fault = HasWorkFault kind input fault
 
--- the bytes are too many, or have a first fault
+-- The input is too long, or has a first fault.
 abbrev pub IsRefused : Task → List ℕ → Type 0
 IsRefused task input = (MAX_BYTES < length input) ⊎ ((fault : ScriptError) × HasFault task input fault)
 
--- neither the header of the bytes nor the first line below it is refused
+-- Neither the header of the input nor the first line after the header is refused.
 abbrev pub HasBegunFor : Task → List ℕ → Type 0
 HasBegunFor (Replay lock) input = IsBegun input
 HasBegunFor (Steps detail) input = AreBegun input
 HasBegunFor (Work kind lock waits) input = IsWorkBegun kind input
 
--- when each error may come: as to a replay, by the answers to the task and its first fault
+-- The conditions for each error that a replay can also return, expressed with the answers and the first fault of this
+-- task.
 abbrev pub MayFail : Task → List ℕ → ReplayError → Type 0
 MayFail task input error = MayFailBy (Answers (λ lock work report. Unit {0}) task) (HasFault task) input error
 
--- a worker of the task gave up, and none before it
+-- The task is work, and one of its workers has this number. Such a worker may give up.
 abbrev pub MayStall : Task → List ℕ → ℕ → Type 0
 MayStall (Replay kind) input worker = ⊥
 MayStall (Steps detail) input worker = ⊥
 MayStall (Work kind lock waits) input worker = (work : WorkScript) × IsWork kind input work × MayStop work (run.Stalled worker)
 
--- when a task may end without an answer: with an error as of a replay; or, if it is work, because one of its workers gave up
+-- The conditions for each error of a task. A task can end with an error that a replay can also return. Work can also
+-- end because one of its workers gave up.
 abbrev pub MayEnd : Task → List ℕ → TaskError → Type 0
 MayEnd task input ending.Memory = MayFail task input error.Memory
 MayEnd task input ending.Read = MayFail task input error.Read
@@ -80,8 +84,8 @@ MayEnd task input (ending.Script fault) = MayFail task input (error.Script fault
 MayEnd task input ending.Write = MayFail task input error.Write
 MayEnd task input (ending.Stalled worker) = MayStall task input worker
 
--- why bytes have no report of work: memory was refused, or the first fault in them is this one; or they are a work script, and one of its
--- workers gave up
+-- The reason why the input has no report of work. Memory was refused, or the input has this first fault, or the input
+-- is a work script and one of its workers gave up.
 abbrev pub HasNoReport : WorkKind → List ℕ → TaskError → Type 0
 HasNoReport kind input ending.Memory = Unit {0}
 HasNoReport kind input ending.Read = ⊥
@@ -90,7 +94,7 @@ HasNoReport kind input (ending.Script fault) = HasWorkFault kind input fault × 
 HasNoReport kind input ending.Write = ⊥
 HasNoReport kind input (ending.Stalled worker) = (work : WorkScript) × (work_of kind input ≡ Ok work) × MayStop work (run.Stalled worker)
 
--- the error of a task whose script is refused, or that ends as a replay or as work does
+-- Three functions that convert the error of a script, of a replay, and of work into the error of the task.
 abbrev pub script_ending : ScriptError → TaskError
 script_ending script.Memory = ending.Memory
 script_ending (script.BadLine n) = ending.Script (script.BadLine n)

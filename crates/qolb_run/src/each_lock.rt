@@ -12,19 +12,19 @@ use line_board::BoardLaw;
 use line_kinds::{LOCKS, LinkLine, Lock, RingLine, TicketLine};
 use qolb_model::LineSync;
 
-/// The kind of lines over which `run_work` works.
+/// The kinds of lines over which `run_work` can work.
 ///
 /// `run_work_with` takes any `Lock`.
 #[derive(Clone, Copy, Debug, PartialEq, Eq)]
 pub enum Lines {
-    /// Rings: Anderson's array, with tickets and cells.
+    /// Ring lines: Anderson's array lock, with tickets and cells.
     Ring,
-    /// Link lines: MCS' swap of a home word, with reversed links.
+    /// Link lines: as in the MCS lock, a node swaps one word, the line's home word, and then links to its predecessor.
     Link,
 }
 
 impl Lines {
-    /// Returns the lock of these lines.
+    /// Returns the lock that these lines use.
     pub fn lock(self) -> Lock
         ensures { result ≡ lock_of self }
     {
@@ -35,21 +35,21 @@ impl Lines {
     }
 }
 
-/// The kind of lines by which `run_schedule` answers.
+/// The kinds of lines over which `run_schedule` can replay.
 ///
 /// `run_schedule_with` takes any lock.
 #[derive(Clone, Copy, Debug, PartialEq, Eq)]
 pub enum Kind {
-    /// The plain reference, a line with one owner.
+    /// The plain reference, which is a line with one owner.
     Plain,
-    /// Rings, which nodes share.
+    /// Ring lines, which several nodes share.
     Ring,
-    /// Link lines, which nodes share.
+    /// Link lines, which several nodes share.
     Link,
 }
 
 impl Kind {
-    /// Returns the lock of lines of this kind that nodes share, or `None` for the plain reference.
+    /// Returns the lock of lines of this kind, or `None` for the plain reference, which has no lock.
     pub fn lock(self) -> Option<Lock>
         ensures { result ≡ shared_lock self }
     {
@@ -61,7 +61,8 @@ impl Kind {
     }
 }
 
-/// What a replay may take: the plain reference, which has no lock, and then each lock in the order of `line_kinds::ALL`.
+/// Every argument that `run_schedule_with` takes: `None` for the plain reference, and then each lock in the order of
+/// `line_kinds::ALL`.
 pub static REPLAYED: [Option<Lock>; LOCKS + 1] = [
     None,
     Some(Lock::Ring),
@@ -69,15 +70,16 @@ pub static REPLAYED: [Option<Lock>; LOCKS + 1] = [
     Some(Lock::Ticket),
 ];
 
-/// What the contracts of work promise of the lock, for each lock.
+/// Names the part of the contracts of `run_work` and `run_work_with` that depends on the lock.
 ///
-/// The trait has no functions.
+/// The trait exists only for contracts and has no functions.
 pub trait KindSpec {
-    /// The report is one of this work over lines of this lock.
+    /// `done_over lock work report` says that the work was done over lines of this lock, and that the report belongs to
+    /// this work.
     ghost done_over: { Lock → WorkScript → Report → Type 0 };
 }
 
-/// The three locks, each by its name.
+/// The implementation of `KindSpec` for the three locks.
 pub struct Locks;
 
 impl KindSpec for Locks {

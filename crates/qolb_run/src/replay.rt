@@ -13,10 +13,10 @@ use qolb_script::Watched;
 use std::alloc::Global;
 use std::io::{Read, Write};
 
-/// Replays the schedule that the reader gives, and writes its reply, which is the same for each kind.
+/// Replays the schedule that the reader supplies, and writes the reply, which is the same for each kind of line.
 ///
-/// Reads the whole input first, and builds the whole reply before it writes the first byte. So with every error but `Write` no byte was
-/// written.
+/// The call reads the whole input and builds the whole reply before it writes the first byte. Therefore nothing was
+/// written if the error is not `Write`.
 pub fn run_schedule<R: Read, W: Write>(
     alloc: Global,
     reader: &mut Watched<R>,
@@ -29,7 +29,8 @@ pub fn run_schedule<R: Read, W: Write>(
     run_schedule_with(alloc, reader, writer, kind.lock())
 }
 
-/// Replays a schedule as `run_schedule` does, by lines of this lock, or by the plain reference if there is none.
+/// Replays a schedule as `run_schedule` does, but over lines of any lock. With `None`, the plain reference answers the
+/// calls.
 pub fn run_schedule_with<R: Read, W: Write>(
     alloc: Global,
     reader: &mut Watched<R>,
@@ -45,11 +46,12 @@ pub fn run_schedule_with<R: Read, W: Write>(
     Ok(())
 }
 
-/// Returns the reply of a schedule by lines of this lock, or by the plain reference if there is none.
+/// Returns the reply to a schedule. With a lock, lines of this lock answer the calls; with `None`, the plain reference
+/// answers.
 ///
 /// # Errors
 ///
-/// `Memory`, or `Script` with the first fault of the schedule.
+/// Returns `Memory` if a memory allocation was refused, or `Script` with the first fault of the schedule.
 pub fn answer_schedule(
     alloc: Global,
     script: &[u8],
@@ -65,7 +67,7 @@ pub fn answer_schedule(
     }
 }
 
-/// The reply of the schedule that the input is, by lines of this discipline.
+/// Returns the reply to the schedule in the input. Lines of the queue algorithm `Q` answer the calls.
 fn answered_with<Q: Discipline<Free>>(alloc: Global, input: &[u8]) -> Result<Vec<u8>, ReplayError>
     ensures ok { IfOk result (λ text. reply_to input.now ≡ Ok text.items) }
     ensures refused { IfErr result (HasNoReply input.now) }

@@ -17,11 +17,12 @@ use std::alloc::Global;
 use std::sync::Wait;
 use std::thread::Threads;
 
-/// Does the work of a work script, and returns its report as text. Blocks until all workers have ended.
+/// Does the jobs of a work script and returns the text of the report. Blocks until all workers have ended.
 ///
 /// # Errors
 ///
-/// `Stalled` with the first worker that gave up; or `Memory`, or `Script` with the first fault of the work script.
+/// Returns `Stalled` with the number of the first worker that gave up, `Memory` if memory or a thread was refused, or
+/// `Script` with the first fault of the script.
 pub fn answer_work<T: Threads + Wait + Sync, G: Gate + Sync>(
     rt: &T,
     alloc: Global,
@@ -33,7 +34,7 @@ pub fn answer_work<T: Threads + Wait + Sync, G: Gate + Sync>(
 ) -> Result<Vec<u8>, TaskError>
     ensures ok { IfOk result (λ text. length script.now ≤ MAX_BYTES
         → IsReplyOver (⟦<Locks as KindSpec>⟧.done_over lock) kind script.now text.items) }
-    // Also of more bytes than `read_all` gives.
+    // The next clause also holds for scripts that are longer than the input that `read_all` accepts.
     ensures any_length { IfOk result (λ text. (work : WorkScript) × (report : Report)
         × (work_of kind script.now ≡ Ok work) × IsReportOf work report
         × ⟦<Locks as KindSpec>⟧.done_over lock work report
@@ -47,7 +48,7 @@ pub fn answer_work<T: Threads + Wait + Sync, G: Gate + Sync>(
     let report = run_work_with(rt, alloc, gate, &work, lock, waits)?;
     let mut text = Watched::new(Vec::new(alloc));
     if write_report(&report, &mut text).is_err() {
-        // Only want of memory keeps a vector from growing.
+        // Writing into a vector fails only if it runs out of memory.
         return Err(TaskError::Memory);
     }
     Ok(text.into_inner())

@@ -8,36 +8,36 @@ use qolb_script::{ScriptError, WorkKind};
 use qolb_work::{RunError, WaitMode};
 use thiserror::Error;
 
-/// A task that takes a script.
+/// What to do with a script.
 #[derive(Clone, Copy, Debug, PartialEq, Eq)]
 pub enum Task {
-    /// To replay a schedule by lines of this lock, or by the plain reference if there is none.
+    /// Replay a schedule over lines of this lock. With `None`, the plain reference answers the calls.
     Replay(Option<Lock>),
-    /// To run a step script, and to write this of each event.
+    /// Run a step script, and write the parts of each event that `Detail` selects.
     Steps(Detail),
-    /// To do the work of a work script of this kind, over lines of this lock, by workers that wait so.
+    /// Do the jobs of a work script of this kind over lines of this lock. `WaitMode` says how the workers wait.
     Work(WorkKind, Lock, WaitMode),
 }
 
-/// Why a task was not done.
+/// The reason why a task was not done.
 #[derive(Clone, Copy, Debug, PartialEq, Eq, Error)]
 pub enum TaskError {
-    /// A growth of memory or the start of a thread was refused.
+    /// A memory allocation or the start of a thread was refused.
     #[error("out of memory")]
     Memory,
-    /// The reader failed.
+    /// The reader returned an error.
     #[error("read fault")]
     Read,
     /// The input has more bytes than a script may have.
     #[error("script too long")]
     Long,
-    /// The input is no script of the task.
+    /// The input is not a valid script for the task. The error inside says where and why.
     #[error(transparent)]
     Script(ScriptError),
-    /// The writer failed, or took no byte.
+    /// The writer returned an error, or accepted no byte.
     #[error("write fault")]
     Write,
-    /// This worker gave up, and none before it.
+    /// The worker with this number gave up, and no worker with a smaller number did.
     #[error("stalled {0}")]
     Stalled(u64),
 }

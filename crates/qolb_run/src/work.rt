@@ -18,10 +18,11 @@ use std::alloc::Global;
 use std::sync::Wait;
 use std::thread::Threads;
 
-/// Does the work of a script, with a thread for each worker. Opens every line with zeros, and finishes it when all workers are done. Blocks
-/// until all threads have ended.
+/// Does the jobs of a work script, with a thread for each worker.
 ///
-/// A worker that waits for its turn polls again and again. With `run_work_with` workers may sleep.
+/// Every line is opened with zeros, and is finished once all workers have done their jobs. The call allocates memory,
+/// and blocks until all its threads have ended. A worker that waits for its turn polls in a loop; with `run_work_with`,
+/// workers can sleep instead.
 pub fn run_work<R: Threads + Wait + Sync, G: Gate + Sync>(
     rt: &R,
     alloc: Global,
@@ -38,7 +39,7 @@ pub fn run_work<R: Threads + Wait + Sync, G: Gate + Sync>(
     run_work_with(rt, alloc, gate, work, lines.lock(), WaitMode::Awake)
 }
 
-/// Does the work as `run_work` does, over lines of any lock, by workers that wait as `WaitMode` names.
+/// Does the jobs as `run_work` does, but over lines of any lock. `waits` says how the workers wait.
 pub fn run_work_with<R: Threads + Wait + Sync, G: Gate + Sync>(
     rt: &R,
     alloc: Global,
@@ -56,7 +57,7 @@ pub fn run_work_with<R: Threads + Wait + Sync, G: Gate + Sync>(
     for_kind!(lock, run_work_by, [R, G], (rt, alloc, gate, work, waits))
 }
 
-/// Does the work over lines of this discipline.
+/// Does the jobs over lines of the queue algorithm `Q`.
 fn run_work_by<
     R: Threads + Wait + Sync,
     G: Gate + Sync,

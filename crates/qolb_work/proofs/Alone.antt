@@ -32,7 +32,7 @@ use Rattle.qolb_model.proofs.Sums.{slice_get-append_right}
 use Rattle.qolb_work.specs.JustOpened.{work_config}
 use Rattle.qolb_work.proofs.Banking.{no_money}
 
--- the port of a line of zeros with one node, between calls
+-- the port of a line that was opened with zeros and has only one node, between two calls
 pub record IsAlone (v : View) : Type 0 where
   pub node : v.node ≡ 1
   pub config : v.config ≡ work_config 1
@@ -41,7 +41,7 @@ pub record IsAlone (v : View) : Type 0 where
   pub history : OneHistory (v ∷ [])
   pub kept : IsKept StayBalances v
 
--- requests that are all of node 1
+-- If all requests of a list are of node 1, the count of node 1 is the length of the list.
 count_all : (xs : List Request) → ((p : ℕ) (r : Request) → slice_get xs p ≡ Some r → r.node ≡ 1) → count_of 1 xs ≡ length xs
 count_all [] h = refl
 count_all (x ∷ xs) h =
@@ -50,7 +50,7 @@ count_all (x ∷ xs) h =
     let whole = sum_by-cons (λ (y : Request). cond (y.node == 1) 1 0) x xs in
     omega (arith, rest, first, whole)
 
--- ends of which none was served
+-- If none of the ends is `Served`, the bytes stay the same.
 bytes_unserved : (bytes : List ℕ) (ends : List End) → ((p : ℕ) (e : End) → slice_get ends p ≡ Some e → is_served e ≡ false) → bytes_after bytes ends ≡ bytes
 bytes_unserved bytes [] h = refl
 bytes_unserved bytes (Served write shut ∷ ends) h = absurd (never refl (h 0 (Served write shut) refl))
@@ -72,7 +72,7 @@ module _ (v : View) (a : IsAlone v) where
       let one : a.history.config.nodes ≡ 1 = ap (λ (t : LineConfig). t.nodes) (sym knows.config_is ∙ a.config) in
       omega (arith, of_line.0, of_line.1, one)
 
-  -- the port knows the place of each request that was made
+  -- The port knows the place of each request that it made.
   all_known : length v.order ≡ v.count
   all_known =
       sym (count_all v.order (λ p r at. all_own p r (prefix_get v.order a.history.order p r knows.order_begins at)))
@@ -86,14 +86,14 @@ module _ (v : View) (a : IsAlone v) where
       let all = all_known in
       omega (arith, few, legal, whole, all)
 
-  -- the bytes that the port knows are balances
+  -- The bytes that the port knows are balances.
   pub long : length (bytes_of v) ≡ 64
   long = length-bytes_after v.config.opening.bytes v.ends (ap (λ (t : LineConfig). length t.opening.bytes) a.config)
 
   pub good : AreBalances (bytes_of v)
   good = good_after AreBalances StayBalances balances_after v.config.opening.bytes v.ends (subst (λ (t : LineConfig). AreBalances t.opening.bytes) (sym a.config) no_money) a.kept
 
--- a call of the port
+-- one call of the port
 module _ (old new : View) (a : IsAlone old) (c : Continues StayBalances old new) (rest : IsAtRest new) where
   abbrev pub alone_then : IsAlone new
   alone_then = record {
@@ -105,7 +105,7 @@ module _ (old new : View) (a : IsAlone old) (c : Continues StayBalances old new)
     kept = c.kept;
   }
 
-  -- the port's requests that had no end were withdrawn
+  -- The port's earlier requests that had no end were not served.
   earlier : (p : ℕ) (e : End) → length old.ends ≤ p → p < length old.order → slice_get new.ends p ≡ Some e → is_served e ≡ false
   earlier p e le lt at_e =
       let (r, at) = element_at old.order p lt in
@@ -120,7 +120,7 @@ module _ (old new : View) (a : IsAlone old) (c : Continues StayBalances old new)
         | inr (inr last) ↦ absurd (never a.rest.quiet last.1)
       ]
 
-  -- the bytes after the ends up to a place, if no end behind those that the port knew before is served
+  -- Up to a place, the bytes stay the same if no end after those that the port already knew is `Served`.
   until : (n : ℕ) → length old.ends ≤ n → ((p : ℕ) (e : End) → length old.ends ≤ p → p < n → slice_get new.ends p ≡ Some e → is_served e ≡ false)
       → bytes_after new.config.opening.bytes (take n new.ends) ≡ bytes_of old
   until n le unserved =
@@ -143,7 +143,7 @@ module _ (old new : View) (a : IsAlone old) (c : Continues StayBalances old new)
       let begins = (knows new alone_then).order_begins in
       same_place_legal c.history.config.lease c.history.order c.history.ends c.history.legal p q (own new) (prefix_get new.order c.history.order p (own new) begins at_p) (prefix_get new.order c.history.order q (own new) begins at_q)
 
-  -- the port's new request is right behind all others
+  -- The port's new request comes directly after all other requests.
   behind_all : Asks old new → (p : ℕ) → slice_get new.order p ≡ Some (own new) → (p ≡ length old.order) × (length new.order ≡ p + 1)
   behind_all asks p at =
       let far = asks.behind.1 in
@@ -154,7 +154,7 @@ module _ (old new : View) (a : IsAlone old) (c : Continues StayBalances old new)
       let count = asks.count in
       (omega (arith, far, same, within, before, after, count), omega (arith, far, same, within, before, after, count))
 
-  -- if no new request was served the bytes are the same
+  -- If no new request was served, the bytes are the same.
   vain : ((p : ℕ) (e : End) → length old.order ≤ p → slice_get new.ends p ≡ Some e → is_served e ≡ false) → bytes_of new ≡ bytes_of old
   vain unserved =
       let le = prefix_length old.ends new.ends c.extends.ends in
@@ -180,7 +180,7 @@ module _ (old new : View) (a : IsAlone old) (c : Continues StayBalances old new)
       let count = busy.count in
       absurd (omega (arith, within, far, few, before, after, count)))
 
--- a turn found the bytes that the port knew, and left those that it knows afterwards
+-- A turn found the bytes that the port knew, and left the bytes that the port knows afterwards.
 module _ (old new : View) (a : IsAlone old) (found left : List ℕ) (t : TakesTurn old new found left) where
   place_is : (t.served.place ≡ length old.order) × (length new.order ≡ t.served.place + 1)
   place_is = behind_all old new a t.continues t.at_rest t.asks t.served.place t.served.at

@@ -34,7 +34,7 @@ use Rattle.qolb_work.specs.BankRuns.{is_outcome, paid_in_of, paid_out_of, paid_i
 use Rattle.qolb_work.specs.BankWork.{ArePaid, PaysOneAmount, IsAmount, is_again, Asks, Tries, not_yet, again, Makes, nothing, another, HasBanked, WasTold}
 use Rattle.qolb_work.proofs.Called.{AllGo, most_in, is_no_account, all_stay, all_then, all_go, one_told}
 
--- sums over desks
+-- the sums of amounts over all desks
 module _ {Port : Type 0} (desks : List (DeskOf Port)) (i : ℕ) (few : length desks ≤ MAX_NODES) (small : All (λ desk. ArePaid MAX_COMMANDS desk) desks) (le : i ≤ length desks) where
   sum_within : (f : DeskOf Port → ℕ) → All (λ desk. f desk ≤ MAX_COMMANDS * 2 ^ 64) desks → sum_by f (take i desks) ≤ MAX_NODES * (MAX_COMMANDS * 2 ^ 64)
   sum_within f low =
@@ -42,7 +42,7 @@ module _ {Port : Type 0} (desks : List (DeskOf Port)) (i : ℕ) (few : length de
       let b = subst (λ n. sum_by f (take i desks) ≤ n * (MAX_COMMANDS * 2 ^ 64)) (length-take-le i desks le) a in
       omega (arith, b, le, few)
 
-  -- and one more desk fits
+  -- The sum does not overflow when the amount of one more desk is added.
   fits : (f : DeskOf Port → ℕ) → All (λ desk. f desk ≤ MAX_COMMANDS * 2 ^ 64) desks → (total one : ℕ) → total ≡ sum_by f (take i desks) → one ≤ MAX_COMMANDS * 2 ^ 64 → total + one < 2 ^ 128
   fits f low total one is small = let most = sum_within f low in omega (arith, most, is, small)
 
@@ -52,14 +52,14 @@ module _ {Port : Type 0} (desks : List (DeskOf Port)) (i : ℕ) (few : length de
   pub fits_out : (total one : ℕ) → total ≡ sum_by (λ desk. desk.paid_out) (take i desks) → one ≤ MAX_COMMANDS * 2 ^ 64 → total + one < 2 ^ 128
   fits_out = fits (λ desk. desk.paid_out) (λ k d below. (small k d below).paid_out)
 
--- the desk of a worker that has ended, whether it was told that a line is closed or not
+-- the desk of a worker that has ended, whether or not the worker was told that a line is closed
 pub record IsHere {Line Port : Type 0} (belongs : Line → Port → Type 0) (view : Port → View) (lines : List Line) (worker : ℕ) (desk : DeskOf Port) : Type 0 where
   pub over : IsDeskOver belongs view lines desk
   pub of_worker : (i : ℕ) (port : Port) → slice_get desk.ports i ≡ Some port → (view port).node ≡ worker
   pub unshut : (i : ℕ) (port : Port) → slice_get desk.ports i ≡ Some port → HasNotShut (view port)
   pub small : ArePaid MAX_COMMANDS desk
 
--- all workers' desks
+-- the desks of all workers
 module _ {Line Port : Type 0} (belongs : Line → Port → Type 0) (view : Port → View) (config_of : Line → LineConfig) (lines : List Line) (jobs : List Job) (desks : List (DeskOf Port)) where
   pub all_here : AreDone (HasEnded (HasBanked belongs view config_of) (WasTold belongs view)) lines jobs desks → length jobs ≤ MAX_COMMANDS → (k : ℕ) (desk : DeskOf Port) → slice_get desks k ≡ Some desk → IsHere belongs view lines (k + 1) desk
   all_here ended most k desk at = elim (ended k desk at) [
@@ -86,7 +86,7 @@ module _ {Line Port : Type 0} (belongs : Line → Port → Type 0) (view : Port 
     pub all_small : All (λ desk. ArePaid MAX_COMMANDS desk) desks
     all_small = λ k d below. (here_at k d below).small
 
--- lines that are opened with zeros have no balance
+-- The balances of a line that was opened with zeros are 0.
 pub opened_empty : {Line : Type 0} (config_of : Line → LineConfig) (workers : ℕ) (lines : List Line) → All (λ line. config_of line ≡ work_config workers) lines → all_opened config_of lines ≡ 0
 opened_empty config_of workers [] all = refl
 opened_empty {Line} config_of workers (line ∷ lines) all =
@@ -95,13 +95,13 @@ opened_empty {Line} config_of workers (line ∷ lines) all =
     let whole = sum_by-cons (λ (l : Line). lanes_total (config_of l).opening.bytes) line lines in
     omega (arith, here, rest, whole)
 
--- the ports of a line that was just opened are new
+-- The ports of a line that was just opened have not been used.
 pub new_ports : {Line Port : Type 0} (belongs : Line → Port → Type 0) (view : Port → View) (config_of : Line → LineConfig) (workers : ℕ) (line : Line) (ports : List Port) → IsNewLine belongs view config_of workers line ports → All (IsNewPort belongs view line) ports
 new_ports {Line} {Port} belongs view config_of workers line ports new = λ k d below.
     let (own, (label, is)) = new.own k (get_or ports k d) (slice_get-get_or ports k d below) in
     record { of_line = own; idle = ap (λ (v : View). v.state) is; never = ap (λ (v : View). v.count) is }
 
--- a new desk has done no job, and has the ports of its worker's node
+-- No job has been done at a new desk, and its ports are those of its worker's node.
 pub banked_nothing : {Line Port : Type 0} (belongs : Line → Port → Type 0) (view : Port → View) (config_of : Line → LineConfig) (workers : ℕ) (opened : List (Line × Vec Port Global)) (lines : List Line) (desks : List (DeskOf Port)) → lines ≡ map (λ line. line.0) opened
     → All (λ (line : Line × Vec Port Global). IsNewLine belongs view config_of workers line.0 line.1.items) opened → AreDealt opened desks → All (IsDeskOver belongs view lines) desks → All IsUnpaid desks → AreFresh (HasBanked belongs view config_of) lines desks
 banked_nothing {Line} {Port} belongs view config_of workers opened lines desks are new dealt over unpaid = λ k desk at.
@@ -140,7 +140,7 @@ banked_nothing {Line} {Port} belongs view config_of workers opened lines desks a
         let fresh = subst (λ (l : Line × Vec Port Global). IsNewLine belongs view config_of workers l.0 l.1.items) (get_or_from_slice_get opened i pair pair at_pair) (new i pair (slice_get_within opened i pair at_pair)) in
         (line, at_line, subst (λ (l : Line). IsJustOpened (config_of l) (k + 1) (view port)) is_line (fresh.own k port (sym (dealt k i desk pair at at_pair) ∙ at_port)).1)
 
--- the line of zeros has balances
+-- The bytes of a line of zeros are balances.
 pub no_money : AreBalances zeros
 no_money zero lt = lit≤ tt
 no_money (suc zero) lt = lit≤ tt
@@ -152,7 +152,7 @@ no_money (suc (suc (suc (suc (suc (suc zero)))))) lt = lit≤ tt
 no_money (suc (suc (suc (suc (suc (suc (suc zero))))))) lt = lit≤ tt
 no_money (suc (suc (suc (suc (suc (suc (suc (suc k)))))))) lt = absurd (omega arith)
 
--- what a payment adds to the sum of its kind
+-- the amount that a payment adds to the sum of its kind
 pays_in_sum : (v w : View) (lane amount sum sum_then worker account : ℕ) (reply : Reply) → PaysIn v w lane amount sum sum_then reply → sum_then ≡ sum + paid_in_of (PayIn worker account amount) reply
 pays_in_sum v w lane amount sum sum_then worker account Done (found, turn, room, pays, e) = e
 pays_in_sum v w lane amount sum sum_then worker account Over (found, turn, why, e) = omega (arith, e)
@@ -176,7 +176,8 @@ pays_out_sum v w lane amount sum sum_then worker account SameAccount h = absurd 
 plus_none : (n : ℕ) → n ≡ n + 0
 plus_none n = omega arith
 
--- the effect of one call at the desk: it paid the job's amount if the job was done, and its ports changed so
+-- The effect of one call at the desk: the amount of the job was paid if the job was done, and the ports changed
+-- accordingly.
 pub record Effect {Port : Type 0} (view : Port → View) (job : Job) (old new : DeskOf Port) (reply : Reply) : Type 0 where
   pub paid_in : new.paid_in ≡ old.paid_in + paid_in_of job reply
   pub paid_out : new.paid_out ≡ old.paid_out + paid_out_of job reply
@@ -220,7 +221,7 @@ module _ {Port : Type 0} (view : Port → View) (lines : ℕ) where
     ports = all_go view lines (Move worker source target amount) old new reply asks;
   }
 
-  -- tries that were answered `Late` or `Busy` paid nothing
+  -- An attempt that was answered `Late` or `Busy` paid nothing.
   not_paid : (job : Job) (reply : Reply) → is_again reply ≡ true → (paid_in_of job reply ≡ 0) × (paid_out_of job reply ≡ 0)
   not_paid job Late is = by job
     where
@@ -274,11 +275,11 @@ module _ {Port : Type 0} (view : Port → View) (lines : ℕ) where
         ports = all_then view 0 0 from.ports mid.ports to.ports before.ports (subst (λ n. AllGo view n mid.ports to.ports) (none_put job reply is) e.ports);
       }
 
-  -- a job that was tried again and again, and then answered this
+  -- a job that was tried several times, and then received this answer
   pub all_went : (job : Job) (from late to : DeskOf Port) (reply : Reply) → Tries view lines job from late → Asks view lines job late to reply → AllGo view (0 + most_in job reply) from.ports to.ports
   all_went job from late to reply tries asks = all_then view 0 (most_in job reply) from.ports late.ports to.ports (in_vain job from late tries).ports (all_go view lines job late to reply asks)
 
--- one job more, with its outcome
+-- The sum over a list of jobs with outcomes grows by one more job.
 by_more : (f : Job → Reply → ℕ) (jobs : List Job) (replies : List Reply) (job : Job) (reply : Reply) (by : List Job → List Reply → ℕ) → ((r : List Reply) → by [] r ≡ 0) → ((j : Job) (js : List Job) (r : Reply) (rs : List Reply) → by (j ∷ js) (r ∷ rs) ≡ f j r + by js rs)
     → length replies ≡ length jobs → by (jobs ++ job ∷ []) (replies ++ reply ∷ []) ≡ by jobs replies + f job reply
 by_more f [] [] job reply by none one long = let a = one job [] reply [] in let b = none [] in omega (arith, a, b)
@@ -290,7 +291,7 @@ by_more f (j ∷ jobs) (r ∷ replies) job reply by none one long =
     let c = by_more f jobs replies job reply by none one (omega (arith, long)) in
     omega (arith, a, b, c)
 
--- a worker does one job more
+-- The worker does one more job,
 module _ {Line Port : Type 0} (belongs : Line → Port → Type 0) (view : Port → View) (config_of : Line → LineConfig) (lines : List Line) (worker : ℕ) (desk late new : DeskOf Port) (jobs : List Job) (h : HasBanked belongs view config_of lines worker desk jobs) where
   pub banked_more : (job : Job) (reply : Reply) → Tries view (length lines) job desk late → Asks view (length lines) job late new reply → is_outcome reply ≡ true → IsDeskOver belongs view lines new → PaysOneAmount late new → IsAmount job → HasBanked belongs view config_of lines worker new (jobs ++ job ∷ [])
   banked_more job reply tries asks outcome over pays amount =
@@ -324,7 +325,7 @@ module _ {Line Port : Type 0} (belongs : Line → Port → Type 0) (view : Port 
             };
       }
 
-  -- or it is told that a line is closed
+  -- or it is told that a line is closed.
   pub banked_told : (job : Job) → Tries view (length lines) job desk late → Asks view (length lines) job late new Closed → IsDeskOver belongs view lines new → ArePaid MAX_COMMANDS desk → WasTold belongs view lines worker new
   banked_told job tries asks over few =
       let vain = in_vain view (length lines) job desk late tries in
@@ -356,14 +357,14 @@ module _ {Line Port : Type 0} (belongs : Line → Port → Type 0) (view : Port 
       none_paid (PayOut worker account amount) = (refl, refl)
       none_paid (Move worker source target amount) = (refl, refl)
 
--- a worker that has done fewer jobs than a script may have has not paid too much
+-- A worker that has done fewer jobs than a script may have has not exceeded the bound on what it paid.
 pub small_still : {Line Port : Type 0} (belongs : Line → Port → Type 0) (view : Port → View) (config_of : Line → LineConfig) (lines : List Line) (worker : ℕ) (desk : DeskOf Port) (jobs : List Job) → HasBanked belongs view config_of lines worker desk jobs → length jobs < MAX_COMMANDS → ArePaid MAX_COMMANDS desk
 small_still belongs view config_of lines worker desk jobs h few =
     let low_in = h.small.paid_in in
     let low_out = h.small.paid_out in
     record { paid_in = omega (arith, low_in, few); paid_out = omega (arith, low_out, few) }
 
--- each node of each line has its port at the desk of its worker
+-- For each node of each line, the port is at the desk of the node's worker.
 pub none_missing : {Line Port : Type 0} (belongs : Line → Port → Type 0) (view : Port → View) (config_of : Line → LineConfig) (lines : List Line) (workers : ℕ) (desks : List (DeskOf Port)) → ((k : ℕ) (desk : DeskOf Port) → slice_get desks k ≡ Some desk → IsHere belongs view lines (k + 1) desk) → length desks ≡ workers
     → All (λ line. config_of line ≡ work_config workers) lines → (i node : ℕ) → IsFirstMissing view config_of lines desks i node → ⊥
 none_missing {Line} {Port} belongs view config_of lines workers desks here many config i node missing = by node missing.least.first missing.least.last missing.least.fails
@@ -382,13 +383,13 @@ none_missing {Line} {Port} belongs view config_of lines workers desks here many 
         let name : k + 1 ≡ suc k = omega arith in
         lacks k desk port at at_port (h.of_worker i port at_port ∙ name)
 
--- each job that was made had an outcome
+-- Each job that was done had an outcome.
 with_outcomes : {Port : Type 0} (view : Port → View) (lines : ℕ) (from to : DeskOf Port) (jobs : List Job) (replies : List Reply) → Makes view lines from jobs replies to → All (λ reply. is_outcome reply ≡ true) replies
 with_outcomes view lines from to [] [] nothing = All-nil (λ reply. is_outcome reply ≡ true)
 with_outcomes view lines from to jobs replies (another {jobs = before} {replies = others} {before = desk} job reply makes tries asks is) =
     All-append (λ reply. is_outcome reply ≡ true) others (reply ∷ []) (with_outcomes view lines from desk before others makes) (All-push (λ reply. is_outcome reply ≡ true) [] reply (All-nil (λ reply. is_outcome reply ≡ true)) is)
 
--- the sums of all workers' jobs
+-- the sums over the jobs of all workers
 pub comes_to : {Line Port : Type 0} (belongs : Line → Port → Type 0) (view : Port → View) (config_of : Line → LineConfig) (lines : List Line) (jobs : List Job) (first : ℕ) (desks : List (DeskOf Port))
     → ((k : ℕ) (desk : DeskOf Port) → slice_get desks k ≡ Some desk → HasBanked belongs view config_of lines (first + k) desk (jobs_of (first + k) jobs)) → ComesTo first (length desks) jobs (all_paid_in desks) (all_paid_out desks)
 comes_to belongs view config_of lines jobs first [] done = record { replies = []; workers_are = refl; len = λ k own at. absurd (let no : None ≡ Some own = at in cc no); outcomes = λ k own at. absurd (let no : None ≡ Some own = at in cc no); in_is = refl; out_is = refl }
@@ -423,7 +424,7 @@ comes_to {Line} {Port} belongs view config_of lines jobs first (desk ∷ desks) 
     own_outcomes replies others mine rest zero own at = subst (All (λ reply. is_outcome reply ≡ true)) (same_some at) mine
     own_outcomes replies others mine rest (suc k) own at = rest k own at
 
--- each of these lines has a port for each desk: none is short of ports
+-- Each of these lines has a port for each desk, so no line has too few ports.
 pub none_short : {Line Port : Type 0} (count : ℕ) (opened : List (Line × Vec Port Global)) → All (λ line. vec_len line.1 ≡ count) opened → (why : OpenDesksError) (i : ℕ) → why ≡ Few i → MayHaveNoDesks count opened why → ⊥
 none_short {Line} {Port} count opened many why i is may =
     let short : IsFirstShort count opened i = subst (λ (why : OpenDesksError). MayHaveNoDesks count opened why) is may in

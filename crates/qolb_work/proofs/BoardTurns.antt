@@ -61,7 +61,7 @@ none_served zero q write shut at = let no : None ≡ Some (Served write shut) = 
 none_served (suc n) zero write shut at = let no : true ≡ false = ap is_gone (same_some at) in cc no
 none_served (suc n) (suc q) write shut at = none_served n q write shut at
 
--- a beginning of a list begins as the list does
+-- If a list is a prefix of another, the first p elements of both lists are the same.
 take_prefix : {X : Type 0} (xs ys : List X) (p : ℕ) → IsPrefix xs ys → p ≤ length xs → take p ys ≡ take p xs
 take_prefix xs ys p (more, is) le = ap (take p) (sym is) ∙ take-append-le p xs more le
 
@@ -69,12 +69,12 @@ take-whole : (ends : List End) → take (length ends) ends ≡ ends
 take-whole [] = refl
 take-whole (e ∷ ends) = ap (λ es. e ∷ es) (take-whole ends)
 
--- a port that makes calls of a board
+-- a port that makes calls to a board
 module _ (old new : View) (rest : IsAtRest old) (past : KnowsOwnHistory old) (c : Continues Changes old new) where
   knows : Knows c.history.config c.history.order c.history.ends c.history.clear new
   knows = c.history.known new (among_first new [])
 
-  -- a request of the node behind all that the old view knew is a later one
+  -- A request of the node that comes after all requests that the old view knew has a larger number.
   later : (p : ℕ) (r : Request) → length old.order ≤ p → slice_get new.order p ≡ Some r → r.node ≡ new.node → old.count < r.number
   later p r le at same =
       let h = c.history in
@@ -114,7 +114,7 @@ module _ (old new : View) (rest : IsAtRest old) (past : KnowsOwnHistory old) (c 
     abbrev turns : List Request → List End → List Turn
     turns order all = node_turns new.node new.config.opening.bytes order all
 
-    -- the turns of the port among the requests that it knew
+    -- The port's turns among the requests that it already knew have not changed.
     known_turns : turns old.order new.ends ≡ turns old.order old.ends
     known_turns = node_turns-same new.node new.config.opening.bytes old.order old.order old.ends new.ends (prefix_self old.order) c.extends.ends (λ p r e at_r at_e same served. (
       slice_get_within old.order p r at_r,
@@ -131,7 +131,7 @@ module _ (old new : View) (rest : IsAtRest old) (past : KnowsOwnHistory old) (c 
     first_turns = node_turns-same new.node new.config.opening.bytes old.order old.order before new.ends (prefix_self old.order) (tail, sym ends) (λ p r e at_r at_e same served.
         let within = slice_get_within old.order p r at_r in (within, omega (arith, within, far)))
 
-    -- before the turn of this call the port had no other new turn
+    -- Between the old view and the turn of this call, the port had no other turn.
     earlier_turns : turns new.order before ≡ turns old.order before
     earlier_turns = node_turns-same new.node new.config.opening.bytes old.order new.order before before c.extends.order (prefix_self before) (λ p r e at_r at_e same served.
         let within = slice_get_within before p e at_e in (
@@ -174,7 +174,7 @@ module _ (old new : View) (rest : IsAtRest old) (past : KnowsOwnHistory old) (c 
         was : turns old.order old.ends ≡ turns_of old
         was = ap (λ n. node_turns n new.config.opening.bytes old.order old.ends) c.extends.node ∙ ap (λ t. node_turns old.node t.opening.bytes old.order old.ends) c.extends.config
 
-    -- if the port had not shut the line before, it has not now
+    -- If the port had not shut the line before the call, it has not shut the line after the call.
     unshut_turn : shut ≡ is_last_turn new.config.lease before → HasNotShut old → HasNotShut new
     unfolding shut_of
     unshut_turn own_shut unshut p r w s at_r same at_e =
@@ -212,7 +212,7 @@ module _ (old new : View) (rest : IsAtRest old) (past : KnowsOwnHistory old) (c 
           | inr (suc q, is_p, at_gone) ↦ absurd (none_served passed q w s at_gone)
         ]
 
-  -- a turn that found these tasks and left those
+  -- the turn of a call, with the tasks that it found and the tasks that it left
   works_turn : {found left puts takes : List ℕ} → Asks old new → may_ask new.state ≡ true → HadTurn found left puts takes new → HasTurns old new (record { found = found; left = left } ∷ [])
   works_turn {found} {left} asks quiet t = record {
     node = c.extends.node;
@@ -225,11 +225,11 @@ module _ (old new : View) (rest : IsAtRest old) (past : KnowsOwnHistory old) (c 
   not_busy : IsBusy old new → KnowsOwnPlaces new
   not_busy b = places_same old new c.extends c.history b.count rest.places
 
--- a board has at most the largest number of tasks
+-- A board holds at most `MAX_TASKS` tasks.
 few_stand : (bytes tasks : List ℕ) → Stand bytes tasks → length tasks ≤ MAX_TASKS
 few_stand bytes tasks stand = (laid-stand bytes tasks stand).few
 
--- the turn of a put, answer by answer
+-- the turn of a put, for each answer
 module _ (old new : View) (task : ℕ) (answer : Put) (rest : IsAtRest old) (past : KnowsOwnHistory old) (p : Puts task old new answer) where
   put_stored : answer ≡ put.Stored → (turn : Turn) × HasTurns old new (turn ∷ []) × HasStored task turn
   put_stored is =
@@ -265,7 +265,7 @@ module _ (old new : View) (task : ℕ) (answer : Put) (rest : IsAtRest old) (pas
     p.told is,
   )
 
--- the turn of a take
+-- the turn of a take, for each answer
 module _ (old new : View) (answer : Take) (rest : IsAtRest old) (past : KnowsOwnHistory old) (t : Takes old new answer) where
   took_task : (task : ℕ) → answer ≡ take.Task task → (turn : Turn) × HasTurns old new (turn ∷ []) × HasTakenOne turn
   took_task task is =
@@ -302,11 +302,11 @@ module _ (old new : View) (answer : Take) (rest : IsAtRest old) (past : KnowsOwn
     t.told is,
   )
 
--- calls one after another, in which the port had no turn
+-- several calls one after another, of which only the last had turns
 pub turns_on : (old mid new : View) (more : List Turn) → HasTurns old mid [] → HasTurns mid new more → HasTurns old new more
 turns_on old mid new more w v = record { node = v.node ∙ w.node; at_rest = v.at_rest; turns = v.turns ∙ ap (λ ts. ts ++ more) (w.turns ∙ append-nil (turns_of old)); unshut = λ unshut. v.unshut (w.unshut unshut) }
 
--- a put after tries without a turn
+-- a put after earlier attempts in which the port had no turn
 module _ (u v w : View) (task : ℕ) (so : HasTurns u v []) (past : KnowsOwnHistory v) (answer : Put) (p : Puts task v w answer) where
   pub then_stored : answer ≡ put.Stored → (turn : Turn) × HasTurns u w (turn ∷ []) × HasStored task turn
   then_stored is = let (turn, had, has) = put_stored v w task answer so.at_rest past p is in (turn, turns_on u v w (turn ∷ []) so had, has)
@@ -320,7 +320,7 @@ module _ (u v w : View) (task : ℕ) (so : HasTurns u v []) (past : KnowsOwnHist
   pub then_put_told : answer ≡ put.Closed → HasTurns u w [] × IsTold w
   then_put_told is = let (had, told) = put_told v w task answer so.at_rest past p is in (turns_on u v w [] so had, told)
 
--- a take after tries without a turn
+-- a take after earlier attempts in which the port had no turn
 module _ (u v w : View) (so : HasTurns u v []) (past : KnowsOwnHistory v) (answer : Take) (t : Takes v w answer) where
   pub then_taken : (task : ℕ) → answer ≡ take.Task task → (turn : Turn) × HasTurns u w (turn ∷ []) × HasTakenOne turn
   then_taken task is = let (turn, had, has) = took_task v w answer so.at_rest past t task is in (turn, turns_on u v w (turn ∷ []) so had, has)

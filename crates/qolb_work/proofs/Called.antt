@@ -23,7 +23,7 @@ use Rattle.qolb_script.specs.declared.job.Job.TheVariants.{Put, Take, PayIn, Pay
 use Rattle.qolb_work.specs.BankRuns.{amount_in}
 use Rattle.qolb_work.specs.BankWork.{Asks}
 
--- the port knows all that it knew before; it has paid in at most `most` more, and has not shut its line
+-- The port still knows all that it knew before. It has paid in at most `most` more, and has not shut its line.
 pub record Goes (most : ℕ) (v w : View) : Type 0 where
   pub extends : Extends v w
   pub paid : paid_by w ≤ paid_by v + most
@@ -35,7 +35,7 @@ goes_self v most = record { extends = extends_self v; paid = omega arith; unshut
 pub goes_then : (u v w : View) (a b : ℕ) → Goes a u v → Goes b v w → Goes (a + b) u w
 goes_then u v w a b first second = let x = first.paid in let y = second.paid in record { extends = extends_trans u v w first.extends second.extends; paid = omega (arith, x, y); unshut = λ unshut. second.unshut (first.unshut unshut) }
 
--- the most that a job with this answer puts in: the amount of the job, or nothing if it was not done
+-- The most that a job with this answer can add to an account: the amount of the job if it was done, and 0 otherwise.
 abbrev pub most_in : Job → Reply → ℕ
 most_in job Done = amount_in job
 most_in job Short = 0
@@ -56,7 +56,7 @@ most_within job Busy = omega arith
 most_within job NoAccount = omega arith
 most_within job SameAccount = omega arith
 
--- a port that had a turn, looked at its line, or asked and was refused
+-- a port that had a turn, looked at its line, or made a request that was refused
 module _ (v w : View) (most : ℕ) where
   turn_goes : (found left : List ℕ) (more drawn : ℕ) → TakesTurn v w found left → Pays v w more drawn → more ≤ most → Goes most v w
   turn_goes found left more drawn turn pays le = let paid = pays.paid_in in record { extends = turn.continues.extends; paid = omega (arith, paid, le); unshut = turn.unshut }
@@ -115,7 +115,7 @@ across_goes refused a b c d worker source target from to amount Busy by r = by B
 across_goes refused a b c d worker source target from to amount NoAccount by h = absurd h
 across_goes refused a b c d worker source target from to amount SameAccount by h = absurd h
 
--- an answer is `NoAccount`, or it is not
+-- Every reply is either `NoAccount` or another reply.
 pub is_no_account : (reply : Reply) → (reply ≡ NoAccount) ⊎ (reply ≢ NoAccount)
 is_no_account Done = inr (λ e. let no : Done ≡ NoAccount = e in cc no)
 is_no_account Short = inr (λ e. let no : Short ≡ NoAccount = e in cc no)
@@ -136,7 +136,7 @@ is_same_account Busy = inr (λ e. let no : Busy ≡ SameAccount = e in cc no)
 is_same_account SameAccount = inl refl
 is_same_account NoAccount = inr (λ e. let no : NoAccount ≡ SameAccount = e in cc no)
 
--- what holds of the element that was written, and of all others
+-- A property of the element that was written, and of each other element, holds of all elements.
 pub each_set : {Port : Type 0} (Q : ℕ → Port → Type 0) (old new : List Port) (place : ℕ) (port port_then : Port) → slice_get old place ≡ Some port → new ≡ slice_set old place port_then
     → ((i : ℕ) (p : Port) → i ≢ place → slice_get old i ≡ Some p → Q i p) → Q place port_then → (i : ℕ) (p : Port) → slice_get new i ≡ Some p → Q i p
 each_set {Port} Q old new place port port_then was is others here i p at = elim (cases_eq i place) [
@@ -147,7 +147,7 @@ each_set {Port} Q old new place port port_then was is others here i p at = elim 
 ]
 
 module _ {Port : Type 0} (view : Port → View) where
-  -- each of these ports was at its place before, and changed so
+  -- Each of these ports is a port of the old list, at the same place, after such a change.
   abbrev pub AllGo : ℕ → List Port → List Port → Type 0
   AllGo most old new = (i : ℕ) (port : Port) → slice_get new i ≡ Some port → (was : Port) × (slice_get old i ≡ Some was) × Goes most (view was) (view port)
 
@@ -160,7 +160,7 @@ module _ {Port : Type 0} (view : Port → View) where
       let (was, at_was, earlier) = f i mid at_mid in
       (was, at_was, goes_then (view was) (view mid) (view port) a b earlier later)
 
-  -- one port was called, or two
+  -- One port was called, or two ports were called.
   one_goes : (most : ℕ) (old new : List Port) (place : ℕ) (port port_then : Port) → slice_get old place ≡ Some port → new ≡ slice_set old place port_then → Goes most (view port) (view port_then) → AllGo most old new
   one_goes most old new place port port_then was is goes =
       each_set (λ i (p : Port). (before : Port) × (slice_get old i ≡ Some before) × Goes most (view before) (view p)) old new place port port_then was is
@@ -219,7 +219,7 @@ module _ {Port : Type 0} (view : Port → View) where
         by (inr ne) (inl e) = all_stay (most_in (Move worker source target amount) reply) old.ports new.ports (ap (λ (d : DeskOf Port). d.ports) (asks.same e).2)
         by (inr ne) (inr other) = move_goes worker source target amount old new reply asks (asks.two ne other)
 
-    -- the desk has a port that was told that its line is closed
+    -- One port of the desk was told that its line is closed.
     abbrev pub IsOneTold : List Port → Type 0
     IsOneTold ports = (i : ℕ) × (port : Port) × (slice_get ports i ≡ Some port) × IsTold (view port)
 

@@ -36,7 +36,7 @@ use Rattle.qolb_work.proofs.OneBanker.{none_true, outcome_known}
 use Rattle.qolb_work.proofs.Shares.{share_within, sum_of_all, sum_with_less}
 use Rattle.qolb_work.proofs.Unclosed.{places_known, view_at, config_at}
 
--- payments in are a part of all that is put in
+-- The amount that a job pays in is part of the amount that it adds to an account.
 payment_within : (job : Job) → payment_in job ≤ amount_in job
 payment_within (PayIn worker account amount) = omega arith
 payment_within (PayOut worker account amount) = omega arith
@@ -47,13 +47,13 @@ payment_within (Take worker) = omega arith
 payments_within : (jobs : List Job) → payments_in jobs ≤ amounts_in jobs
 payments_within jobs = sum_by-le-sum_by payment_in amount_in jobs payment_within
 
--- a turn of the port found its line without room for the amount
+-- In one of the port's turns, its line had no room for the amount.
 record HasFoundFull (amount : ℕ) (v : View) : Type 0 where
   pub place : ℕ
   pub known : place ≤ length v.ends
   pub full : MAX_BALANCE < lanes_total (bytes_after v.config.opening.bytes (take place v.ends)) + amount
 
--- the port knows that from then on
+-- A port that knows of such a turn still knows of it later.
 found_later : (amount : ℕ) (v w : View) → Extends v w → HasFoundFull amount v → HasFoundFull amount w
 found_later amount v w more f =
     let (ends, is) = more.ends in
@@ -67,7 +67,7 @@ found_later amount v w more f =
       full = subst (λ b. MAX_BALANCE < lanes_total b + amount) same f.full;
     }
 
--- a payment in that was over, though the counter had room
+-- If a payment in was `Over` although the counter had room, then the line had no room for the amount.
 found_over : (v w : View) (lane amount sum sum_then : ℕ) → lane < 8 → sum + amount < 2 ^ 128 → PaysIn v w lane amount sum sum_then Over → HasFoundFull amount w
 found_over v w lane amount sum sum_then within fits (found, turn, why, e) =
     let s = turn.served in
@@ -85,12 +85,13 @@ found_over v w lane amount sum sum_then within fits (found, turn, why, e) =
     }
 
 module _ {Port : Type 0} (view : Port → View) (lines : ℕ) where
-  -- each payment in was done, and no port paid in more than all that these jobs put in
+  -- Either each payment in was done, and no port paid in more than the sum of what these jobs add to accounts,
   record IsInFull (desk : DeskOf Port) (jobs : List Job) : Type 0 where
     pub paid_in : desk.paid_in ≡ payments_in jobs
     pub low : (i : ℕ) (port : Port) → slice_get desk.ports i ≡ Some port → paid_by (view port) ≤ amounts_in jobs
 
-  -- or one payment was over: its port found no room for it, and no port paid in more than the others put in
+  -- or one payment in was `Over`: its port found no room for the amount, and no port paid in more than the other jobs
+  -- add to accounts.
   record IsOver (desk : DeskOf Port) (jobs : List Job) : Type 0 where
     pub place : ℕ
     pub within : place < lines
@@ -102,7 +103,7 @@ module _ {Port : Type 0} (view : Port → View) (lines : ℕ) where
     more : amounts_in (jobs ++ job ∷ []) ≡ amounts_in jobs + amount_in job
     more = sum_by_push amount_in jobs job
 
-    -- one job more: no port paid in more than that
+    -- If an earlier payment was `Over`, the same still holds after one more job.
     over_then : IsOver before jobs → IsOver to (jobs ++ job ∷ [])
     over_then o = record {
       place = o.place;
@@ -137,7 +138,7 @@ module _ {Port : Type 0} (view : Port → View) (lines : ℕ) where
           omega (arith, paid, rest, most, sum);
     }
 
-  -- a payment in that is over
+  -- the case of a payment in that is `Over`
   in_over : (before late to : DeskOf Port) (jobs : List Job) (worker account amount : ℕ) → Tries view lines (PayIn worker account amount) before late → Asks view lines (PayIn worker account amount) late to Over
       → amounts_in (jobs ++ PayIn worker account amount ∷ []) ≤ MAX_BALANCE → IsInFull before jobs → IsOver to (jobs ++ PayIn worker account amount ∷ [])
   in_over before late to jobs worker account amount tries asks fits f =
@@ -182,7 +183,7 @@ module _ {Port : Type 0} (view : Port → View) (lines : ℕ) where
   by_job before late to jobs (Put worker task) reply tries asks is fits f = absurd asks
   by_job before late to jobs (Take worker) reply tries asks is fits f = absurd asks
 
-  -- after all of a worker's jobs
+  -- One of the two cases holds after all jobs of a worker.
   in_full_or_over : (from to : DeskOf Port) (jobs : List Job) (replies : List Reply) → Makes view lines from jobs replies to → IsInFull from [] → amounts_in jobs ≤ MAX_BALANCE → IsInFull to jobs ⊎ IsOver to jobs
   in_full_or_over from to [] [] nothing first fits = inl first
   in_full_or_over from to jobs replies (another {jobs = before} {replies = others} {before = desk} {late = late} job reply makes tries asks is) first fits =
@@ -192,7 +193,7 @@ module _ {Port : Type 0} (view : Port → View) (lines : ℕ) where
         | inr over ↦ inr (over_then desk late to before job reply tries asks over)
       ]
 
--- all workers together
+-- the desks of all workers together
 module _ {Line Port : Type 0} (belongs : Line → Port → Type 0) (view : Port → View) (label_of : Line → ℕ) (config_of : Line → LineConfig) (lines : List Line) (jobs : List Job) (desks : List (DeskOf Port)) (workers : ℕ)
     (here : (k : ℕ) (desk : DeskOf Port) → slice_get desks k ≡ Some desk → IsHere belongs view lines (k + 1) desk) (config : All (λ line. config_of line ≡ work_config workers) lines) (settled : AreSettled view label_of config_of lines desks)
     (done : AreDone (HasBanked belongs view config_of) lines jobs desks) (its : All (λ job. (1 ≤ worker_of job) × (worker_of job ≤ length desks)) jobs) (fits : amounts_in jobs ≤ MAX_BALANCE) where
@@ -214,7 +215,7 @@ module _ {Line Port : Type 0} (belongs : Line → Port → Type 0) (view : Port 
     | inr over ↦ let rest = over.low i port at_port in omega (arith, rest)
   ]
 
-  -- no payment was over: all that was ever paid into a line fits
+  -- No payment was `Over`, because all amounts that were ever paid into a line fit into it.
   none_over : (k : ℕ) (desk : DeskOf Port) → slice_get desks k ≡ Some desk → IsOver view (length lines) desk (jobs_of (k + 1) jobs) → ⊥
   none_over k desk at over =
       let count = (here k desk at).over.over.count in

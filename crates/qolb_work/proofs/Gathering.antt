@@ -17,12 +17,12 @@ use Rattle.qolb_work.specs.Jobs.{jobs_of}
 use Rattle.qolb_work.specs.Workers.{AreBack, AreDone, AreFresh, AreRefused, HasEnded, IsFirstGone}
 use Rattle.qolb_work.specs.declared.work.RunError.TheVariants.{Stalled}
 
--- an element of a mapped list is the image of the element at its place
+-- An element of a mapped list is the image of the element at the same place.
 pub come_from : {A B : Type 0} (f : A → B) (found : Option A) (b : B) → option_map f found ≡ Some b → (a : A) × (found ≡ Some a) × (f a ≡ b)
 come_from f None b is = absurd (let no : None ≡ Some b = is in cc no)
 come_from f (Some a) b is = (a, refl, same_some is)
 
--- a worker has fewer jobs behind it than a script may have
+-- As long as a worker has a job left, it has done fewer jobs than a script may have.
 pub few_done : (worker : ℕ) (jobs : List Job) (i : ℕ) → i < length jobs → length jobs ≤ MAX_COMMANDS → length (jobs_of worker (take i jobs)) < MAX_COMMANDS
 few_done worker jobs i lt most =
     let kept = length-filter (λ job. worker_of job == worker) (take i jobs) in
@@ -30,7 +30,7 @@ few_done worker jobs i lt most =
     let long = length-take-le i jobs (omega (arith, lt)) in
     omega (arith, kept, few, long, lt, most)
 
--- the first worker that gave up, behind those that did not
+-- the first worker that gave up, after workers that did not
 gone_at : {H : Type 0} (hands : List H) (rest : List (Option H)) → slice_get (map Some hands ++ None ∷ rest) (length hands) ≡ Some None
 gone_at [] rest = refl
 gone_at (h ∷ hands) rest = gone_at hands rest
@@ -48,7 +48,7 @@ first_gone {H} hands rest back number is e = (
   λ j lt. let t = there hands (None ∷ rest) j lt in (t.0, ap (λ b. slice_get b j) (sym is) ∙ t.1),
 )
 
--- the worker at a place, if all are there
+-- the worker at a place, if every worker came back
 slice_get-map_some : {H : Type 0} (hands : List H) (k : ℕ) (hand : H) → slice_get hands k ≡ Some hand → slice_get (map Some hands) k ≡ Some (Some hand)
 slice_get-map_some [] k hand at = absurd (let no : None ≡ Some hand = at in cc no)
 slice_get-map_some (h ∷ hands) zero hand at = ap Some at
@@ -58,7 +58,7 @@ pub done_of : {JobTarget WorkerState : Type 0} (has_done : JobTarget → ℕ →
     → map Some hands ≡ back → AreBack has_done site jobs back → AreDone has_done site jobs hands
 done_of has_done site jobs back hands is all = λ k hand at. all k hand (ap (λ b. slice_get b k) (sym is) ∙ slice_get-map_some hands k hand at)
 
--- if no worker was told that a line is closed, a worker that has ended has done its jobs
+-- If no worker was told that a line is closed, every worker that has ended has done its jobs.
 pub done_if_untold : {JobTarget WorkerState : Type 0} (has_done : JobTarget → ℕ → WorkerState → List Job → Type 0) (was_told : JobTarget → ℕ → WorkerState → Type 0) (site : JobTarget) (jobs : List Job) (hands : List WorkerState)
     → ((k : ℕ) (hand : WorkerState) → slice_get hands k ≡ Some hand → ¬ was_told site (k + 1) hand) → AreDone (HasEnded has_done was_told) site jobs hands → AreDone has_done site jobs hands
 done_if_untold has_done was_told site jobs hands none ended = λ k hand at. elim (ended k hand at) [
@@ -66,14 +66,14 @@ done_if_untold has_done was_told site jobs hands none ended = λ k hand at. elim
   | inr told ↦ absurd (none k hand at told)
 ]
 
--- what holds of each element, and of one more behind them
+-- A property of each element still holds after an element with this property was appended.
 pub each_pushed : {X : Type 0} (P : ℕ → X → Type 0) (xs : List X) (x : X) → ((k : ℕ) (y : X) → slice_get xs k ≡ Some y → P k y) → P (length xs) x → (k : ℕ) (y : X) → slice_get (xs ++ x ∷ []) k ≡ Some y → P k y
 each_pushed P [] x all own zero y at = subst (P 0) (same_some at) own
 each_pushed P [] x all own (suc k) y at = absurd (let no : None ≡ Some y = at in cc no)
 each_pushed P (z ∷ xs) x all own zero y at = all 0 y at
 each_pushed P (z ∷ xs) x all own (suc k) y at = each_pushed (λ n. P (suc n)) xs x (λ j i. all (suc j) i) own k y at
 
--- the results of threads, each at its place
+-- the results of the threads, each at its place
 module _ {JobTarget WorkerState : Type 0} (has_done : JobTarget → ℕ → WorkerState → List Job → Type 0) (may_refuse : ℕ → Type 0) (site : JobTarget) (jobs : List Job) where
   abbrev MayGiveBack : ℕ → Option WorkerState → Type 0
   MayGiveBack k back = MatchOption back (may_refuse (k + 1)) (λ hand. has_done site (k + 1) hand (jobs_of (k + 1) jobs))
@@ -87,7 +87,7 @@ module _ {JobTarget WorkerState : Type 0} (has_done : JobTarget → ℕ → Work
   pub refused_at : (all : List (Option WorkerState)) → AllAt MayGiveBack all → AreRefused may_refuse all
   refused_at all each = λ k at. given_at all each k None at
 
--- ports as they were opened
+-- the ports in the state in which they were opened
 get_map : {P V : Type 0} (view : P → V) (ports : List P) (k : ℕ) (port : P) → slice_get ports k ≡ Some port → slice_get (map view ports) k ≡ Some (view port)
 get_map view [] k port at = absurd (let no : None ≡ Some port = at in cc no)
 get_map view (p ∷ ports) zero port at = ap (λ q. Some (view q)) (same_some at)
@@ -101,6 +101,6 @@ just_opened {Line} {Port} belongs view config_of line label config ports are own
       (label, same_some (sym at_view ∙ new.each k within) ∙ ap (λ (t : LineConfig). new_view label t (k + 1)) (sym are)),
     )
 
--- of no workers none has begun
+-- `AreFresh` holds of an empty list of workers.
 pub nobody : {JobTarget WorkerState : Type 0} (has_done : JobTarget → ℕ → WorkerState → List Job → Type 0) (site : JobTarget) → AreFresh has_done site []
 nobody {JobTarget} {WorkerState} has_done site = λ k hand at. absurd (let no : None ≡ Some hand = at in cc no)

@@ -20,9 +20,9 @@ module _ {Port : Type 0} where
     pub view_of : (k : ℕ) (hand : BoardHand Port) → slice_get hands k ≡ Some hand → slice_get (map view ports) k ≡ Some (view hand.port)
     view_of k hand at = ap (λ ps. slice_get (map view ps) k) are ∙ (slice_get-map view (map (λ hand. hand.port) hands) k ∙ ap (option_map view) (port_of hands hand k at))
 
-    -- a fact of each worker's state
+    -- a fact that holds of the state of each worker
     module _ (Fact : ℕ → BoardHand Port → Type 0) (each : (k : ℕ) (hand : BoardHand Port) → slice_get hands k ≡ Some hand → Fact (k + 1) hand) where
-      -- each view is that of the worker at its place
+      -- Each view is the view of the worker at the same place.
       pub view_at : (i : ℕ) (v : View) → slice_get (map view ports) i ≡ Some v → (hand : BoardHand Port) × Fact (i + 1) hand × (v ≡ view hand.port)
       view_at i v at =
           let (port, at_port, is) = place ports i v at in
@@ -34,7 +34,7 @@ module _ {Port : Type 0} where
           place (p ∷ ports) zero v at = (p, refl, sym (same_some at))
           place (p ∷ ports) (suc i) v at = place ports i v at
 
-      -- the view of each worker is there
+      -- The list of views contains the view of each worker.
       pub hand_at : (worker : ℕ) → 1 ≤ worker → worker ≤ length hands → (i : ℕ) × (hand : BoardHand Port) × (slice_get (map view ports) i ≡ Some (view hand.port)) × Fact worker hand
       hand_at zero first last = absurd (omega (arith, first))
       hand_at (suc k) first last =

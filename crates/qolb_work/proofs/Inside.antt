@@ -17,7 +17,7 @@ use Rattle.qolb_work.specs.JustOpened.{IsNewLine, work_config}
 use Rattle.qolb_work.specs.BoardWork.{IsBoardedOver}
 use Rattle.qolb_work.specs.BankWork.{HasBanked, Makes, IsBankedOver}
 
--- what holds of all elements of a mapped list holds of the images
+-- An element of a mapped list is the image of the element at the same place.
 mapped_at : {A B : Type 0} (f : A → B) (xs : List A) (k : ℕ) (d : A) → k < length xs → get_or (map f xs) k (f d) ≡ f (get_or xs k d)
 mapped_at f [] k d lt = absurd (omega (arith, lt))
 mapped_at f (x ∷ xs) zero d lt = refl
@@ -30,7 +30,7 @@ all_of_mapped P f xs ys is all = λ k d lt.
     subst P (mapped_at f xs k d lt) (subst (λ ys. P (get_or ys k (f d))) (sym is) (all k (f d) (omega (arith, lt, long, same))))
 
 module _ {Line Outer Port : Type 0} (belongs : Line → Port → Type 0) (view : Port → View) (config_of : Line → LineConfig) (inner : Outer → Line) where
-  -- if the inner line was just opened, so was its wrapper
+  -- If the inner line was just opened, its wrapper was just opened, too.
   pub new_outside : (workers : ℕ) (outer : Outer) (ports : List Port) → IsNewLine belongs view config_of workers (inner outer) ports → IsNewLine (λ outer port. belongs (inner outer) port) view (λ outer. config_of (inner outer)) workers outer ports
   new_outside workers outer ports new = record { own = new.own; config = new.config }
 

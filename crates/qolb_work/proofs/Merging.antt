@@ -20,20 +20,20 @@ use Rattle.qolb_work.specs.BoardRuns.{counts_after, BoardRun, after_job, after_j
 use Rattle.qolb_work.specs.BoardWork.{Turn, turn_between, node_turns, Does, HasDoneJobs, stores, finds_full, takes, finds_none, counts_of}
 use Rattle.qolb_work.proofs.Turns.{node_turns-none}
 
--- the turns of all nodes
+-- the turns of all nodes, in the order of the line
 abbrev pub all_turns : List ℕ → List End → List Turn
 all_turns bytes [] = []
 all_turns bytes (Served write shut ∷ ends) = turn_between bytes (written bytes write) ∷ all_turns (written bytes write) ends
 all_turns bytes (Gone ∷ ends) = all_turns bytes ends
 all_turns bytes (Told ∷ ends) = all_turns bytes ends
 
--- jobs that all turns did, in their order, of which each worker's are these
+-- One list of jobs that all turns did, in their order. It contains the jobs of each worker in that worker's order.
 pub record Merged (bytes : List ℕ) (ends : List End) (jobs : ℕ → List Job) : Type 0 where
   pub sequence : List Job
   pub each : (worker : ℕ) → jobs_of worker sequence ≡ jobs worker
   pub did : HasDoneJobs (all_turns bytes ends) sequence
 
--- each job is of the worker that it is given to
+-- Each list contains only jobs of its own worker.
 abbrev pub AreOwn : (ℕ → List Job) → Type 0
 AreOwn jobs = (worker k : ℕ) (job : Job) → slice_get (jobs worker) k ≡ Some job → worker_of job ≡ worker
 
@@ -43,11 +43,11 @@ jobs_own worker job jobs is = ap (λ b. cond b (job ∷ jobs_of worker jobs) (jo
 jobs_other : (worker : ℕ) (job : Job) (jobs : List Job) → worker_of job ≢ worker → jobs_of worker (job ∷ jobs) ≡ jobs_of worker jobs
 jobs_other worker job jobs ne = ap (λ b. cond b (job ∷ jobs_of worker jobs) (jobs_of worker jobs)) (ne_eqb (worker_of job) worker ne)
 
--- one turn, and those behind it
+-- one turn, and the turns after it
 module _ (bytes now : List ℕ) (node : ℕ) (jobs : ℕ → List Job) (own : AreOwn jobs) (ends : List End) (turns : ℕ → List Turn)
     (did : (worker : ℕ) → HasDoneJobs ((if node == worker then turn_between bytes now ∷ [] else []) ++ turns worker) (jobs worker))
     (rest : (jobs : ℕ → List Job) → AreOwn jobs → ((worker : ℕ) → HasDoneJobs (turns worker) (jobs worker)) → Merged now ends jobs) where
-  -- the jobs that are left when a worker has done its first
+  -- the jobs that are left after one worker has done its first job
   abbrev jobs_then : List Job → ℕ → List Job
   jobs_then later worker = if node == worker then later else jobs worker
 
@@ -84,7 +84,8 @@ module _ (bytes now : List ℕ) (node : ℕ) (jobs : ℕ → List Job) (own : Ar
   turn_first : (sequence : List Job) × ((worker : ℕ) → jobs_of worker sequence ≡ jobs worker) × HasDoneJobs (turn_between bytes now ∷ all_turns now ends) sequence
   turn_first = with_first (jobs node) refl (subst (λ b. HasDoneJobs ((if b then turn_between bytes now ∷ [] else []) ++ turns node) (jobs node)) (eq-eqb node node refl) (did node))
 
--- if each node's turns did its worker's jobs, all turns did all jobs, in an order that keeps each worker's own
+-- If the turns of each node did the jobs of the node's worker, then all turns together did all jobs, in an order that
+-- keeps the order of each worker's jobs.
 pub merge : (bytes : List ℕ) (order : List Request) (ends : List End) (jobs : ℕ → List Job) → length ends ≤ length order → AreOwn jobs → ((worker : ℕ) → HasDoneJobs (node_turns worker bytes order ends) (jobs worker)) → Merged bytes ends jobs
 merge bytes order [] jobs le own did = record {
   sequence = [];
@@ -104,7 +105,7 @@ merge bytes (r ∷ order) (Gone ∷ ends) jobs le own did =
 merge bytes (r ∷ order) (Told ∷ ends) jobs le own did =
     let m = merge bytes order ends jobs (omega (arith, le)) own did in record { sequence = m.sequence; each = m.each; did = m.did }
 
--- counts, one kind after another
+-- adds each count to the count of the same kind
 abbrev pub plus : BoardCounts → BoardCounts → BoardCounts
 plus a b = record { stored = a.stored + b.stored; full = a.full + b.full; taken = a.taken + b.taken; empty = a.empty + b.empty }
 
@@ -114,7 +115,7 @@ plus_zero c = λ i. record { stored = none c.stored i; full = none c.full i; tak
     none : (n : ℕ) → n ≡ n + 0
     none n = omega arith
 
--- the counts of the first of some turns, and of the others
+-- The counts of a list of turns are the count of the first turn plus the counts of the others.
 counts-first : (c : BoardCounts) (t : Turn) (ts : List Turn) → plus (plus c (counts_of (t ∷ []))) (counts_of ts) ≡ plus c (counts_of (t ∷ ts))
 counts-first c t ts = λ i. record { stored = one stores c.stored i; full = one finds_full c.full i; taken = one takes c.taken i; empty = one finds_none c.empty i }
   where
@@ -124,7 +125,7 @@ counts-first c t ts = λ i. record { stored = one stores c.stored i; full = one 
         let b = sum_by-cons (λ x. cond (p x) 1 0) t ts in
         omega (arith, a, b)
 
--- one owner's count of a job is that of the turn which did it
+-- What one owner counts for a job is what the turn that did the job counts.
 counted_one : (n : ℕ) (b : Bool) → (t : Turn) (p : Turn → Bool) → p t ≡ b → n + cond b 1 0 ≡ n + count_by p (t ∷ [])
 counted_one n b t p is = ap (λ b. n + cond b 1 0) (sym is) ∙ ap (λ m. n + m) (alone (cond (p t) 1 0) ∙ sym (sum_by-cons (λ x. cond (p x) 1 0) t []))
   where
@@ -205,14 +206,14 @@ does_counted (PayIn worker account amount) t c d = absurd d.of_board
 does_counted (PayOut worker account amount) t c d = absurd d.of_board
 does_counted (Move worker source target amount) t c d = absurd d.of_board
 
--- each job of a list was done by one turn
+-- If the turns did the jobs, there are as many turns as jobs.
 pub did_long : (turns : List Turn) (jobs : List Job) → HasDoneJobs turns jobs → length turns ≡ length jobs
 did_long [] [] did = refl
 did_long [] (job ∷ jobs) did = absurd did
 did_long (turn ∷ turns) [] did = absurd did
 did_long (turn ∷ turns) (job ∷ jobs) did = ap suc (did_long turns jobs did.1)
 
--- one job more
+-- the same with one more job
 pub did_more : (turns : List Turn) (jobs : List Job) (turn : Turn) (job : Job) → HasDoneJobs turns jobs → Does job turn → HasDoneJobs (turns ++ turn ∷ []) (jobs ++ job ∷ [])
 did_more [] [] turn job did does = (does, tt)
 did_more [] (j ∷ jobs) turn job did does = absurd did
@@ -230,7 +231,8 @@ counts_more turns turn = λ i. record { stored = one stores turns i; full = one 
         let c = one p ts in
         omega (arith, a, b, c)
 
--- of jobs that were done, each put stored or found the board full, and each take took a task or found none
+-- Each put that was done stored its task or found the board full, and each take that was done took a task or found
+-- none.
 puts_one : (job : Job) (found : List ℕ) (c : BoardCounts) → (counts_after job found c).stored + (counts_after job found c).full ≡ c.stored + c.full + cond (is_put job) 1 0
 puts_one (Put worker task) found c = by (nat_lt (length found) MAX_TASKS)
   where
@@ -277,7 +279,7 @@ did_takes (turn ∷ turns) (job ∷ jobs) did =
     let whole = sum_by-cons (λ j. cond (is_take j) 1 0) job jobs in
     omega (arith, here, rest, split, whole)
 
--- what one owner stored was taken or is left
+-- Each task that one owner stored was taken or is still on the board.
 kept_one : (run : BoardRun) (job : Job) → (after_job run job).counts.stored + (run.counts.taken + length run.tasks) ≡ run.counts.stored + ((after_job run job).counts.taken + length (after_job run job).tasks)
 kept_one run (Put worker task) = by (nat_lt (length run.tasks) MAX_TASKS)
   where
@@ -305,7 +307,7 @@ kept_run run (job ∷ jobs) =
     let rest = kept_run (after_job run job) jobs in
     omega (arith, here, rest)
 
--- the turns of all nodes, counted: each is some node's
+-- The counts of all nodes add up to the count of all turns, because each turn belongs to exactly one node.
 head_count : (p : Turn → Bool) (b : Bool) (t : Turn) (ts : List Turn) → count_by p ((if b then t ∷ [] else []) ++ ts) ≡ (if b then cond (p t) 1 0 else 0) + count_by p ts
 head_count p true t ts = sum_by-cons (λ x. cond (p x) 1 0) t ts
 head_count p false t ts = sym (zero-add (count_by p ts))
@@ -342,7 +344,7 @@ counts_whole p views bytes (r ∷ order) (Served write shut ∷ ends) le once =
 counts_whole p views bytes (r ∷ order) (Gone ∷ ends) le once = counts_whole p views bytes order ends (omega (arith, le)) (λ k x at. once (suc k) x at)
 counts_whole p views bytes (r ∷ order) (Told ∷ ends) le once = counts_whole p views bytes order ends (omega (arith, le)) (λ k x at. once (suc k) x at)
 
--- all turns, one after another, are one owner's jobs: with the same tasks and the same counts
+-- All turns, one after another, leave the same tasks and the same counts as one owner who does the jobs.
 pub one_owner : (bytes : List ℕ) (ends : List End) (sequence : List Job) (c : BoardCounts) → HasDoneJobs (all_turns bytes ends) sequence
     → after_jobs (record { tasks = standing bytes; counts = c }) sequence ≡ record { tasks = standing (bytes_after bytes ends); counts = plus c (counts_of (all_turns bytes ends)) }
 one_owner bytes [] [] c did = λ i. record { tasks = standing bytes; counts = plus_zero c i }

@@ -35,7 +35,7 @@ after_push : (run : BankRun) (jobs : List Job) (job : Job) → after_jobs run (j
 after_push run [] job = refl
 after_push run (j ∷ jobs) job = after_push (after_job run j) jobs job
 
--- no payment is of more than the largest amount
+-- No payment exceeds the largest amount.
 few_in : (job : Job) (reply : Reply) → IsAmount job → paid_in_of job reply ≤ 2 ^ 64
 few_in (PayIn worker account amount) Done small = omega (arith, small)
 few_in job reply small = omega arith
@@ -44,7 +44,7 @@ few_out : (job : Job) (reply : Reply) → IsAmount job → paid_out_of job reply
 few_out (PayOut worker account amount) Done small = omega (arith, small)
 few_out job reply small = omega arith
 
--- after `jobs` jobs the desk shows one owner's bank
+-- After `jobs` jobs, the desk shows the same balances and sums as a bank with one owner.
 record StandsAs {Port : Type 0} (view : Port → View) (lines : ℕ) (desk : DeskOf Port) (run : BankRun) (jobs : ℕ) : Type 0 where
   pub represents : AllShow view lines run.balances desk.ports
   pub paid_in : desk.paid_in ≡ run.paid_in
@@ -83,7 +83,7 @@ stands view lines from to jobs replies (another {jobs = before} {replies = other
       few_out = omega (arith, b, y, v, o, count);
     }))
 
--- an empty line shows empty balances
+-- A line of zeros shows balances that are all 0.
 nothing_there : (lane : ℕ) → lane < 8 → 0 ≡ lane_of zeros lane
 nothing_there zero lt = refl
 nothing_there (suc zero) lt = refl
@@ -107,7 +107,7 @@ new_alone label =
       kept = sound.kept;
     }
 
--- if there is one worker, all jobs are its own
+-- If there is only one worker, all jobs are its own.
 all_own : (jobs : List Job) → All (λ job. worker_of job ≡ 1) jobs → jobs_of 1 jobs ≡ jobs
 all_own [] own = refl
 all_own (job ∷ jobs) own =

@@ -20,7 +20,7 @@ use Rattle.qolb_work.specs.BankWork.{IsAmount, is_again, Asks, Tries, not_yet, a
 use Rattle.qolb_work.proofs.Alone.{IsAlone, long, good, alone_then, vain_late, vain_busy, turn_found, turn_left}
 use Rattle.qolb_work.proofs.Called.{each_set}
 
--- the bytes of line i hold these balances
+-- The bytes of line i hold these balances.
 abbrev pub Shows : (ℕ → ℕ) → List ℕ → ℕ → Type 0
 Shows balances bytes i = (lane : ℕ) → lane < 8 → balances (8 * i + lane) ≡ lane_of bytes lane
 
@@ -30,7 +30,7 @@ with_same f account balance other e = ap (λ b. if b then balance else f other) 
 with_other : (f : ℕ → ℕ) (account balance other : ℕ) → other ≢ account → with_balance f account balance other ≡ f other
 with_other f account balance other ne = ap (λ b. if b then balance else f other) (ne_eqb other account ne)
 
--- the account of a lane
+-- The account is stored in this lane of line i.
 record IsAt (account i lane : ℕ) : Type 0 where
   pub is : account ≡ 8 * i + lane
   pub within : lane < 8
@@ -39,7 +39,7 @@ at_place : (account : ℕ) → IsAt account (line_of account) (lane_in account)
 at_place account = record { is = omega arith; within = omega arith }
 
 module _ (f : ℕ → ℕ) (account balance i lane : ℕ) (at : IsAt account i lane) where
-  -- an account of the line was set, or one of another line
+  -- After the balance of an account was set, in this line or in another one, the bytes show the new balances.
   shows_set : (bytes : List ℕ) → length bytes ≡ 64 → balance < 2 ^ 64 → Shows f bytes i → Shows (with_balance f account balance) (with_lane_of bytes lane balance) i
   shows_set bytes wide small represents = λ l l8. elim (cases_eq l lane) [
     | inl e ↦
@@ -64,7 +64,7 @@ shows_same f a b i e represents = subst (λ bytes. Shows f bytes i) e represents
 pub none_true : {X : Type 0} → false ≡ true → X
 none_true e = absurd (let no : false ≡ true = e in cc no)
 
--- the accounts of a job with an outcome exist
+-- If a reply is an outcome, the accounts of the job exist.
 pub outcome_known : (reply : Reply) → is_outcome reply ≡ true → reply ≢ NoAccount
 outcome_known Done is e = let no : Done ≡ NoAccount = e in cc no
 outcome_known Short is e = let no : Short ≡ NoAccount = e in cc no
@@ -75,7 +75,7 @@ outcome_known Busy is e = none_true is
 outcome_known Closed is e = none_true is
 outcome_known NoAccount is e = none_true is
 
--- the port of a line, after a call: it is alone, and shows these balances
+-- The state of a line's port after a call: the port is alone at its line, and the line shows these balances.
 pub record Then (f : ℕ → ℕ) (w : View) (i : ℕ) : Type 0 where
   pub alone : IsAlone w
   pub represents : Shows f (bytes_of w) i
@@ -104,14 +104,14 @@ module _ (f : ℕ → ℕ) (v w : View) (i : ℕ) (a : IsAlone v) (represents : 
   refused SameAccount is h = absurd h
 
   module _ (account lane : ℕ) (at : IsAt account i lane) where
-    -- the balance that a turn found
+    -- the balance that the turn found in the account
     balance : (found left : List ℕ) → TakesTurn v w found left → f account ≡ lane_of found lane
     balance found left turn = ap f at.is ∙ (represents lane at.within ∙ ap (λ b. lane_of b lane) (sym (turn_found v w a found left turn)))
 
     low : f account ≤ MAX_BALANCE
     low = let all = good v a lane at.within in let e = ap f at.is ∙ represents lane at.within in omega (arith, all, e)
 
-    -- the turn left `value` in the account
+    -- The turn set the account to `value`.
     set : (value : ℕ) (found : List ℕ) → TakesTurn v w found (with_lane_of found lane value) → value ≤ MAX_BALANCE → Then (with_balance f account value) w i
     set value found turn few = record {
       alone = alone_then v w a turn.continues turn.at_rest;
@@ -131,7 +131,7 @@ module _ (f : ℕ → ℕ) (v w : View) (i : ℕ) (a : IsAlone v) (represents : 
         let few = low in
         subst (λ n. Then (with_balance f account (n - amount)) w i) (sym e) (set (lane_of found lane - amount) found turn (omega (arith, few, e)))
 
-    -- an answer that tells the balance
+    -- If the line has no room for the amount, the balance and the amount together exceed the limit.
     is_over : (amount : ℕ) (found left : List ℕ) → TakesTurn v w found left → (HasRoom found lane amount → ⊥) → MAX_BALANCE < f account + amount
     is_over amount found left turn none =
         let e = balance found left turn in
@@ -262,7 +262,7 @@ module _ (f : ℕ → ℕ) (worker source target amount : ℕ) (apart : source �
   move_else bytes i j from to k NoAccount at_source at_target ne_i ne_j represents = represents
   move_else bytes i j from to k SameAccount at_source at_target ne_i ne_j represents = represents
 
-  -- within a line
+  -- A move between two accounts of one line.
   module _ (v w : View) (i from to : ℕ) (a : IsAlone v) (represents : Shows f (bytes_of v) i) (at_source : IsAt source i from) (at_target : IsAt target i to) where
     other_lane : to ≢ from
     other_lane e = let s = at_source.is in let t = at_target.is in apart (omega (arith, e, s, t))
@@ -315,7 +315,7 @@ module _ (f : ℕ → ℕ) (worker source target amount : ℕ) (apart : source �
     moves_again NoAccount is h = none_true is
     moves_again SameAccount is h = none_true is
 
-  -- from one line to another
+  -- A move from one line to another.
   module _ (s s' t t' : View) (i j from to : ℕ) (ne : i ≢ j) (a : IsAlone s) (b : IsAlone t) (represents : Shows f (bytes_of s) i) (shows_there : Shows f (bytes_of t) j) (at_source : IsAt source i from) (at_target : IsAt target j to) where
     record Both (g : ℕ → ℕ) : Type 0 where
       pub source_then : Then g s' i
@@ -374,11 +374,11 @@ module _ (f : ℕ → ℕ) (worker source target amount : ℕ) (apart : source �
     down_again reply is (inr (found, turn, r)) = record { source_then = refused f s s' i a represents reply is r; target_then = looked f t t' j b shows_there found turn }
 
 module _ {Port : Type 0} (view : Port → View) (lines : ℕ) where
-  -- the ports of a desk, each alone at its line, show these balances
+  -- Each port of the desk is alone at its line, and together the ports show these balances.
   abbrev pub AllShow : (ℕ → ℕ) → List Port → Type 0
   AllShow f ports = (i : ℕ) (port : Port) → slice_get ports i ≡ Some port → Then f (view port) i
 
-  -- one port was called, or two
+  -- One port was called, or two ports were called.
   one_called : (f g : ℕ → ℕ) (old new : List Port) (place : ℕ) (port port_then : Port) → slice_get old place ≡ Some port → new ≡ slice_set old place port_then
       → ((bytes : List ℕ) (j : ℕ) → j ≢ place → Shows f bytes j → Shows g bytes j) → Then g (view port_then) place → AllShow f old → AllShow g new
   one_called f g old new place port port_then was is others here all =
@@ -469,7 +469,7 @@ module _ {Port : Type 0} (view : Port → View) (lines : ℕ) where
       ]
     ]
 
-  -- the two counters have room for one amount more
+  -- Both counters of the desk have room for one more amount.
   pub record HasRoomToCount (old : DeskOf Port) : Type 0 where
     pub paid_in : old.paid_in + 2 ^ 64 < 2 ^ 128
     pub paid_out : old.paid_out + 2 ^ 64 < 2 ^ 128

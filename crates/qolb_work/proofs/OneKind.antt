@@ -10,13 +10,13 @@ use Rattle.qolb_work.specs.Reports.{IsReportOf}
 use Rattle.qolb_work.specs.BankWork.{IsBankedOver}
 use Rattle.qolb_work.specs.BoardWork.{IsBoardedOver}
 
--- a report of a board says nothing of desks
+-- The clause about a bank's lines says nothing about the report of a board.
 pub board_banked : {Line Port E : Type 0} (belongs : Line → Port → Type 0) (view : Port → View) (config_of : Line → LineConfig) (work : WorkScript) (r : Result Report E) → work.kind ≡ Board → IfOk r (IsReportOf work) → IfOk r (IsBankedOver belongs view config_of work)
 board_banked belongs view config_of work (Ok (report.Board stored full taken empty left)) of_board is = tt
 board_banked belongs view config_of work (Ok (report.Bank paid_in paid_out total)) of_board is = absurd (let no : Board ≡ Bank = sym of_board ∙ is.of_bank in cc no)
 board_banked belongs view config_of work (Err error) of_board is = tt
 
--- and one of a bank nothing of a board
+-- The clause about a board's line says nothing about the report of a bank.
 pub bank_boarded : {Line Port E : Type 0} (belongs : Line → Port → Type 0) (view : Port → View) (config_of : Line → LineConfig) (work : WorkScript) (r : Result Report E) → work.kind ≡ Bank → IfOk r (IsReportOf work) → IfOk r (IsBoardedOver belongs view config_of work)
 bank_boarded belongs view config_of work (Ok (report.Bank paid_in paid_out total)) of_bank is = tt
 bank_boarded belongs view config_of work (Ok (report.Board stored full taken empty left)) of_bank is = absurd (let no : Bank ≡ Board = sym of_bank ∙ is.of_board in cc no)

@@ -12,11 +12,11 @@ use Rattle.qolb_script.specs.Jobs.{worker_of}
 use Rattle.qolb_work.specs.Jobs.{jobs_of}
 
 module _ (f : Job → ℕ) where
-  -- the sum over a worker's jobs
+  -- the share of one worker: the sum over its jobs
   abbrev pub share : ℕ → List Job → ℕ
   share worker jobs = sum_by f (jobs_of worker jobs)
 
-  -- and over those of the `n` workers behind the first `from`
+  -- the sum of the shares of the `n` workers that follow the first `from` workers
   abbrev pub shares : (from n : ℕ) → List Job → ℕ
   shares from zero jobs = 0
   shares from (suc n) jobs = share (from + 1) jobs + shares (from + 1) n jobs
@@ -29,11 +29,11 @@ module _ (f : Job → ℕ) where
   share_other : (worker : ℕ) (job : Job) (jobs : List Job) → worker_of job ≢ worker → share worker (job ∷ jobs) ≡ share worker jobs
   share_other worker job jobs ne = ap (λ b. sum_by f (cond b (job ∷ jobs_of worker jobs) (jobs_of worker jobs))) (ne_eqb (worker_of job) worker ne)
 
-  -- a worker's share is a part of the whole
+  -- The share of a worker is at most the whole sum.
   pub share_within : (worker : ℕ) (jobs : List Job) → share worker jobs ≤ sum_by f jobs
   share_within worker jobs = let both = sum_by-filter_both (λ job. worker_of job == worker) (λ job. not (worker_of job == worker)) (λ job. refl) f jobs in omega (arith, both)
 
-  -- a job of none of these workers adds nothing
+  -- A job that belongs to none of these workers adds nothing to their shares.
   shares_none : (from n : ℕ) (job : Job) (jobs : List Job) → worker_of job ≤ from → shares from n (job ∷ jobs) ≡ shares from n jobs
   shares_none from zero job jobs le = refl
   shares_none from (suc n) job jobs le =
@@ -41,7 +41,7 @@ module _ (f : Job → ℕ) where
       let b = shares_none (from + 1) n job jobs (omega (arith, le)) in
       omega (arith, a, b)
 
-  -- a job of one of these workers adds itself
+  -- A job that belongs to one of these workers adds its value once.
   shares_one : (from n : ℕ) (job : Job) (jobs : List Job) → from < worker_of job → worker_of job ≤ from + n → shares from n (job ∷ jobs) ≡ f job + shares from n jobs
   shares_one from zero job jobs lt le = absurd (omega (arith, lt, le))
   shares_one from (suc n) job jobs lt le = elim (cases_eq (worker_of job) (from + 1)) [
@@ -59,7 +59,7 @@ module _ (f : Job → ℕ) where
   shares_nil from zero = refl
   shares_nil from (suc n) = let rest = shares_nil (from + 1) n in omega (arith, rest)
 
-  -- all workers together have all jobs
+  -- The shares of all workers add up to the whole sum.
   pub shares_all : (n : ℕ) (jobs : List Job) → All (λ job. (1 ≤ worker_of job) × (worker_of job ≤ n)) jobs → shares 0 n jobs ≡ sum_by f jobs
   shares_all n [] all = shares_nil 0 n
   shares_all n (job ∷ jobs) all =
@@ -89,7 +89,7 @@ module _ (f : Job → ℕ) where
       let whole = sum_by-cons g h hands in
       omega (arith, here, rest, whole)
 
-  -- one of them has `more` less than its share
+  -- One of these workers has at least `more` less than its share.
   less : {H : Type 0} (g : H → ℕ) (hands : List H) (from : ℕ) (jobs : List Job) (place more : ℕ) (hand : H) → slice_get hands place ≡ Some hand → g hand + more ≤ share (from + place + 1) jobs
       → ((k : ℕ) (h : H) → slice_get hands k ≡ Some h → g h ≤ share (from + k + 1) jobs) → sum_by g hands + more ≤ shares from (length hands) jobs
   less {H} g [] from jobs place more hand at low each = absurd (let no : None ≡ Some hand = at in cc no)
@@ -108,11 +108,12 @@ module _ (f : Job → ℕ) where
     start : (k : ℕ) → k + 1 ≡ 0 + k + 1
     start k = omega arith
 
-    -- the sum of all workers' shares is the whole
+    -- If each worker has its share, then all workers together have the whole sum.
     pub sum_of_all : ((k : ℕ) (h : H) → slice_get hands k ≡ Some h → g h ≡ sum_by f (jobs_of (k + 1) jobs)) → sum_by g hands ≡ sum_by f jobs
     sum_of_all each = added g hands 0 jobs (λ k h at. each k h at ∙ ap (λ n. share n jobs) (start k)) ∙ shares_all (length hands) jobs all
 
-    -- if none has more than its share, and one has `more` less, then all together have `more` less than the whole
+    -- If no worker has more than its share, and one worker has at least `more` less, then all workers together have at
+    -- least `more` less than the whole sum.
     pub sum_with_less : (place more : ℕ) (hand : H) → slice_get hands place ≡ Some hand → g hand + more ≤ sum_by f (jobs_of (place + 1) jobs)
         → ((k : ℕ) (h : H) → slice_get hands k ≡ Some h → g h ≤ sum_by f (jobs_of (k + 1) jobs)) → sum_by g hands + more ≤ sum_by f jobs
     sum_with_less place more hand at low each =
@@ -120,7 +121,7 @@ module _ (f : Job → ℕ) where
         let whole = shares_all (length hands) jobs all in
         omega (arith, sum, whole)
 
--- the counts of all workers, if each is that of its own jobs
+-- If each worker's count is that of its own jobs, then the counts add up to the count of all jobs.
 pub counts_of_all : (p : Job → Bool) {H : Type 0} (g : H → ℕ) (hands : List H) (jobs : List Job) → All (λ job. (1 ≤ worker_of job) × (worker_of job ≤ length hands)) jobs
     → ((k : ℕ) (h : H) → slice_get hands k ≡ Some h → g h ≡ count_by p (jobs_of (k + 1) jobs)) → sum_by g hands ≡ count_by p jobs
 counts_of_all p g hands jobs all each = sum_of_all (λ job. cond (p job) 1 0) g hands jobs all each

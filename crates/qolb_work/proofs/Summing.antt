@@ -41,7 +41,7 @@ use Rattle.qolb_work.proofs.Shares.{counts_of_all}
 use Rattle.qolb_work.proofs.Turns.{turns_whole, node_turns-unserved}
 use Rattle.qolb_work.proofs.Merging.{Merged, all_turns, plus, merge, did_long, did_puts, did_takes, kept_run, counts_whole, one_owner}
 
--- the counts of the first `i` workers are small
+-- The counts of the first `i` workers are small enough not to overflow.
 module _ {Port : Type 0} (hands : List (BoardHand Port)) (i : ℕ) (all : BoardCounts) (few : length hands ≤ MAX_NODES) (small : All (λ hand. AreWithin MAX_COMMANDS hand.counts) hands) (lt : i < length hands) (sums : AreSums (take i hands) all) where
   each : (f : BoardHand Port → ℕ) → All (λ hand. f hand ≤ MAX_COMMANDS) hands → sum_by f (take i hands) ≤ MAX_NODES * MAX_COMMANDS
   each f low =
@@ -58,7 +58,7 @@ module _ {Port : Type 0} (hands : List (BoardHand Port)) (i : ℕ) (all : BoardC
     empty = subst (λ n. n ≤ MAX_NODES * MAX_COMMANDS) (sym sums.empty) (each (λ h. h.counts.empty) (λ k d below. (small k d below).empty));
   }
 
--- a port that was just opened has done nothing
+-- A port that was just opened has done no job.
 pub worked_nothing : {Line Port : Type 0} (belongs : Line → Port → Type 0) (view : Port → View) (line : Line) (config : LineConfig) (worker : ℕ) (port : Port) → belongs line port → IsJustOpened config worker (view port) → HasWorked belongs view line worker (record { port = port; counts = no_counts }) []
 worked_nothing belongs view line config worker port of_line (label, is) = record {
   of_line = of_line;
@@ -69,7 +69,7 @@ worked_nothing belongs view line config worker port of_line (label, is) = record
   counts_are = ap (λ (v : View). counts_of (turns_of v)) (sym is);
 }
 
--- of all jobs a worker is given its own
+-- All jobs that a worker is given are its own.
 own_jobs : (worker : ℕ) (jobs : List Job) (k : ℕ) (job : Job) → slice_get (jobs_of worker jobs) k ≡ Some job → worker_of job ≡ worker
 own_jobs worker [] k job at = absurd (let no : None ≡ Some job = at in cc no)
 own_jobs worker (j ∷ jobs) k job at = by (own_jobs worker jobs) (worker_of j == worker) refl k at
@@ -79,14 +79,14 @@ own_jobs worker (j ∷ jobs) k job at = by (own_jobs worker jobs) (worker_of j =
     by rest true e (suc k) at = rest k job at
     by rest false e k at = rest k job at
 
--- a worker that does not exist has no job
+-- A worker that does not exist has no job.
 no_jobs : (worker most : ℕ) (jobs : List Job) → All (λ job. (1 ≤ worker_of job) × (worker_of job ≤ most)) jobs → ((job : Job) → 1 ≤ worker_of job → worker_of job ≤ most → (worker_of job == worker) ≡ false) → jobs_of worker jobs ≡ []
 no_jobs worker most [] all none = refl
 no_jobs worker most (job ∷ jobs) all none =
     let here = All-head (λ j. (1 ≤ worker_of j) × (worker_of j ≤ most)) job jobs all in
     ap (λ b. cond b (job ∷ jobs_of worker jobs) (jobs_of worker jobs)) (none job here.0 here.1) ∙ no_jobs worker most jobs (All-tail (λ j. (1 ≤ worker_of j) × (worker_of j ≤ most)) job jobs all) none
 
--- a worker's counts are no more than its jobs
+-- The counts of a worker are at most the number of its jobs.
 module _ {Line Port : Type 0} (belongs : Line → Port → Type 0) (view : Port → View) (line : Line) where
   few_turns : (p : Turn → Bool) (turns : List Turn) (worker : ℕ) (jobs : List Job) → length jobs ≤ MAX_COMMANDS → HasDoneJobs turns (jobs_of worker jobs) → count_by p turns ≤ MAX_COMMANDS
   few_turns p turns worker jobs most did =
@@ -114,11 +114,11 @@ module _ {Line Port : Type 0} (belongs : Line → Port → Type 0) (view : Port 
     abbrev Worked : ℕ → BoardHand Port → Type 0
     Worked worker hand = HasWorked belongs view line worker hand (jobs_of worker work.jobs)
 
-    -- the ports of all workers are at rest
+    -- The ports of all workers know their own places in the order.
     pub places_all : (i : ℕ) (v : View) → slice_get (map view ports) i ≡ Some v → KnowsOwnPlaces v
     places_all i v at = let (hand, worked, is) = view_at view hands ports are Worked done i v at in subst (λ (w : View). KnowsOwnPlaces w) (sym is) worked.at_rest.places
 
-    -- the counts of a finished board
+    -- the counts of a board whose line is finished
     module _ (counts : BoardCounts) (label : ℕ) (config : LineConfig) (bytes tasks : List ℕ) (sums : AreSums hands counts) (many : length hands ≡ work.workers) (its : AreOfIts work) (config_is : config ≡ work_config work.workers)
         (f : IsFinished IsBoard Changes label config (map view ports) bytes) (stand : Stand bytes tasks) where
       abbrev order : List Request
@@ -141,7 +141,7 @@ module _ {Line Port : Type 0} (belongs : Line → Port → Type 0) (view : Port 
           let (w, among, is) = f.there 1 (omega arith) f.may_open.nodes.some in
           subst (λ (t : LineConfig). (1 ≤ r.node) × (r.node ≤ t.nodes)) f.config_is ((f.history.known w among).of_line p r at)
 
-      -- the turns that a port knows are those of the line's history
+      -- The turns that a port knows are its node's turns in the history of the line.
       known_turns : (i : ℕ) (v : View) → slice_get (map view ports) i ≡ Some v → turns_of v ≡ node_turns v.node opening order ends
       known_turns i v at = turns_whole f.history.config order ends f.history.clear v (f.history.known v (i, at)) (places_all i v at) ∙ ap (λ (t : LineConfig). node_turns v.node t.opening.bytes order ends) f.config_is
 
@@ -203,7 +203,7 @@ module _ {Line Port : Type 0} (belongs : Line → Port → Type 0) (view : Port 
       plus_none : (c : BoardCounts) → plus no_counts c ≡ c
       plus_none c = λ i. record { stored = zero-add c.stored i; full = zero-add c.full i; taken = zero-add c.taken i; empty = zero-add c.empty i }
 
-      -- one owner who does the merged jobs has the same counts
+      -- One owner who does the merged jobs has the same tasks and the same counts.
       run_is : after_jobs empty_board merged.sequence ≡ record { tasks = tasks; counts = counts }
       run_is =
           ap (λ (ts : List ℕ). after_jobs (record { tasks = ts; counts = no_counts }) merged.sequence) (sym opened_empty)

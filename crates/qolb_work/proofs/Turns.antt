@@ -21,12 +21,12 @@ use Rattle.line_accounts.specs.Desks.{IsAtRest}
 use Rattle.qolb_model.proofs.Sums.{slice_get-append_right, own_place}
 use Rattle.qolb_work.specs.BoardWork.{turn_between, node_turns, turns_of}
 
--- if no request has ended there is no turn
+-- If no request has ended, the node has had no turn.
 pub node_turns-none : (node : ℕ) (bytes : List ℕ) (order : List Request) → node_turns node bytes order [] ≡ []
 node_turns-none node bytes [] = refl
 node_turns-none node bytes (r ∷ order) = refl
 
--- the turns of two lists of ends, one behind the other
+-- the turns of a list of ends that is the concatenation of two lists
 pub node_turns-append : (node : ℕ) (bytes : List ℕ) (order : List Request) (xs ys : List End)
     → node_turns node bytes order (xs ++ ys) ≡ node_turns node bytes order xs ++ node_turns node (bytes_after bytes xs) (drop (length xs) order) ys
 node_turns-append node bytes order [] ys = by order
@@ -41,7 +41,7 @@ node_turns-append node bytes (r ∷ order) (Served write shut ∷ xs) ys =
 node_turns-append node bytes (r ∷ order) (Gone ∷ xs) ys = node_turns-append node bytes order xs ys
 node_turns-append node bytes (r ∷ order) (Told ∷ xs) ys = node_turns-append node bytes order xs ys
 
--- the turns of an order in two parts
+-- the turns of an order of requests that is the concatenation of two lists
 pub node_turns-append_order : (node : ℕ) (bytes : List ℕ) (xs ys : List Request) (ends : List End)
     → node_turns node bytes (xs ++ ys) ends ≡ node_turns node bytes xs ends ++ node_turns node (bytes_after bytes (take (length xs) ends)) ys (drop (length xs) ends)
 node_turns-append_order node bytes [] ys ends = refl
@@ -52,7 +52,7 @@ node_turns-append_order node bytes (r ∷ xs) ys (Served write shut ∷ ends) =
 node_turns-append_order node bytes (r ∷ xs) ys (Gone ∷ ends) = node_turns-append_order node bytes xs ys ends
 node_turns-append_order node bytes (r ∷ xs) ys (Told ∷ ends) = node_turns-append_order node bytes xs ys ends
 
--- none of the node's requests among these was served
+-- If none of the node's requests among these was served, the node has had no turn.
 pub node_turns-unserved : (node : ℕ) (bytes : List ℕ) (order : List Request) (ends : List End)
     → ((p : ℕ) (r : Request) (e : End) → slice_get order p ≡ Some r → slice_get ends p ≡ Some e → r.node ≡ node → is_served e ≡ false) → node_turns node bytes order ends ≡ []
 node_turns-unserved node bytes [] ends h = refl
@@ -64,7 +64,7 @@ node_turns-unserved node bytes (r ∷ order) (Served write shut ∷ ends) h =
 node_turns-unserved node bytes (r ∷ order) (Gone ∷ ends) h = node_turns-unserved node bytes order ends (λ p x e at_x at_e. h (suc p) x e at_x at_e)
 node_turns-unserved node bytes (r ∷ order) (Told ∷ ends) h = node_turns-unserved node bytes order ends (λ p x e at_x at_e. h (suc p) x e at_x at_e)
 
--- withdrawn requests that were passed are no turns
+-- Withdrawn requests that were skipped give no turn.
 pub node_turns-gone : (node : ℕ) (bytes : List ℕ) (order : List Request) (n : ℕ) → node_turns node bytes order (replicate n Gone) ≡ []
 node_turns-gone node bytes [] n = refl
 node_turns-gone node bytes (r ∷ order) zero = refl
@@ -75,7 +75,8 @@ not_served (Served write shut) h = absurd (h refl)
 not_served Gone h = refl
 not_served Told h = refl
 
--- a longer order and more ends have the same turns of a node, if the shorter ones have each of its served requests
+-- A node has the same turns in a longer order with more ends, if the shorter lists already contain each of its served
+-- requests.
 pub node_turns-same : (node : ℕ) (bytes : List ℕ) (order more : List Request) (ends later : List End) → IsPrefix order more → IsPrefix ends later
     → ((p : ℕ) (r : Request) (e : End) → slice_get more p ≡ Some r → slice_get later p ≡ Some e → r.node ≡ node → is_served e ≡ true → (p < length order) × (p < length ends))
     → node_turns node bytes more later ≡ node_turns node bytes order ends
@@ -104,7 +105,7 @@ served_stays (Served write shut) h = refl
 served_stays Gone h = absurd (let no : false ≡ true = h in cc no)
 served_stays Told h = absurd (let no : false ≡ true = h in cc no)
 
--- a port knows all turns of its node in the whole history
+-- A port knows all turns of its node in the whole history.
 pub turns_whole : (config : LineConfig) (order : List Request) (ends : List End) (clear : List Request) (v : View) → Knows config order ends clear v → KnowsOwnPlaces v
     → turns_of v ≡ node_turns v.node config.opening.bytes order ends
 turns_whole config order ends clear v knows places =
@@ -114,7 +115,7 @@ turns_whole config order ends clear v knows places =
       slice_get_within v.ends p e (knows.own_ends p r e at_r at_e same (served_stays e served)),
     )))
 
--- the node has no turn but those that the old view knew
+-- The node has no other turns than those that the old view knew.
 pub turns_kept : (old new : View) → Extends old new → OneHistory (new ∷ []) → IsAtRest old → KnowsOwnHistory old
     → ((p : ℕ) (r : Request) (e : End) → length old.order ≤ p → slice_get new.order p ≡ Some r → slice_get new.ends p ≡ Some e → r.node ≡ new.node → is_served e ≡ false) → turns_of new ≡ turns_of old
 turns_kept old new more h rest past beyond =

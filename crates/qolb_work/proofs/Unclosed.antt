@@ -20,12 +20,12 @@ use Rattle.qolb_work.proofs.Banking.{IsHere}
 
 module _ {Line Port : Type 0} (belongs : Line → Port → Type 0) (view : Port → View) (label_of : Line → ℕ) (config_of : Line → LineConfig) (lines : List Line) (desks : List (DeskOf Port))
     (here : (k : ℕ) (desk : DeskOf Port) → slice_get desks k ≡ Some desk → IsHere belongs view lines (k + 1) desk) where
-  -- the view of a desk's port is among those with which its line was finished
+  -- The view of a desk's port is one of the views with which the port's line was finished.
   pub view_at : (i : ℕ) (line : Line) (s : IsSettled view label_of config_of lines desks i line) (k : ℕ) (desk : DeskOf Port) (port : Port) → slice_get desks k ≡ Some desk → slice_get desk.ports i ≡ Some port → slice_get (map view s.ports) k ≡ Some (view port)
   view_at i line s k desk port at at_port = slice_get-map view s.ports k ∙ ap (option_map view) (s.are.each k desk at ∙ at_port)
 
   module _ (i : ℕ) (line : Line) (s : IsSettled view label_of config_of lines desks i line) where
-    -- each of these views is that of a desk's port
+    -- Each of these views is the view of some desk's port.
     port_of : (v : View) → IsAmong (map view s.ports) v → (k : ℕ) × (desk : DeskOf Port) × (port : Port) × (slice_get desks k ≡ Some desk) × (slice_get desk.ports i ≡ Some port) × (v ≡ view port)
     port_of v among =
         let (k, port, at_port, is) = among_map_port view s.ports v among in
@@ -45,11 +45,11 @@ module _ {Line Port : Type 0} (belongs : Line → Port → Type 0) (view : Port 
         subst (λ (w : View). HasNotShut w) (sym is) ((here k desk at).unshut i port at_port)
 
   module _ (workers : ℕ) (config : All (λ line. config_of line ≡ work_config workers) lines) (settled : AreSettled view label_of config_of lines desks) where
-    -- each line was opened for the work
+    -- Each line was opened for this work.
     pub config_at : (i : ℕ) (line : Line) → slice_get lines i ≡ Some line → config_of line ≡ work_config workers
     config_at i line at = subst (λ (l : Line). config_of l ≡ work_config workers) (get_or_from_slice_get lines i line line at) (config i line (slice_get_within lines i line at))
 
-    -- the line of a desk's port
+    -- finds the line to which a desk's port belongs
     pub line_at : (k : ℕ) (desk : DeskOf Port) → slice_get desks k ≡ Some desk → (i : ℕ) (port : Port) → slice_get desk.ports i ≡ Some port → (line : Line) × (slice_get lines i ≡ Some line)
     line_at k desk at i port at_port =
         let within = slice_get_within desk.ports i port at_port in
@@ -63,6 +63,6 @@ module _ {Line Port : Type 0} (belongs : Line → Port → Type 0) (view : Port 
         untold AreBalances StayBalances (label_of line) (config_of line) (map view s.ports) s.bytes s.finished (places_known told.place line s) (unshut_all told.place line s)
         (ap (λ (t : LineConfig). t.lease) (config_at told.place line at_line)) (view told.port) (k, view_at told.place line s k desk told.port at told.at) told.told
 
-    -- if all lines are finished, all workers have done their jobs
+    -- If all lines are finished, all workers have done their jobs.
     pub all_done : (jobs : List Job) → AreDone (HasEnded (HasBanked belongs view config_of) (WasTold belongs view)) lines jobs desks → AreDone (HasBanked belongs view config_of) lines jobs desks
     all_done jobs ended = done_if_untold (HasBanked belongs view config_of) (WasTold belongs view) lines jobs desks none_told ended

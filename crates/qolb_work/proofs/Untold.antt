@@ -19,7 +19,7 @@ use Rattle.qolb_work.proofs.Gathering.{done_if_untold}
 use Rattle.qolb_work.proofs.Hands.{hand_of, view_of, view_at, hand_at}
 
 module _ {Line Port : Type 0} (belongs : Line → Port → Type 0) (view : Port → View) (line : Line) where
-  -- a worker that has ended, whether it was told or not
+  -- a worker that has ended, whether or not it was told that the line is closed
   record IsHere (worker : ℕ) (hand : BoardHand Port) : Type 0 where
     of_line : belongs line hand.port
     of_worker : (view hand.port).node ≡ worker
@@ -38,7 +38,7 @@ module _ {Line Port : Type 0} (belongs : Line → Port → Type 0) (view : Port 
         let (hand, at_hand, of) = hand_of hands (get_or ports i d) i (ap (λ ps. slice_get ps i) (sym are) ∙ slice_get-get_or ports i d below) in
         subst (belongs line) (sym of) (here i hand at_hand).of_line
 
-    -- only want of memory can keep the line from being finished
+    -- Only a lack of memory can prevent the line from being finished.
     pub may_finish : (label nodes : ℕ) → ((port : Port) → belongs line port → (view port).label ≡ label) → length hands ≡ nodes → MayFinish label nodes (map view ports)
     may_finish label nodes labels many = (
       λ v (i, at). let (hand, is_here, is) = view_at view hands ports are IsHere here i v at in ap (λ (w : View). w.label) is ∙ labels hand.port is_here.of_line,
@@ -46,7 +46,7 @@ module _ {Line Port : Type 0} (belongs : Line → Port → Type 0) (view : Port 
       λ node first last v (i, at) same. let (hand, is_here, is) = view_at view hands ports are IsHere here i v at in ap (λ (w : View). may_ask w.state) is ∙ is_here.at_rest.quiet,
     )
 
-    -- if the line is finished, all workers have done their jobs
+    -- If the line is finished, all workers have done their jobs.
     pub done_at_last : (label : ℕ) (config : LineConfig) (bytes : List ℕ) → IsFinished IsBoard Changes label config (map view ports) bytes → config.lease ≡ None → AreDone (HasWorked belongs view) line work.jobs hands
     done_at_last label config bytes f none =
         let places : (v : View) → IsAmong (map view ports) v → KnowsOwnPlaces v =

@@ -15,7 +15,7 @@ use Rattle.qolb_work.specs.BoardRuns.{counts_after}
 use Rattle.qolb_work.specs.BoardWork.{Turn, turns_of, HasTurns, HasStored, FoundFull, HasTakenOne, FoundNone, Does, HasDoneJobs, HasWorked, WasTold, AreWithin, counts_of, stores, finds_full, takes, finds_none}
 use Rattle.qolb_work.proofs.Merging.{plus, did_long, did_more, counts_more, does_counted}
 
--- `nat_lt` answers `false` if the number is not below the other
+-- `nat_lt a b` is `false` if `a` equals `b`.
 not_below : (a b : ℕ) → a ≡ b → nat_lt a b ≡ false
 not_below a b e = go (nat_lt a b) refl
   where
@@ -23,7 +23,7 @@ not_below a b e = go (nat_lt a b) refl
     go true h = absurd (let lt = ltb-true a b h in omega (arith, lt, e))
     go false h = h
 
--- one job more, by one turn more
+-- The worker does one more job, with one more turn.
 module _ {Line Port : Type 0} (belongs : Line → Port → Type 0) (view : Port → View) (line : Line) (worker : ℕ) (hand : BoardHand Port) (jobs : List Job) (h : HasWorked belongs view line worker hand jobs) where
   pub within_jobs : AreWithin (length jobs) hand.counts
   within_jobs = subst (λ c. AreWithin (length jobs) c) (sym h.counts_are) (record {

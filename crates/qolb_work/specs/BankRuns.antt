@@ -11,7 +11,7 @@ use Rattle.qolb_script.specs.declared.report.Report.{Report}
 use Rattle.qolb_script.specs.declared.report.Report.TheVariants.{Bank}
 use Rattle.qolb_work.specs.Jobs.{jobs_of}
 
--- replies that end a job, which is then not tried again
+-- the replies that end a job, so that the job is not tried again
 abbrev pub is_outcome : Reply → Bool
 is_outcome Done = true
 is_outcome Short = true
@@ -22,7 +22,8 @@ is_outcome Late = false
 is_outcome Busy = false
 is_outcome Closed = false
 
--- the amounts that a job with this reply paid in, and paid out; 0 unless it is such a payment and was done
+-- the amounts that a job with this reply paid in, and paid out. The amount is 0 unless the job is a payment of this
+-- kind and was done
 abbrev pub paid_in_of : Job → Reply → ℕ
 paid_in_of (PayIn worker account amount) Done = amount
 paid_in_of _ _ = 0
@@ -31,7 +32,7 @@ abbrev pub paid_out_of : Job → Reply → ℕ
 paid_out_of (PayOut worker account amount) Done = amount
 paid_out_of _ _ = 0
 
--- the sums of these over a list of jobs, each with its outcome
+-- the sums of the amounts paid in, and paid out, by a list of jobs with these outcomes
 abbrev pub paid_in_by : List Job → List Reply → ℕ
 paid_in_by [] replies = 0
 paid_in_by (job ∷ jobs) [] = 0
@@ -42,7 +43,8 @@ paid_out_by [] replies = 0
 paid_out_by (job ∷ jobs) [] = 0
 paid_out_by (job ∷ jobs) (reply ∷ replies) = paid_out_of job reply + paid_out_by jobs replies
 
--- the sums over all jobs, each worker's by its own outcomes. The workers are `first`, the next one, and so on
+-- the sums of the amounts paid in, and paid out, by the jobs of all workers. Each list of outcomes belongs to one
+-- worker: the first to worker `first`, the next to worker `first + 1`, and so on
 abbrev pub all_in_by : ℕ → List Job → List (List Reply) → ℕ
 all_in_by first jobs [] = 0
 all_in_by first jobs (replies ∷ others) = paid_in_by (jobs_of first jobs) replies + all_in_by (first + 1) jobs others
@@ -51,7 +53,8 @@ abbrev pub all_out_by : ℕ → List Job → List (List Reply) → ℕ
 all_out_by first jobs [] = 0
 all_out_by first jobs (replies ∷ others) = paid_out_by (jobs_of first jobs) replies + all_out_by (first + 1) jobs others
 
--- the amount that a job is to pay in; and the amount that it is to put into an account, as a payment in and a move do
+-- `payment_in` is the amount that a job is meant to pay in. `amount_in` is the amount that a job is meant to add to an
+-- account, by a payment in or by a move
 abbrev pub payment_in : Job → ℕ
 payment_in (PayIn worker account amount) = amount
 payment_in (PayOut worker account amount) = 0
@@ -66,14 +69,15 @@ amount_in (Move worker source target amount) = amount
 amount_in (Put worker task) = 0
 amount_in (Take worker) = 0
 
--- the sum of all payments in of these jobs; and the sum of these with all moves
+-- `payments_in` is the sum of all payments in among these jobs, and `amounts_in` also includes all moves
 abbrev pub payments_in : List Job → ℕ
 payments_in jobs = sum_by payment_in jobs
 
 abbrev pub amounts_in : List Job → ℕ
 amounts_in jobs = sum_by amount_in jobs
 
--- each job of these workers has one outcome; the sums are `paid_in` and `paid_out`. The workers are `first`, the next one, and so on
+-- Each job of these workers has one outcome, and the payments add up to `paid_in` and `paid_out`. The workers have the
+-- numbers `first`, `first + 1`, and so on.
 pub record ComesTo (first workers : ℕ) (jobs : List Job) (paid_in paid_out : ℕ) : Type 0 where
   pub replies : List (List Reply)
   pub workers_are : length replies ≡ workers
@@ -82,12 +86,13 @@ pub record ComesTo (first workers : ℕ) (jobs : List Job) (paid_in paid_out : �
   pub in_is : paid_in ≡ all_in_by first jobs replies
   pub out_is : paid_out ≡ all_out_by first jobs replies
 
--- these balances, by account, with another balance for one account
+-- the balances of all accounts, with the balance of one account replaced
 abbrev pub with_balance : (ℕ → ℕ) → ℕ → ℕ → ℕ → ℕ
 with_balance balances account balance other = if other == account then balance else balances other
 
--- The outcome of a job that one owner does at these balances. A payment out of an account, or a move from it, is short if the balance
--- is less than the amount; a payment or a move into an account is over if the balance would pass the limit.
+-- The outcome of a job that one owner does at these balances. A payment out of an account, or a move from it, is
+-- `Short` if the balance is less than the amount. A payment or a move into an account is `Over` if the balance would
+-- exceed the limit.
 abbrev pub outcome_at : (ℕ → ℕ) → Job → Reply
 outcome_at balances (PayIn worker account amount) = if nat_lt MAX_BALANCE (balances account + amount) then Over else Done
 outcome_at balances (PayOut worker account amount) = if nat_lt (balances account) amount then Short else Done
@@ -99,7 +104,7 @@ outcome_at balances (Move worker source target amount) =
 outcome_at balances (Put worker task) = NoAccount
 outcome_at balances (Take worker) = NoAccount
 
--- the balances after a job with this outcome: only a job that is done changes them
+-- the balances after a job with this outcome. Only a job that is done changes them
 abbrev pub balances_after : (ℕ → ℕ) → Job → Reply → ℕ → ℕ
 balances_after balances (PayIn worker account amount) Done = with_balance balances account (balances account + amount)
 balances_after balances (PayOut worker account amount) Done = with_balance balances account (balances account - amount)
@@ -107,7 +112,7 @@ balances_after balances (Move worker source target amount) Done =
     with_balance (with_balance balances source (balances source - amount)) target (balances target + amount)
 balances_after balances job reply = balances
 
--- a bank with one owner: the balance of each account, and what was paid in and out so far
+-- a bank with one owner: the balance of each account, and the sums that have been paid in and out so far
 pub record BankRun : Type 0 where
   pub balances : ℕ → ℕ
   pub paid_in : ℕ
@@ -123,7 +128,7 @@ after_reply run job reply = record {
 abbrev pub after_job : BankRun → Job → BankRun
 after_job run job = after_reply run job (outcome_at run.balances job)
 
--- the bank after these jobs
+-- the bank after one owner has done these jobs in order
 abbrev pub after_jobs : BankRun → List Job → BankRun
 after_jobs run [] = run
 after_jobs run (job ∷ jobs) = after_jobs (after_job run job) jobs
@@ -132,6 +137,6 @@ after_jobs run (job ∷ jobs) = after_jobs (after_job run job) jobs
 abbrev pub empty_bank : BankRun
 empty_bank = record { balances = λ account. 0; paid_in = 0; paid_out = 0 }
 
--- its report: what was paid in, what was paid out, and the difference
+-- the report of such a bank: the sum paid in, the sum paid out, and their difference
 abbrev pub report_of : BankRun → Report
 report_of run = Bank run.paid_in run.paid_out (run.paid_in - run.paid_out)

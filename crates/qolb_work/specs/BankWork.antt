@@ -21,17 +21,18 @@ use Rattle.qolb_work.specs.JustOpened.{IsJustOpened, work_config}
 use Rattle.qolb_work.specs.Workers.{AreDone}
 use Rattle.qolb_work.specs.BankRuns.{is_outcome, paid_in_by, paid_out_by}
 
--- at most `jobs` of the largest amounts were paid in, and paid out
+-- What was paid in at the desk, and what was paid out, is at most `jobs` times 2^64, which is above the amount of any
+-- job.
 pub record ArePaid {Port : Type 0} (jobs : ℕ) (desk : DeskOf Port) : Type 0 where
   pub paid_in : desk.paid_in ≤ jobs * 2 ^ 64
   pub paid_out : desk.paid_out ≤ jobs * 2 ^ 64
 
--- one call paid in, and paid out, at most the largest amount
+-- One call added at most 2^64 to what was paid in at the desk, and to what was paid out.
 pub record PaysOneAmount {Port : Type 0} (old new : DeskOf Port) : Type 0 where
   pub paid_in : new.paid_in ≤ old.paid_in + 2 ^ 64
   pub paid_out : new.paid_out ≤ old.paid_out + 2 ^ 64
 
--- the amount of a job is a number of 64 bits
+-- The amount of the job fits into 64 bits.
 abbrev pub IsAmount : Job → Type 0
 IsAmount (PayIn worker account amount) = amount < 2 ^ 64
 IsAmount (PayOut worker account amount) = amount < 2 ^ 64
@@ -39,7 +40,7 @@ IsAmount (Move worker source target amount) = amount < 2 ^ 64
 IsAmount (Put worker task) = Unit {0}
 IsAmount (Take worker) = Unit {0}
 
--- replies after which a job is tried again: its lines were not granted in time
+-- the replies after which a job is tried again, because its lines were not granted in time
 abbrev pub is_again : Reply → Bool
 is_again Late = true
 is_again Busy = true
@@ -51,7 +52,7 @@ is_again NoAccount = false
 is_again SameAccount = false
 
 module _ {Port : Type 0} (view : Port → View) (lines : ℕ) where
-  -- one call at a desk of `lines` lines tried the job and was answered this
+  -- One call at a desk of `lines` lines tried the job, and this was the answer.
   abbrev pub Asks : Job → DeskOf Port → DeskOf Port → Reply → Type 0
   Asks (PayIn worker account amount) old new reply = Deposits view lines account amount old new reply
   Asks (PayOut worker account amount) old new reply = TakesOut view lines account amount old new reply
@@ -59,19 +60,20 @@ module _ {Port : Type 0} (view : Port → View) (lines : ℕ) where
   Asks (Put worker task) old new reply = ⊥
   Asks (Take worker) old new reply = ⊥
 
-  -- tries of the job that were all answered `Late` or `Busy`
+  -- The job was tried any number of times, and every answer was `Late` or `Busy`.
   pub data Tries (job : Job) (from : DeskOf Port) : DeskOf Port → Type 0 where
     not_yet : Tries job from from
     again : {mid new : DeskOf Port} (reply : Reply) → Tries job from mid → Asks job mid new reply → is_again reply ≡ true → Tries job from new
 
-  -- These jobs were done one after another, each once: it was tried until its lines were granted, and had this outcome. No other call
-  -- was made at the desk.
+  -- These jobs were done one after another. Each of them was tried until its lines were granted, and then had this
+  -- outcome. No job was tried again after its outcome, and no other call was made at the desk.
   pub data Makes (from : DeskOf Port) : List Job → List Reply → DeskOf Port → Type 0 where
     nothing : Makes from [] [] from
     another : {jobs : List Job} {replies : List Reply} {before late new : DeskOf Port} (job : Job) (reply : Reply) → Makes from jobs replies before → Tries job before late → Asks job late new reply → is_outcome reply ≡ true → Makes from (jobs ++ job ∷ []) (replies ++ reply ∷ []) new
 
--- a worker of the bank, between its jobs: from a new desk on, whose ports were opened with their lines, it has done these jobs; its
--- desk is one over the lines, with its node's ports; it has shut none of the lines
+-- The state of a worker of the bank between two jobs. The worker began with a new desk, whose ports were opened with
+-- their lines, and has done these jobs since. Its desk has a port of the worker's node for each line. The worker has
+-- shut none of the lines.
 pub record HasBanked {Line Port : Type 0} (belongs : Line → Port → Type 0) (view : Port → View) (config_of : Line → LineConfig) (lines : List Line) (worker : ℕ) (desk : DeskOf Port) (jobs : List Job) : Type 0 where
   pub over : IsDeskOver belongs view lines desk
   pub of_worker : (i : ℕ) (port : Port) → slice_get desk.ports i ≡ Some port → (view port).node ≡ worker
@@ -87,7 +89,7 @@ pub record HasBanked {Line Port : Type 0} (belongs : Line → Port → Type 0) (
   pub paid_out : desk.paid_out ≡ paid_out_by jobs replies
   pub small : ArePaid (length jobs) desk
 
--- a worker of the bank that was told that one of its lines is closed; it has shut none of them
+-- The worker of the bank was told that one of its lines is closed. The worker itself has shut none of the lines.
 pub record WasTold {Line Port : Type 0} (belongs : Line → Port → Type 0) (view : Port → View) (lines : List Line) (worker : ℕ) (desk : DeskOf Port) : Type 0 where
   pub over : IsDeskOver belongs view lines desk
   pub of_worker : (i : ℕ) (port : Port) → slice_get desk.ports i ≡ Some port → (view port).node ≡ worker
@@ -98,8 +100,8 @@ pub record WasTold {Line Port : Type 0} (belongs : Line → Port → Type 0) (vi
   pub told : IsTold (view port)
   pub small : ArePaid MAX_COMMANDS desk
 
--- The work of a bank: lines that were opened for it, and a desk over them for each worker, at which its jobs were done. `paid_in` and
--- `paid_out` are the sums over all desks.
+-- The work of a bank was done over lines that were opened for it, with a desk for each worker, where the worker did its
+-- jobs. `paid_in` and `paid_out` are the sums over all desks.
 pub record AreBanked {Line Port : Type 0} (belongs : Line → Port → Type 0) (view : Port → View) (config_of : Line → LineConfig) (work : WorkScript) (paid_in paid_out : ℕ) : Type 0 where
   pub lines : List Line
   pub desks : List (DeskOf Port)

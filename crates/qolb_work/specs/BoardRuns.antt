@@ -8,7 +8,8 @@ use Rattle.qolb_script.specs.declared.report.Report.{Report}
 use Rattle.qolb_script.specs.declared.report.Report.TheVariants.{Board}
 use Rattle.qolb_work.specs.declared.board.BoardCounts.{BoardCounts}
 
--- the tasks after a job that found these: a put appends its task if fewer than `MAX_TASKS` were there; a take removes the first
+-- The tasks that a job leaves of the tasks that it finds. A put appends its task if it finds fewer than `MAX_TASKS`
+-- tasks, and a take removes the first task.
 abbrev pub tasks_after : Job → List ℕ → List ℕ
 tasks_after (Put worker task) tasks = if nat_lt (length tasks) MAX_TASKS then tasks ++ task ∷ [] else tasks
 tasks_after (Take worker) tasks = drop 1 tasks
@@ -16,7 +17,8 @@ tasks_after (PayIn worker account amount) tasks = tasks
 tasks_after (PayOut worker account amount) tasks = tasks
 tasks_after (Move worker source target amount) tasks = tasks
 
--- the counts after it: of puts that stored a task, puts that found the board full, takes that took a task, takes that found none
+-- the counts after the job. They count the puts that stored a task, the puts that found the board full, the takes that
+-- took a task, and the takes that found none
 abbrev pub counts_after : Job → List ℕ → BoardCounts → BoardCounts
 counts_after (Put worker task) tasks counts = if nat_lt (length tasks) MAX_TASKS then record counts { stored = counts.stored + 1 } else record counts { full = counts.full + 1 }
 counts_after (Take worker) [] counts = record counts { empty = counts.empty + 1 }
@@ -25,7 +27,7 @@ counts_after (PayIn worker account amount) tasks counts = counts
 counts_after (PayOut worker account amount) tasks counts = counts
 counts_after (Move worker source target amount) tasks counts = counts
 
--- a board with one owner: its tasks, and the counts of the jobs so far
+-- a board with one owner: its tasks, and the counts of the jobs that were done so far
 pub record BoardRun : Type 0 where
   pub tasks : List ℕ
   pub counts : BoardCounts
@@ -33,7 +35,7 @@ pub record BoardRun : Type 0 where
 abbrev pub after_job : BoardRun → Job → BoardRun
 after_job run job = record { tasks = tasks_after job run.tasks; counts = counts_after job run.tasks run.counts }
 
--- the board after these jobs
+-- the board after one owner has done these jobs in order
 abbrev pub after_jobs : BoardRun → List Job → BoardRun
 after_jobs run [] = run
 after_jobs run (job ∷ jobs) = after_jobs (after_job run job) jobs
@@ -42,10 +44,10 @@ after_jobs run (job ∷ jobs) = after_jobs (after_job run job) jobs
 abbrev pub no_counts : BoardCounts
 no_counts = record { stored = 0; full = 0; taken = 0; empty = 0 }
 
--- a board without a task, before the first job
+-- a board without tasks, before the first job
 abbrev pub empty_board : BoardRun
 empty_board = record { tasks = []; counts = no_counts }
 
--- its report
+-- the report of such a board
 abbrev pub report_of : BoardRun → Report
 report_of run = Board run.counts.stored run.counts.full run.counts.taken run.counts.empty (length run.tasks)

@@ -25,7 +25,7 @@ use Rattle.qolb_work.specs.BoardRuns.{tasks_after}
 use Rattle.qolb_work.specs.JustOpened.{work_config}
 use Rattle.qolb_work.specs.Workers.{AreDone}
 
--- a turn at a board: the tasks that it found, and those that it left
+-- One critical section at a board, here called a turn: the tasks that it found, and the tasks that it left.
 pub record Turn : Type 0 where
   pub found : List ℕ
   pub left : List ℕ
@@ -33,7 +33,8 @@ pub record Turn : Type 0 where
 abbrev pub turn_between : List ℕ → List ℕ → Turn
 turn_between found left = record { found = standing found; left = standing left }
 
--- the turns of a node's requests in order, by the ends of a line. The line was opened with these bytes
+-- The turns of one node, in order. They are computed from the requests of a line and the ends of these requests.
+-- `bytes` are the bytes before the first of these requests.
 abbrev pub node_turns : ℕ → List ℕ → List Request → List End → List Turn
 node_turns node bytes [] ends = []
 node_turns node bytes (r ∷ order) [] = []
@@ -45,15 +46,16 @@ node_turns node bytes (r ∷ order) (Told ∷ ends) = node_turns node bytes orde
 abbrev pub turns_of : View → List Turn
 turns_of v = node_turns v.node v.config.opening.bytes v.order v.ends
 
--- the node's port had these turns more, and is at rest. It shut the line in none of them
+-- Between the two views, the node's port had the turns `more`. The port is now at rest, and shut the line in none of
+-- these turns.
 pub record HasTurns (old new : View) (more : List Turn) : Type 0 where
   pub node : new.node ≡ old.node
   pub at_rest : IsAtRest new
   pub turns : turns_of new ≡ turns_of old ++ more
   pub unshut : HasNotShut old → HasNotShut new
 
--- what a turn did: it appended the task; or it found the largest number of tasks, and left them; or it removed the first task; or it
--- found none
+-- What a turn did. `HasStored`: it appended the task. `FoundFull`: it found as many tasks as a board can hold, and left
+-- them as they were. `HasTakenOne`: it removed the first task. `FoundNone`: it found no task, and left none.
 pub record HasStored (task : ℕ) (turn : Turn) : Type 0 where
   pub room : length turn.found < MAX_TASKS
   pub left : turn.left ≡ turn.found ++ task ∷ []
@@ -71,20 +73,22 @@ pub record FoundNone (turn : Turn) : Type 0 where
   pub found : turn.found ≡ []
   pub left : turn.left ≡ []
 
--- the turn did the job of a board: it left the tasks that one owner's job would leave of those that it found
+-- The turn did this job of a board: of the tasks that it found, it left exactly those that the same job leaves on a
+-- board with one owner.
 pub record Does (job : Job) (turn : Turn) : Type 0 where
   pub of_board : IsBoardJob job
   pub few : length turn.found ≤ MAX_TASKS
   pub left : turn.left ≡ tasks_after job turn.found
 
--- these turns did these jobs, one each, in order
+-- The turns did these jobs, one job each, in order.
 abbrev pub HasDoneJobs : List Turn → List Job → Type 0
 HasDoneJobs [] [] = Unit {0}
 HasDoneJobs [] (job ∷ jobs) = ⊥
 HasDoneJobs (turn ∷ turns) [] = ⊥
 HasDoneJobs (turn ∷ turns) (job ∷ jobs) = Does job turn × HasDoneJobs turns jobs
 
--- tests of a turn: it stored a task, found the board full, took a task, or found none. They look at the tasks found and left
+-- Tests of a turn: it stored a task, found the board full, took a task, or found none. The tests only compare the
+-- numbers of tasks that the turn found and left.
 abbrev pub stores : Turn → Bool
 stores turn = nat_lt (length turn.found) (length turn.left)
 
@@ -97,12 +101,13 @@ takes turn = nat_lt (length turn.left) (length turn.found)
 abbrev pub finds_none : Turn → Bool
 finds_none turn = (length turn.found == 0) && (length turn.left == 0)
 
--- how many turns did each of these
+-- how many of the turns stored a task, found the board full, took a task, and found none
 abbrev pub counts_of : List Turn → BoardCounts
 counts_of turns = record { stored = count_by stores turns; full = count_by finds_full turns; taken = count_by takes turns; empty = count_by finds_none turns }
 
--- a worker of the board, between its jobs: each job was done by one turn of its port, in order, and the port had no other turn; it shut
--- the line in none of them; the worker's counts are of these turns
+-- The state of a worker of the board between two jobs. Each job was done by one turn of the worker's port, in order,
+-- and the port had no other turn. The worker shut the line in none of its turns. The worker's counts are the counts of
+-- these turns.
 pub record HasWorked {Line Port : Type 0} (belongs : Line → Port → Type 0) (view : Port → View) (line : Line) (worker : ℕ) (hand : BoardHand Port) (jobs : List Job) : Type 0 where
   pub of_line : belongs line hand.port
   pub of_worker : (view hand.port).node ≡ worker
@@ -111,7 +116,8 @@ pub record HasWorked {Line Port : Type 0} (belongs : Line → Port → Type 0) (
   pub did : HasDoneJobs (turns_of (view hand.port)) jobs
   pub counts_are : hand.counts ≡ counts_of (turns_of (view hand.port))
 
--- counts: none above a limit; the sum of two; the sum of those of all workers
+-- Relations between counts. `AreWithin`: no count exceeds a limit. `AreAdded`: the new counts are the sums of the old
+-- counts and of `more`. `AreSums`: the counts are the sums over all workers.
 pub record AreWithin (most : ℕ) (counts : BoardCounts) : Type 0 where
   pub stored : counts.stored ≤ most
   pub full : counts.full ≤ most
@@ -130,7 +136,7 @@ pub record AreSums {Port : Type 0} (hands : List (BoardHand Port)) (counts : Boa
   pub taken : counts.taken ≡ sum_by (λ hand. hand.counts.taken) hands
   pub empty : counts.empty ≡ sum_by (λ hand. hand.counts.empty) hands
 
--- a worker that was told that the board's line is closed; it shut the line in none of its turns
+-- The worker was told that the line of the board is closed. The worker itself shut the line in none of its turns.
 pub record WasTold {Line Port : Type 0} (belongs : Line → Port → Type 0) (view : Port → View) (line : Line) (worker : ℕ) (hand : BoardHand Port) : Type 0 where
   pub of_line : belongs line hand.port
   pub of_worker : (view hand.port).node ≡ worker
@@ -139,8 +145,8 @@ pub record WasTold {Line Port : Type 0} (belongs : Line → Port → Type 0) (vi
   pub told : IsTold (view hand.port)
   pub few : AreWithin MAX_COMMANDS hand.counts
 
--- The work of a board: a line that was opened for it, and a port for each worker, whose turns did the worker's jobs. `counts` is the
--- sum of all counts.
+-- The work of a board was done in a line that was opened for it, with a port for each worker, whose turns did the
+-- worker's jobs. `counts` are the sums of all workers' counts.
 pub record AreBoarded {Line Port : Type 0} (belongs : Line → Port → Type 0) (view : Port → View) (config_of : Line → LineConfig) (work : WorkScript) (counts : BoardCounts) : Type 0 where
   pub line : Line
   pub hands : List (BoardHand Port)

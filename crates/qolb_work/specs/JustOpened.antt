@@ -6,19 +6,19 @@ use Rattle.qolb_model.specs.declared.config.LineConfig.{LineConfig}
 use Rattle.qolb_model.specs.declared.view.View.{View}
 use Rattle.qolb_model.specs.Opening.{new_view}
 
--- a line of zeros without a lease, with a node for each worker
+-- the configuration of a line of zeros without a lease, with a node for each worker
 abbrev pub work_config : ℕ → LineConfig
 work_config workers = record { nodes = workers; opening = record { bytes = zeros }; lease = None }
 
--- the node's port was opened with its line, by this configuration, and was not used
+-- The port of the node was opened together with its line, with this configuration, and has not been used since.
 abbrev pub IsJustOpened : LineConfig → ℕ → View → Type 0
 IsJustOpened config node v = (label : ℕ) × (v ≡ new_view label config node)
 
--- these are the line's ports, just opened, in the order of their nodes
+-- These are the ports of a line that was just opened, in the order of their nodes.
 abbrev pub AreJustOpened : {Line Port : Type 0} → (Line → Port → Type 0) → (Port → View) → (Line → LineConfig) → Line → List Port → Type 0
 AreJustOpened {Line} {Port} belongs view config_of line ports = (k : ℕ) (port : Port) → slice_get ports k ≡ Some port → belongs line port × IsJustOpened (config_of line) (k + 1) (view port)
 
--- a line that was just opened for `workers` workers, and its ports
+-- The line and its ports were just opened for `workers` workers.
 pub record IsNewLine {Line Port : Type 0} (belongs : Line → Port → Type 0) (view : Port → View) (config_of : Line → LineConfig) (workers : ℕ) (line : Line) (ports : List Port) : Type 0 where
   pub own : AreJustOpened belongs view config_of line ports
   pub config : config_of line ≡ work_config workers

@@ -12,14 +12,16 @@ use Rattle.qolb_work.specs.BankRuns.{ComesTo, payments_in, amounts_in}
 use Rattle.qolb_work.specs.BankRuns as bank
 use Rattle.qolb_work.specs.BoardRuns.{after_jobs, empty_board, report_of}
 
--- Some interleaving of the workers' jobs gives this report. The jobs are done one after another by one owner of an empty board.
+-- This report results if one owner of a board, which is empty at first, does the jobs of all workers one after another
+-- in some interleaving.
 pub record IsDoneInTurn (work : WorkScript) (report : Report) : Type 0 where
   pub sequence : List Job
   pub interleaves : IsInterleaving work.jobs sequence
   pub report_is : report ≡ report_of (after_jobs empty_board sequence)
 
--- the report is that of one owner who did all jobs in some interleaving. So each task that was stored was taken or is left, each put
--- stored its task or found the board full, and each take had a task or found none
+-- The report is that of one owner who did all jobs in some interleaving. It follows that each stored task was either
+-- taken or left on the board, that each put either stored its task or found the board full, and that each take either
+-- took a task or found none.
 pub record IsOfBoard (work : WorkScript) (stored full taken empty left : ℕ) : Type 0 where
   pub of_board : work.kind ≡ kind.Board
   pub in_turn : IsDoneInTurn work (Board stored full taken empty left)
@@ -27,9 +29,10 @@ pub record IsOfBoard (work : WorkScript) (stored full taken empty left : ℕ) : 
   pub puts : stored + full ≡ puts_in work.jobs
   pub takes : taken + empty ≡ takes_in work.jobs
 
--- the report of a bank: each job has one outcome, and what was paid in and out is the sum of the payments that were done; what was paid
--- in was paid out or is there. If all payments in and all moves together fit one balance, each payment in was done: what was paid in is
--- the sum of them all. With one worker the report is that of one owner of empty accounts who does the jobs one after another
+-- The report of a bank. Each job has one outcome. `paid_in` and `paid_out` are the sums of the payments that were done,
+-- and all that was paid in was either paid out or is still in the bank. If the amounts of all payments in and all moves
+-- together fit into one balance, every payment in was done, so `paid_in` is the sum of them all. If there is only one
+-- worker, the report is that of one owner of empty accounts who does the jobs one after another.
 pub record IsOfBank (work : WorkScript) (paid_in paid_out total : ℕ) : Type 0 where
   pub of_bank : work.kind ≡ kind.Bank
   pub comes_to : ComesTo 1 work.workers work.jobs paid_in paid_out

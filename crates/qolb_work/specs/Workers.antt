@@ -9,38 +9,38 @@ use Rattle.qolb_work.specs.Jobs.{jobs_of}
 use Rattle.qolb_work.specs.declared.work.RunError.{RunError}
 use Rattle.qolb_work.specs.declared.work.RunError.TheVariants.{Memory, Stalled}
 
--- a worker has ended: it has done its jobs, or was told that its line is closed
+-- The worker has ended: either it has done all its jobs, or it was told that a line is closed.
 abbrev pub HasEnded : {JobTarget WorkerState : Type 0} → (JobTarget → ℕ → WorkerState → List Job → Type 0) → (JobTarget → ℕ → WorkerState → Type 0) → JobTarget → ℕ → WorkerState → List Job → Type 0
 HasEnded has_done was_told site worker hand jobs = has_done site worker hand jobs ⊎ was_told site worker hand
 
--- worker k + 1, at place k, has done its jobs, unless it gave up
+-- Every worker that did not give up has done its jobs. Worker k + 1 is at place k of the list.
 abbrev pub AreBack : {JobTarget WorkerState : Type 0} → (JobTarget → ℕ → WorkerState → List Job → Type 0) → JobTarget → List Job → List (Option WorkerState) → Type 0
 AreBack {JobTarget} {WorkerState} has_done site jobs back = (k : ℕ) (hand : WorkerState) → slice_get back k ≡ Some (Some hand) → has_done site (k + 1) hand (jobs_of (k + 1) jobs)
 
--- all workers have done all their jobs
+-- All workers have done all their jobs.
 abbrev pub AreDone : {JobTarget WorkerState : Type 0} → (JobTarget → ℕ → WorkerState → List Job → Type 0) → JobTarget → List Job → List WorkerState → Type 0
 AreDone {JobTarget} {WorkerState} has_done site jobs hands = (k : ℕ) (hand : WorkerState) → slice_get hands k ≡ Some hand → has_done site (k + 1) hand (jobs_of (k + 1) jobs)
 
--- no worker has begun
+-- No worker has begun.
 abbrev pub AreFresh : {JobTarget WorkerState : Type 0} → (JobTarget → ℕ → WorkerState → List Job → Type 0) → JobTarget → List WorkerState → Type 0
 AreFresh {JobTarget} {WorkerState} has_done site hands = (k : ℕ) (hand : WorkerState) → slice_get hands k ≡ Some hand → has_done site (k + 1) hand []
 
--- why not all are done: the first worker that gave up, and nothing else
+-- The error is `Stalled`, and names the first worker that gave up. All workers before it came back.
 abbrev pub IsFirstGone : {WorkerState : Type 0} → List (Option WorkerState) → RunError → Type 0
 IsFirstGone back Memory = ⊥
 IsFirstGone {WorkerState} back (Stalled worker) =
     (k : ℕ) × (worker ≡ k + 1) × (slice_get back k ≡ Some None) × ((j : ℕ) → j < k → (hand : WorkerState) × (slice_get back j ≡ Some (Some hand)))
 
--- each worker that gave up is one that its gate may refuse
+-- The gate may refuse every worker that gave up.
 abbrev pub AreRefused : {WorkerState : Type 0} → (ℕ → Type 0) → List (Option WorkerState) → Type 0
 AreRefused {WorkerState} may_refuse back = (k : ℕ) → slice_get back k ≡ Some None → may_refuse (k + 1)
 
--- why there is no report: want of memory, or one of the workers gave up
+-- The reasons why there may be no report: memory was refused, or one of the workers, with this number, gave up.
 abbrev pub MayStop : WorkScript → RunError → Type 0
 MayStop work Memory = Unit {0}
 MayStop work (Stalled worker) = (1 ≤ worker) × (worker ≤ work.workers)
 
--- the work has at most the largest numbers of workers and jobs. Each job is of one of the workers
+-- The work does not exceed the largest numbers of workers and jobs, and each job belongs to one of the workers.
 pub record IsWithinLimits (work : WorkScript) : Type 0 where
   pub few : work.workers ≤ MAX_NODES
   pub most : length work.jobs ≤ MAX_COMMANDS

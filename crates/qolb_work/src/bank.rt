@@ -26,7 +26,7 @@ use std::alloc::{AllocError, Global};
 use std::sync::Wait;
 use std::thread::{Threads, yield_now};
 
-/// A bank that workers share: lines of accounts.
+/// A bank, whose accounts are stored in these lines. All workers share it.
 #[derive(Drop)]
 pub(crate) struct Bank<L> {
     pub lines: Vec<L>,
@@ -50,7 +50,7 @@ impl<L: LineSync<AccountLaw>> JobTarget for Bank<L> {
                 Reply::Done | Reply::Short | Reply::Over | Reply::SameAccount => {
                     return JobOutcome::Done;
                 }
-                // A script has no account beyond its lines.
+                // The contract excludes jobs whose account is in no line of the bank.
                 Reply::NoAccount => unreachable!(),
             }
         }
@@ -58,7 +58,10 @@ impl<L: LineSync<AccountLaw>> JobTarget for Bank<L> {
     }
 }
 
-/// Tries the job once at the desk. Returns `Late` or `Busy` if a line was not granted in time; `Short` and `Over` are outcomes, too.
+/// Tries the job once at the desk.
+///
+/// `Late` and `Busy` mean that a line was not granted in time, so the job must be tried again. `Short` and `Over` are
+/// outcomes of the job.
 fn try_once<L: LineSync<AccountLaw>>(lines: &[L], desk: &mut Desk<L>, job: &Job) -> Reply
     requires over { IsDeskOver L.belongs L.view lines.now desk.old }
     requires kind { IsBankJob (length lines.now) job.now }
@@ -85,12 +88,12 @@ fn try_once<L: LineSync<AccountLaw>>(lines: &[L], desk: &mut Desk<L>, job: &Job)
             amount,
             ..
         } => transfer(lines, desk, source, target, amount, PATIENCE),
-        // A job of a board is none of a bank's.
+        // The contract excludes the jobs of a board.
         Job::Put { .. } | Job::Take { .. } => unreachable!(),
     }
 }
 
-/// Returns what was paid in at all desks, and what was paid out.
+/// Returns the amount that was paid in at all desks, and the amount that was paid out at all desks.
 fn sum_up<L: LineSync<AccountLaw>>(desks: &[Desk<L>]) -> (u128, u128)
     requires desks { length desks.now ≤ MAX_NODES }
     requires small { All (λ desk. ArePaid MAX_COMMANDS desk) desks.now }
@@ -105,8 +108,10 @@ fn sum_up<L: LineSync<AccountLaw>>(desks: &[Desk<L>]) -> (u128, u128)
     (paid_in, paid_out)
 }
 
-/// Finishes the bank's lines and returns the report of its work. No worker was told that a line is closed: no call of a bank shuts a line,
-/// and no line has a lease.
+/// Finishes the lines of the bank and returns the report of its work.
+///
+/// No worker was told that a line is closed, because no call of a bank shuts a line, and no line has a lease (a limit
+/// on the number of its acquisitions).
 fn finish<L: LineSync<AccountLaw> + Drop>(
     alloc: Global,
     bank: Bank<L>,
@@ -132,7 +137,7 @@ where
         Ok(total) => total,
         Err(unsettled) => match unsettled.why {
             SettleError::Memory => return Err(RunError::Memory),
-            // Each worker's desk has its node's port of each line.
+            // Each worker's desk has the port of the worker's node for every line.
             SettleError::Missing { .. } => unreachable!(),
         },
     };
@@ -143,7 +148,7 @@ where
     })
 }
 
-/// Opens `count` lines of a bank, each with a port for each worker.
+/// Opens the lines of a bank, with labels from 0 on. Each line has a port for each worker.
 fn open_lines<L: OpenLine<AccountLaw> + Drop>(
     alloc: Global,
     lines: u64,
@@ -169,7 +174,8 @@ where
     Ok(all)
 }
 
-/// Wraps each line in a `ParkOnPoll`, so that workers sleep between polls. Keeps the order and the ports.
+/// Wraps each line in a `ParkOnPoll`, so that workers sleep between polls. The order of the lines and their ports stay
+/// the same.
 fn all_asleep<R: Wait, L: ParkingLine<AccountLaw> + Drop>(
     rt: &R,
     alloc: Global,
@@ -232,7 +238,7 @@ where
 {
     let workers = work.workers();
     let opened = open_lines::<L>(alloc, work.lines(), workers)?;
-    // That a script has no more jobs than it may is a fact of its reader.
+    // The contract of this call says that a script has at most `MAX_COMMANDS` jobs, which the proof needs here.
     let _ = work.jobs();
     match waits {
         WaitMode::Awake => {
@@ -247,7 +253,7 @@ where
     }
 }
 
-/// Runs the jobs of a bank at these new lines, each worker at its new desk.
+/// Runs the jobs of a bank over these newly opened lines. Each worker uses its new desk.
 fn work_at<R: Threads + Wait + Sync, G: Gate + Sync, L: LineSync<AccountLaw> + Sync + Drop>(
     rt: &R,
     alloc: Global,

@@ -23,24 +23,24 @@ use std::alloc::{AllocError, Global};
 use std::sync::Wait;
 use std::thread::{Threads, yield_now};
 
-/// A board that workers share.
+/// A task board in one line. All workers share it.
 #[derive(Drop)]
 pub(crate) struct Board<L> {
     pub line: L,
 }
 
-/// Counts how a worker's puts and takes ended.
+/// How many puts and takes of one worker ended in each way.
 #[derive(Clone, Copy, Debug, PartialEq, Eq)]
 pub(crate) struct BoardCounts {
-    /// Puts that stored a task, and puts that found the board full.
+    /// The number of puts that stored a task. `full` is the number of puts that found the board full.
     pub stored: u64,
     pub full: u64,
-    /// Takes that took a task, and takes that found none.
+    /// The number of takes that removed a task. `empty` is the number of takes that found no task.
     pub taken: u64,
     pub empty: u64,
 }
 
-/// The state of a board's worker: its port, and its counts.
+/// The state of one worker of a board: its port and its counts.
 #[derive(Drop)]
 pub(crate) struct BoardHand<P> {
     pub port: P,
@@ -69,16 +69,17 @@ impl<L: LineSync<BoardLaw>> JobTarget for Board<L> {
                 Some(false) => hand.counts.empty += 1,
                 None => return JobOutcome::Told,
             },
-            // A job of a bank is none of a board's.
+            // The contract excludes the jobs of a bank.
             Job::PayIn { .. } | Job::PayOut { .. } | Job::Move { .. } => unreachable!(),
         }
         JobOutcome::Done
     }
 }
 
-/// Puts the task, and tries again while the call is late or the port busy. Blocks until the line is granted or closed.
+/// Puts the task on the board. Tries again whenever the line was not granted in time or the port was busy, and blocks
+/// until the line is granted or closed.
 ///
-/// Returns `Some(true)` if the task was stored, `Some(false)` if the board was full, `None` if the line is closed.
+/// Returns `Some(true)` if the task was stored, `Some(false)` if the board was full, and `None` if the line is closed.
 fn put_at_last<R: Wait, L: LineSync<BoardLaw>>(
     rt: &R,
     line: &L,
@@ -106,9 +107,10 @@ fn put_at_last<R: Wait, L: LineSync<BoardLaw>>(
     unreachable!()
 }
 
-/// Takes a task, and tries again while the call is late or the port busy. Blocks until the line is granted or closed.
+/// Takes a task from the board. Tries again whenever the line was not granted in time or the port was busy, and blocks
+/// until the line is granted or closed.
 ///
-/// Returns `Some(true)` if a task was taken, `Some(false)` if there was none, `None` if the line is closed.
+/// Returns `Some(true)` if a task was taken, `Some(false)` if the board had no task, and `None` if the line is closed.
 fn take_at_last<R: Wait, L: LineSync<BoardLaw>>(
     rt: &R,
     line: &L,
@@ -148,7 +150,7 @@ impl BoardCounts {
         }
     }
 
-    /// Adds the counts of `other`.
+    /// Adds each count of `other` to the same count of `self`.
     fn add(&mut self, other: &BoardCounts)
         requires mine { AreWithin (MAX_NODES * MAX_COMMANDS) self.old }
         requires others { AreWithin MAX_COMMANDS other.now }
@@ -161,7 +163,7 @@ impl BoardCounts {
     }
 }
 
-/// Makes the states of workers that have done nothing, with these ports.
+/// Makes the state of each worker from its port. The counts are 0, because no worker has done a job.
 fn fresh_hands<L: LineSync<BoardLaw>>(
     alloc: Global,
     line: &L,
@@ -182,7 +184,7 @@ where
     Ok(hands)
 }
 
-/// Returns the sum of the counts of all workers.
+/// Returns the sums of the counts of all workers.
 fn sum_up<P>(hands: &[BoardHand<P>]) -> BoardCounts
     requires hands { length hands.now ≤ MAX_NODES }
     requires small { All (λ hand. AreWithin MAX_COMMANDS hand.counts) hands.now }
@@ -195,7 +197,7 @@ fn sum_up<P>(hands: &[BoardHand<P>]) -> BoardCounts
     all
 }
 
-/// Returns the ports of all workers, in order.
+/// Takes the ports out of the workers' states. The order stays the same.
 fn ports_of<P: Drop>(alloc: Global, hands: Vec<BoardHand<P>>) -> Result<Vec<P>, AllocError>
     ensures { IfOk result (λ ports. ports.items ≡ map (λ hand. hand.port) hands.items) }
 {
@@ -206,8 +208,10 @@ fn ports_of<P: Drop>(alloc: Global, hands: Vec<BoardHand<P>>) -> Result<Vec<P>, 
     Ok(ports)
 }
 
-/// Finishes the board's line and returns the report of its work. No worker was told that the line is closed: no call of a board shuts it,
-/// and it has no lease.
+/// Finishes the line of the board and returns the report of its work.
+///
+/// No worker was told that the line is closed, because no call of a board shuts the line, and the line has no lease (a
+/// limit on the number of its acquisitions).
 fn finish<L: LineSync<BoardLaw> + Drop>(
     alloc: Global,
     board: Board<L>,
@@ -232,7 +236,7 @@ where
         Ok(last) => last,
         Err(back) => match back.why {
             FinishError::Memory => return Err(RunError::Memory),
-            // Each node's port was passed, and neither waits nor holds.
+            // The port of each node was passed, and no port waits or holds the line.
             FinishError::Missing(_) | FinishError::Unquiet(_) => unreachable!(),
         },
     };
@@ -248,7 +252,7 @@ where
     })
 }
 
-/// Runs the jobs of a board in a line of this kind, with a port and a thread for each worker.
+/// Runs the jobs of a board in a line of this type. Each worker has a port and a thread.
 pub(crate) fn run_board<
     R: Threads + Wait + Sync,
     G: Gate + Sync,
@@ -264,7 +268,7 @@ where
         → G.may_refuse gate.now worker }
 {
     let (line, ports) = open_line::<BoardLaw, L>(alloc, 0, work.workers())?;
-    // That a script has no more jobs than it may is a fact of its reader.
+    // The contract of this call says that a script has at most `MAX_COMMANDS` jobs, which the proof needs here.
     let _ = work.jobs();
     match waits {
         WaitMode::Awake => work_at::<R, G, L>(rt, alloc, gate, work, line, ports),
@@ -275,7 +279,7 @@ where
     }
 }
 
-/// Runs the jobs of a board in this new line, each worker by its new port.
+/// Runs the jobs of a board in this newly opened line. Each worker uses its new port.
 fn work_at<R: Threads + Wait + Sync, G: Gate + Sync, L: LineSync<BoardLaw> + Sync + Drop>(
     rt: &R,
     alloc: Global,

@@ -3,24 +3,29 @@ ghost use Rattle.std.specs.Prelude.{◌≡◌, ℕ, false};
 
 use std::thread::yield_now;
 
-/// How many times a gate may refuse a worker before one job. Then the worker gives up.
+/// The number of times that a gate may refuse a worker before the same job. After this many refusals, the worker gives
+/// up.
 pub const MAX_REFUSALS: u32 = 1_000_000;
 
-/// Decides when a worker may do its next job.
+/// Decides when a worker may start its next job.
 pub trait Gate {
-    /// `may_refuse gate worker`: the gate may refuse this worker. A gate that does not define it may refuse each.
+    /// `may_refuse gate worker` says that the gate may refuse this worker. A gate that does not define `may_refuse` may
+    /// refuse every worker.
     ghost may_refuse: { Self → ℕ → Type 0 } = { λ gate worker. Unit {0} };
 
-    /// Called once before the workers begin, with the number of all jobs. By default it does nothing.
+    /// Tells the gate the number of all jobs. The call comes once, before the workers begin. By default, it does
+    /// nothing.
     fn begins(&self, _jobs: usize) {}
 
-    /// Returns `true` if the worker may do its job number `at`, counted from 0. After its last job a worker calls it once more, with the
-    /// number of its jobs, and ignores the answer.
+    /// Returns `true` if the worker may start job number `at`. The jobs of each worker are counted from 0.
+    ///
+    /// A worker that is refused yields its processor and asks again. After its last job, a worker asks once more, with
+    /// the number of its jobs as `at`, and ignores the answer.
     fn may(&self, worker: u64, at: u64) -> bool
         ensures { result ≡ false → may_refuse self.now worker };
 }
 
-/// The gate that refuses no worker.
+/// A gate that refuses no worker.
 #[derive(Clone, Copy, Debug)]
 pub struct AlwaysOpen;
 
@@ -32,7 +37,7 @@ impl Gate for AlwaysOpen {
     }
 }
 
-/// Asks the gate until the worker may go on. Returns `false` if it was refused `MAX_REFUSALS` times.
+/// Asks the gate until the worker may start its job. Returns `false` if the gate has refused `MAX_REFUSALS` times.
 pub(crate) fn passes<G: Gate>(gate: &G, worker: u64, at: u64) -> bool
     ensures { result ≡ false → G.may_refuse gate.now worker }
 {

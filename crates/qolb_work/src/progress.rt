@@ -5,27 +5,29 @@ use std::rt::Clock;
 use std::sync::atomic::{AtomicBool, AtomicU64, Ordering};
 use std::time::Instant;
 
-/// The gate that refuses no worker, and reports once a second how many jobs are done. It writes to standard error.
+/// A gate that refuses no worker, and writes the number of finished jobs to standard error, at most once a second.
 ///
-/// A worker that asks the gate writes, if no worker has in that second. So while all workers wait, nothing is written.
+/// A worker that asks the gate after a job writes the message, unless another worker has already written one in that
+/// second. While all workers wait, no message is written.
 #[derive(Drop)]
 pub struct Progress<'a, R> {
     rt: &'a R,
     start: Instant,
     jobs: AtomicU64,
     done: AtomicU64,
-    /// The last second, counted from `start`, in which a worker wrote.
+    /// The last second, counted from `start`, in which a worker wrote a message.
     said: AtomicU64,
-    /// A worker writes. Another writes nothing meanwhile, so no message says less than the one before.
+    /// This is `true` while a worker writes a message. Meanwhile, no other worker writes. Therefore the number in a
+    /// message is never smaller than the number in the message before.
     writing: AtomicBool,
 }
 
 impl<'a, R: Clock + Eprint> Progress<'a, R> {
-    /// Makes a gate that counts seconds from now.
+    /// Makes a gate, and starts its clock.
     ///
     /// # Errors
     ///
-    /// If there is no clock.
+    /// Returns the error of the clock if the clock cannot be read.
     pub fn new(rt: &'a R) -> io::Result<Progress<'a, R>> {
         Ok(Progress {
             rt,
@@ -37,7 +39,8 @@ impl<'a, R: Clock + Eprint> Progress<'a, R> {
         })
     }
 
-    /// Writes how many jobs are done, unless a worker does now or has in this second. A failed write is ignored.
+    /// Writes how many jobs are done. Does nothing if another worker is writing, or if a worker has already written in
+    /// this second. A failed write is ignored.
     fn say(&self) {
         let Ok(time) = self.start.elapsed(self.rt) else {
             return;
@@ -56,7 +59,7 @@ impl<'a, R: Clock + Eprint> Progress<'a, R> {
         self.writing.store(false, Ordering::SeqCst);
     }
 
-    /// Whether no worker has written in this second.
+    /// Returns `true` if no worker has written in this second.
     fn is_due(&self, second: u64) -> bool {
         second > self.said.load(Ordering::SeqCst)
     }
@@ -70,7 +73,7 @@ impl<R: Clock + Eprint> Gate for Progress<'_, R> {
     }
 
     fn may(&self, _worker: u64, at: u64) -> bool {
-        // A worker that asks for its next job has done the one before.
+        // A worker that asks for its next job has finished the job before.
         if at > 0 {
             self.done.fetch_add(1, Ordering::SeqCst);
             self.say();

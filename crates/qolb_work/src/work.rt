@@ -18,19 +18,20 @@ use std::sync::Wait;
 use std::thread::Threads;
 use thiserror::Error;
 
-/// Why there is no report of the work.
+/// The reason why work has no report.
 #[derive(Clone, Copy, Debug, PartialEq, Eq, Error)]
 pub enum RunError {
-    /// A growth of memory was refused, or a thread could not be started.
+    /// A memory allocation was refused, or a thread could not be started.
     #[error("out of memory")]
     Memory,
-    /// This worker gave up, and none before it: the gate refused it `MAX_REFUSALS` times before one job.
+    /// The worker with this number gave up, and no worker with a smaller number did. A worker gives up when the gate
+    /// has refused it `MAX_REFUSALS` times before the same job.
     #[error("stalled {0}")]
     Stalled(u64),
 }
 
 impl RunError {
-    /// The error's number.
+    /// Returns the number of the error: 1 for `Memory`, 2 for `Stalled`.
     pub fn number(&self) -> u8
         ensures memory { self.now ≡ RunError.Memory → result ≡ 1 }
         ensures stalled { (worker : ℕ) → self.now ≡ RunError.Stalled worker → result ≡ 2 }
@@ -53,17 +54,19 @@ impl From<AllocError> for RunError {
 /// How a worker waits for its turn at a line.
 #[derive(Clone, Copy, Debug, Default, PartialEq, Eq)]
 pub enum WaitMode {
-    /// The worker polls again and again, and yields its processor at times.
+    /// The worker polls in a loop, and yields the processor from time to time.
     #[default]
     Awake,
-    /// The worker sleeps between two polls, until a release wakes it.
+    /// The worker sleeps between two polls, until a release of the line wakes it.
     Asleep,
 }
 
-/// Does the work over lines of these types: a board in a line `B`, the accounts of a bank in lines `A`.
+/// Does the jobs of a work script over lines of the given types.
 ///
-/// Each worker is a node with a thread of its own, and waits for its turns as `waits` says. Every line is opened with zeros, and finished
-/// when all workers are done.
+/// A board is kept in one line of type `B`. The accounts of a bank are kept in lines of type `A`. Each worker is a node
+/// with a thread of its own, and `waits` says how the worker waits for its turn. Every line is opened with zeros, and
+/// is finished once all workers have done their jobs. The call allocates memory, and blocks until all threads that it
+/// started have ended.
 pub fn run_work_over<
     R: Threads + Wait + Sync,
     G: Gate + Sync,

@@ -14,33 +14,34 @@ use std::alloc::Global;
 use std::sync::Wait;
 use std::thread::Threads;
 
-/// How many times a worker polls for its turn, before it withdraws and tries again.
+/// The number of times that a worker polls for its turn before it withdraws its request and tries again.
 pub(crate) const PATIENCE: u64 = 64;
 
 /// How a worker's job ended.
 #[derive(Clone, Copy, Debug, PartialEq, Eq)]
 pub(crate) enum JobOutcome {
-    /// The job is done.
+    /// The worker has done the job.
     Done,
-    /// The worker was told that a line is closed.
+    /// The worker was told that a line is closed, and did not do the job.
     Told,
 }
 
-/// The place of the work: a board, or a bank.
+/// A place where workers do jobs: a board, or a bank.
 pub(crate) trait JobTarget {
-    /// What each worker owns: its ports and counts.
+    /// The state that each worker owns: its ports and its counts.
     type WorkerState;
 
-    /// `has_done target worker state jobs`: with this state, the worker has done these jobs here.
+    /// `has_done target worker state jobs` says that the worker, in this state, has done these jobs at this place.
     ghost has_done: { Self → ℕ → Self.WorkerState → List Job → Type 0 };
 
-    /// `was_told target worker state`: with this state, the worker was told here that a line is closed.
+    /// `was_told target worker state` says that the worker, in this state, was told that a line of this place is
+    /// closed.
     ghost was_told: { Self → ℕ → Self.WorkerState → Type 0 };
 
-    /// The job is of a kind that is done here.
+    /// `takes target job` says that the job is of a kind that this place can do.
     ghost takes: { Self → Job → Type 0 };
 
-    /// Does a job. Blocks until its lines are granted or closed.
+    /// Does one job. Blocks until the lines of the job are granted, or a line is closed.
     fn run_job<R: Wait>(&self, rt: &R, hand: &mut Self::WorkerState, job: &Job) -> JobOutcome
         requires takes { takes self.now job.now }
         requires done { (worker : ℕ) × (done : List Job) × has_done self.now worker hand.old done
@@ -52,7 +53,7 @@ pub(crate) trait JobTarget {
             → has_done self.now worker hand.old done → was_told self.now worker hand.new };
 }
 
-/// The task of each worker's thread: the jobs of a script, and the gate.
+/// The task of each worker's thread: it does the worker's jobs, each of them once the gate allows the job.
 #[derive(Drop)]
 struct Jobs<'a, G> {
     gate: &'a G,
@@ -79,17 +80,19 @@ where
     }
 }
 
-/// The states of all workers, whose threads are joined; `None` for a worker that gave up. A linear token.
+/// The states of all workers, whose threads have been joined. A worker that gave up has `None`.
 ///
-/// The type is not `Drop`, and only `all_done` reads its parts, into room that was allocated before. So once the threads are joined, want
-/// of memory does not hide the worker that gave up.
+/// This type is linear: it is not `Drop`, and only `all_done` takes it apart. `all_done` moves the states into memory
+/// that was allocated before the threads ran. Therefore, once the threads are joined, an error that names the worker
+/// that gave up cannot be replaced by an out-of-memory error.
 pub(crate) struct Joined<H> {
     back: Vec<Option<H>>,
 }
 
-/// Runs a thread for each worker, and joins them. Allocates, and blocks until all have ended.
+/// Runs a thread for each worker, and joins the threads. Allocates memory, and blocks until all threads have ended.
 ///
-/// Returns `None` if memory or a thread was refused; all threads that were started have ended then.
+/// Returns `None` if a memory allocation or the start of a thread was refused. All threads that were started have ended
+/// by then.
 pub(crate) fn run_workers<R: Threads + Wait + Sync, G: Gate + Sync, S: JobTarget + Sync>(
     rt: &R,
     alloc: Global,
@@ -113,8 +116,9 @@ where
     Some(Joined { back })
 }
 
-/// Does the jobs of one worker, each once the gate lets it, until they are done or a line is closed. Returns `None` if the gate refuses the
-/// worker, which gives up.
+/// Does the jobs of one worker in order, until all are done or a line is closed. Before each job, it asks the gate.
+///
+/// Returns `None` if the worker gave up because the gate refused it too often.
 fn run_jobs<R: Wait, G: Gate, S: JobTarget>(
     rt: &R,
     gate: &G,
@@ -147,7 +151,8 @@ where
     Some(hand)
 }
 
-/// Returns the states of all workers, gathered into `room`; or an error that names the first worker that gave up.
+/// Moves the states of all workers into `room` and returns them. If a worker gave up, returns an error that names the
+/// first such worker.
 pub(crate) fn all_done<H: Drop>(joined: Joined<H>, room: Vec<H>) -> Result<Vec<H>, RunError>
     requires empty { room.items ≡ [] }
     requires room { vec_len joined.back ≤ vec_capacity room }
@@ -163,7 +168,7 @@ pub(crate) fn all_done<H: Drop>(joined: Joined<H>, room: Vec<H>) -> Result<Vec<H
             return Err(RunError::Stalled(number));
         };
         if hands.push(hand).is_err() {
-            // The room was large enough for each.
+            // The caller made `room` large enough for the states of all workers.
             unreachable!();
         }
     }

@@ -8,9 +8,9 @@ use qolb_model::{Enq, Out, Poll, PortState};
 use qolb_run::{Got, Kind, Lines, Lock, REPLAYED};
 use qolb_script::WorkKind;
 
-/// A type whose variants are all known.
+/// A type whose variants are all listed.
 trait Listed {
-    /// The variant's place in the order.
+    /// Returns the position of the variant in the list of variants.
     fn place(&self) -> usize;
 }
 
@@ -115,7 +115,8 @@ impl Listed for Got {
     }
 }
 
-// These `match`es have no last arm: users write them so, and a variant more would not compile.
+// Users write such `match`es without a catch-all arm, and an additional variant would break them. Here it would not
+// compile either.
 
 impl Listed for Lines {
     fn place(&self) -> usize {
@@ -139,7 +140,7 @@ impl Listed for Kind {
 /// The lock of each of these lines.
 static LOCKS_OF_LINES: [(Lines, Lock); 2] = [(Lines::Ring, Lock::Ring), (Lines::Link, Lock::Link)];
 
-/// Each of these kinds among all kinds.
+/// The lock of each kind. The plain reference has none.
 static LOCKS_OF_KINDS: [(Kind, Option<Lock>); 3] = [
     (Kind::Plain, None),
     (Kind::Ring, Some(Lock::Ring)),

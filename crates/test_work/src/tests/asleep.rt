@@ -27,7 +27,8 @@ fn wait_until_some(count: &AtomicU64) {
     }
 }
 
-/// Hooks by which a holder releases only after a waiter has slept. So work by two nodes does not end if the waiter does not sleep.
+/// Hooks that let a holder release only after a waiter has slept. Work by two nodes therefore never ends if the waiter
+/// does not sleep.
 #[derive(Drop)]
 struct UntilSlept {
     sleeps: AtomicU64,
@@ -58,8 +59,8 @@ impl Hooks for UntilSlept {
     }
 }
 
-/// Hooks by which a holder releases only after a waiter has polled without a grant, and a sleep does not end. So work by two nodes does not
-/// end if the waiter sleeps.
+/// Hooks that let a holder release only after a waiter has polled without a grant, and in which a sleep never ends.
+/// Work by two nodes therefore never ends if the waiter sleeps.
 #[derive(Drop)]
 struct UntilLooked {
     poll_count: AtomicU64,
@@ -95,11 +96,12 @@ impl Hooks for UntilLooked {
     }
 }
 
-/// How many times a job polls before it withdraws and asks again.
+/// The number of times that a job polls before it withdraws its request and asks again.
 const LOOKS: u64 = 64;
 
-/// Hooks by which a holder releases only after a waiter has polled 64 times without a grant, withdrawn, and asked again while busy. So work by
-/// two nodes does not end if the waiter withdraws earlier or later.
+/// Hooks that let a holder release only after a waiter has polled 64 times without a grant, has withdrawn its request,
+/// and has asked again while the node was still busy. Work by two nodes therefore never ends if the waiter withdraws
+/// earlier or later.
 #[derive(Drop)]
 struct UntilBusy {
     poll_count: AtomicU64,
@@ -131,7 +133,7 @@ impl Hooks for UntilBusy {
     }
 }
 
-/// Hooks by which no release ends. So work ends only if no job is done.
+/// Hooks in which no release ends. Work therefore ends only if no job is done.
 #[derive(Drop)]
 struct Kept;
 
@@ -149,7 +151,7 @@ impl Hooks for Kept {
     }
 }
 
-/// Hooks by which one release ends and no later one. So work ends only if one job is done.
+/// Hooks in which the first release ends, and no later one does. Work therefore ends only if at most one job is done.
 #[derive(Drop)]
 struct OneJob {
     releases: AtomicU64,
@@ -174,7 +176,7 @@ impl Hooks for OneJob {
     }
 }
 
-/// A gate that is open for the first job of each worker, and closed for the next ones.
+/// A gate that allows the first job of each worker, and refuses all later jobs.
 struct ForOne;
 
 impl Gate for ForOne {
@@ -185,7 +187,7 @@ impl Gate for ForOne {
     }
 }
 
-/// Does the work behind this gate over lines with these hooks.
+/// Does the work behind this gate, over lines with these hooks.
 fn work_hooked<
     R: Threads + Wait + Sync,
     G: Gate + Sync,
@@ -200,8 +202,8 @@ where
     run_work_over::<R, G, HookedLine<H, B>, HookedLine<H, A>>(rt, alloc, gate, work, waits)
 }
 
-/// Does the work over rings. How a worker waits does not depend on the lock, and the prover needs a minute to see of each lock that it is a
-/// line with hooks.
+/// Does the work over ring lines only. How a worker waits does not depend on the lock, and for each lock the prover
+/// needs a minute to establish that a hooked line of this lock implements the interface of a line.
 fn work_over_rings<R: Threads + Wait + Sync, G: Gate + Sync, H: Hooks + Default + Sync + Drop>(
     rt: &R,
     alloc: Global,
@@ -212,7 +214,8 @@ fn work_over_rings<R: Threads + Wait + Sync, G: Gate + Sync, H: Hooks + Default 
     work_hooked::<R, G, H, RingLine<BoardLaw>, RingLine<AccountLaw>>(rt, alloc, gate, work, waits)
 }
 
-/// The report of two jobs that store, and below of two that find nothing.
+/// The reports of two puts that stored a task, and, further down, of two takes that found none, of two payments that
+/// were done, and of jobs that paid nothing.
 const TWO_STORED: Report = Report::Board {
     stored: 2,
     full: 0,
@@ -241,8 +244,8 @@ const NOTHING_PAID: Report = Report::Bank {
     total: 0,
 };
 
-/// A job of each kind for each of two workers or more, with the report. At least two workers ask for each line. Tasks and amounts are larger
-/// than the number of polls after which a job withdraws.
+/// Jobs of each kind for two or more workers, with the expected report. At least two workers ask for each line. The
+/// tasks and the amounts are larger than the number of polls after which a job withdraws its request.
 static JOBS_OF_EACH_KIND: [(WorkKind, &str, Report); 10] = [
     (
         WorkKind::Board,
@@ -279,7 +282,7 @@ static JOBS_OF_EACH_KIND: [(WorkKind, &str, Report); 10] = [
         "bank workers 3 lines 2\n1 move 8 0 100\n2 out 0 100\n3 out 8 100\n",
         NOTHING_PAID,
     ),
-    // more workers
+    // Work with more workers.
     (
         WorkKind::Board,
         "board workers 4\n3 put 500\n4 put 600\n",
@@ -297,7 +300,7 @@ static JOBS_OF_EACH_KIND: [(WorkKind, &str, Report); 10] = [
     ),
 ];
 
-/// Runs a job of each kind over lines with these hooks.
+/// Runs jobs of each kind over lines with these hooks.
 fn expect_hooked<R: Threads + Wait + Abort + Sync, H: Hooks + Default + Sync + Drop>(
     rt: &R,
     alloc: Global,

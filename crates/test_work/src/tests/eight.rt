@@ -9,7 +9,7 @@ use std::alloc::Global;
 use std::sync::atomic::{AtomicU64, Ordering};
 use std::test::Fail;
 
-/// Work whose gate is closed, with the first worker that has a job.
+/// Work whose gate is always closed, with the first worker that has a job.
 static FIRST_TO_STALL: [(WorkKind, &str, u64); 6] = [
     (WorkKind::Board, "board workers 2\n2 put 5\n", 2),
     (
@@ -64,15 +64,17 @@ pub(crate) fn loaded(counts: &Eight) -> [u64; 8] {
     all
 }
 
-/// A gate that counts the questions of each worker. It refuses `slow` before each job until the `opens_at`-th question.
+/// A gate that counts the questions of each worker. It refuses each job of the worker `slow` until the worker asks for
+/// the `opens_at`-th time.
 #[derive(Drop)]
 pub(crate) struct Counts {
     slow: u64,
     opens_at: u64,
-    /// How often `slow` has asked for the same job.
+    /// How many times `slow` has asked for the same job.
     again: AtomicU64,
     pub(crate) asked: Eight,
-    /// The number of each worker's next job, and how many questions were for neither that job nor the one before.
+    /// The number of each worker's next job. `jumps` counts the questions that were neither for this job nor for the
+    /// one before.
     pub(crate) next: Eight,
     jumps: AtomicU64,
     begun: Begun,
@@ -91,7 +93,7 @@ impl Counts {
         }
     }
 
-    /// How often the gate was told that work begins, of how many jobs, and `jumps`.
+    /// Returns how many times the gate was told that work begins, the number of jobs that it was told, and `jumps`.
     pub(crate) fn told(&self) -> [u64; 3] {
         let jumps = self.jumps.load(Ordering::SeqCst);
         [self.begun.times(), self.begun.jobs(), jumps]
@@ -126,7 +128,7 @@ impl Gate for Counts {
     }
 }
 
-/// Work of 1,500 jobs, which eight workers share: two of each 16 a worker, of which the first is `first` and the other `second`.
+/// Returns a script of 1,500 jobs for eight workers, who take turns. Each worker does `first` and `second` alternately.
 fn many_jobs(alloc: Global, head: &str, first: &str, second: &str) -> Result<String, Fail> {
     let mut script = head.to_string(alloc)?;
     for job in 0..1_500u64 {
@@ -137,7 +139,7 @@ fn many_jobs(alloc: Global, head: &str, first: &str, second: &str) -> Result<Str
     Ok(script)
 }
 
-/// The header of work, and what its workers do in turn.
+/// The header of a script, and the two jobs that its workers do alternately.
 static MANY: [(WorkKind, &str, &str, &str); 2] = [
     (WorkKind::Board, "board workers 8\n", "put 5", "take"),
     (
@@ -148,7 +150,8 @@ static MANY: [(WorkKind, &str, &str, &str); 2] = [
     ),
 ];
 
-/// Of 1,500 jobs each worker has 187, and the first four have one more. Each asks once more behind its last job.
+/// The number of questions of each worker. Each worker has 187 of the 1,500 jobs, and each of the first four has one
+/// more. Each worker asks once more after its last job.
 const ASKED: [u64; 8] = [189, 189, 189, 189, 188, 188, 188, 188];
 
 #[test]

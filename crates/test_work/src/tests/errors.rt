@@ -125,7 +125,7 @@ fn errors_of_runs_say_their_numbers(rt: HostRuntime) {
     }
 }
 
-/// Errors of scripts, and what they say.
+/// Errors of scripts, with their messages.
 static OF_SCRIPTS: [(ScriptError, &str); 5] = [
     (ScriptError::Memory, "out of memory"),
     (ScriptError::BadLine(3), "bad line 3"),
@@ -134,7 +134,7 @@ static OF_SCRIPTS: [(ScriptError, &str); 5] = [
     (ScriptError::TooMany(100_002), "bad line 100002"),
 ];
 
-/// Errors of replays, and what they say.
+/// Errors of replays, with their messages.
 static OF_REPLAYS: [(ReplayError, &str); 5] = [
     (ReplayError::Memory, "out of memory"),
     (ReplayError::Read, "read fault"),

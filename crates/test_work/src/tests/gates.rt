@@ -49,7 +49,7 @@ fn a_report_of_work_says_who_gave_up(rt: HostRuntime) {
     expect(&rt, "a report", done.err(), Some(TaskError::Stalled(2)));
 }
 
-/// Runs the work behind a new gate, over each lock, and expects this report.
+/// Runs the work over lines of each lock, each time behind a new gate, and expects this report.
 fn expect_behind<R: Threads + Wait + Abort + Sync, G: Gate + Default + Sync + Drop>(
     rt: &R,
     alloc: Global,
@@ -65,7 +65,7 @@ fn expect_behind<R: Threads + Wait + Abort + Sync, G: Gate + Default + Sync + Dr
     Ok(())
 }
 
-/// A gate that opens when two workers wait at it at the same time.
+/// A gate that opens once two workers wait at it at the same time.
 #[derive(Drop)]
 struct Meeting {
     first: AtomicU64,
@@ -118,7 +118,8 @@ fn workers_stand_before_a_gate_at_the_same_time(rt: HostRuntime) -> Result<(), F
     expect_behind::<_, Meeting>(&rt, rt.alloc(), script, WorkKind::Bank, report)
 }
 
-/// A gate that opens for the second worker when the first has reached it, and for the first when the second has done its two jobs.
+/// A gate that opens for the second worker once the first worker has reached it, and for the first worker once the
+/// second worker has done its two jobs.
 #[derive(Drop)]
 struct InTurn {
     came: AtomicU64,
@@ -167,7 +168,7 @@ fn no_job_is_done_before_its_gate_is_passed(rt: HostRuntime) -> Result<(), Fail>
     expect_behind::<_, InTurn>(&rt, rt.alloc(), script, WorkKind::Board, report)
 }
 
-/// How often a gate was told that work begins, and of how many jobs the last time.
+/// How many times a gate was told that work begins, and the number of jobs that it was told the last time.
 #[derive(Drop)]
 pub(crate) struct Begun {
     times: AtomicU64,
@@ -196,12 +197,13 @@ impl Begun {
     }
 }
 
-/// A gate that opens at the `opens_at`-th question for a job. It counts the questions for each job number.
+/// A gate that allows a job of worker 1 when asked for the `opens_at`-th time. It counts the questions for each job
+/// number.
 #[derive(Drop)]
 struct Counting {
     opens_at: u64,
     asked: [AtomicU64; 4],
-    /// The numbers that were asked for, one digit each, 1 more than the number.
+    /// The job numbers in the order of their first question, as decimal digits. Each digit is the job number plus 1.
     numbers: AtomicU64,
     begun: Begun,
     /// How many questions came before the gate was told that work begins.
@@ -228,7 +230,7 @@ impl Counting {
         self.asked[at % 4].load(Ordering::SeqCst)
     }
 
-    /// The questions for the first three job numbers.
+    /// Returns how many questions were asked for each of the first three job numbers.
     fn asks(&self) -> [u64; 3] {
         [self.asks_for(0), self.asks_for(1), self.asks_for(2)]
     }
@@ -237,7 +239,7 @@ impl Counting {
         self.numbers.load(Ordering::SeqCst)
     }
 
-    /// How often the gate was told that work begins, of how many jobs, and `early`.
+    /// Returns how many times the gate was told that work begins, the number of jobs that it was told, and `early`.
     fn told(&self) -> [u64; 3] {
         let early = self.early.load(Ordering::SeqCst);
         [self.begun.times(), self.begun.jobs(), early]
@@ -270,7 +272,7 @@ impl Gate for Counting {
     }
 }
 
-/// Scripts of three jobs, two of them by the first of two workers.
+/// Scripts of three jobs. Two of the jobs belong to the first of two workers.
 static OF_THREE: [(WorkKind, &str); 2] = [
     (
         WorkKind::Board,

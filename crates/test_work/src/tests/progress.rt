@@ -13,13 +13,13 @@ use std::test::Fail;
 use std::thread::{Threads, yield_now};
 use std::time::Duration;
 
-/// A clock whose second is set, and a standard error that expects these lines in this order.
+/// A clock whose time is set by the test, and a standard error that expects the given lines in the given order.
 #[derive(Drop)]
 struct Console<'a> {
     alloc: Global,
     second: AtomicU64,
     expected: &'a [&'a str],
-    /// The expected lines that were written, and the others.
+    /// The number of expected lines that were written. `others` is the number of all other lines.
     came: AtomicU64,
     others: AtomicU64,
 }
@@ -57,7 +57,7 @@ impl Eprint for Console<'_> {
 }
 
 impl Console<'_> {
-    /// The number of expected lines that were written, and of others.
+    /// Returns the number of expected lines that were written, and the number of other lines.
     fn lines(&self) -> (u64, u64) {
         (
             self.came.load(Ordering::SeqCst),
@@ -66,7 +66,7 @@ impl Console<'_> {
     }
 }
 
-/// A console at second 0 that expects these lines.
+/// Makes a console at second 0 that expects these lines.
 fn expecting<'a>(alloc: Global, expected: &'a [&'a str]) -> Console<'a> {
     Console {
         alloc,
@@ -77,20 +77,22 @@ fn expecting<'a>(alloc: Global, expected: &'a [&'a str]) -> Console<'a> {
     }
 }
 
-/// The number of seconds in which two workers meet, and below how often two workers start anew: on a busy machine some pairs get two
-/// processors.
+/// The number of seconds in which two workers meet. `PAIRS` says how often two new workers start, because on a busy
+/// machine only some of the pairs get two processors at the same time.
 const SECONDS: u64 = 200;
 
 const PAIRS: u32 = 30;
 
-/// The most pauses by which one worker is later than the other.
+/// One worker continues later than the other by fewer pauses than this number.
 const PAUSES: u64 = 64;
 
-/// A clock at which two workers meet: each reading waits for the other worker's, and the n-th reading of each is n seconds. Before they
-/// meet it reads 0 seconds. It counts the printed lines.
+/// A clock at which two workers meet. Each reading waits for the reading of the other worker, and the n-th reading of
+/// each worker returns n seconds. Before the workers meet, the clock reads 0 seconds. The clock also counts the printed
+/// lines.
 ///
-/// The last worker at a meeting would go on some steps before the other, which has to see it first. So it pauses, a little longer in each
-/// second, and in some seconds both go on at the same time.
+/// The worker that comes last to a meeting could continue a few steps before the other worker, which has to notice it
+/// first. Therefore the last worker pauses, a little longer in each second. In some seconds, both workers then continue
+/// at the same time.
 #[derive(Drop)]
 struct Meeting {
     meets: AtomicBool,
@@ -121,7 +123,8 @@ impl Clock for Meeting {
 }
 
 impl Meeting {
-    /// Waits until both workers have read the clock in this second: at first by spinning, to see it at once, and then by yielding.
+    /// Waits until both workers have read the clock in this second. The loop spins at first, so that it notices the
+    /// other worker at once, and yields later.
     fn wait_for_the_other(&self, second: u64) {
         for waits in 0..u64::MAX {
             if self.readings.load(Ordering::SeqCst) / 2 > second {
@@ -147,7 +150,8 @@ impl Eprint for Meeting {
     }
 }
 
-/// Asks this many times: before each job except the first, or once in each second in which the workers meet.
+/// A task that asks the gate this many times, as a worker does before each job except its first. With the clock at
+/// which two workers meet, it asks once in each second.
 #[derive(Drop)]
 struct Asking {
     times: u64,
@@ -169,8 +173,8 @@ impl<R: Wait, G: Gate> ScopedTask<R, G, u64> for Asking {
     }
 }
 
-/// The number of lines that two workers print if they meet in each second; `None` if a thread is refused, or a worker was not allowed a
-/// job.
+/// Returns the number of lines that two workers print if they meet in each second. Returns `None` if a thread was
+/// refused or if a worker was not allowed a job.
 fn said_by_two<T: Threads + Wait + Sync>(rt: &T, alloc: Global) -> Option<u64> {
     let clock = Meeting {
         meets: AtomicBool::new(false),
@@ -198,12 +202,12 @@ fn two_workers_say_each_second_once(rt: HostRuntime) -> Result<(), Fail> {
     Ok(())
 }
 
-/// A clock at which the first worker that reads it is held up until another has printed a line. That line is printed in the first second,
-/// and the worker goes on in the second one.
+/// A clock that holds up the first worker that reads it until another worker has printed a line. The line is printed in
+/// the first second, and the worker that was held up continues in the second one.
 #[derive(Drop)]
 struct HoldingUp<'a> {
     console: Console<'a>,
-    /// The readings since the start.
+    /// The number of readings since the start of the clock.
     readings: AtomicU64,
     has_begun: AtomicBool,
 }
@@ -258,10 +262,10 @@ fn a_worker_that_was_held_up_says_no_less(rt: HostRuntime) -> Result<(), Fail> {
     Ok(())
 }
 
-/// The jobs of each of four workers.
+/// The number of jobs of each of four workers.
 const JOBS: u64 = 20_000;
 
-/// Returns `Some(true)` if all questions of four workers were allowed, and `None` if a thread is refused.
+/// Returns `Some(true)` if the gate allowed every job of four workers, and `None` if a thread was refused.
 fn asked_by_four<T: Threads + Wait + Sync, G: Gate + Sync>(
     rt: &T,
     alloc: Global,
@@ -292,7 +296,8 @@ fn progress_is_said_once_a_second(rt: HostRuntime) -> Result<(), Fail> {
     let console = expecting(rt.alloc(), expected.as_slice());
     let gate = Progress::new(&console)?;
     gate.begins(5);
-    // The second, the worker, the place of the job that it asks for, and the number of lines printed after that.
+    // Each row has the second, the worker, the number of the job that the worker asks for, and the number of lines that
+    // have been printed after the question.
     let rows = [
         (0, 1, 0, 0),
         (0, 1, 1, 0),
@@ -322,7 +327,8 @@ fn progress_is_said_after_hours(rt: HostRuntime) -> Result<(), Fail> {
     let console = expecting(rt.alloc(), expected.as_slice());
     let gate = Progress::new(&console)?;
     gate.begins(9);
-    // The second, and the number of lines printed after a worker has asked for its next job: at an hour, at two hours, and at two days.
+    // Each row has the second, and the number of lines that have been printed after a worker has asked for its next
+    // job. The rows lie at one hour, just before and at two hours, and at two days.
     let rows = [(3_600, 1), (7_199, 2), (7_200, 3), (7_200, 3), (172_800, 4)];
     for (second, lines) in rows {
         console.second.store(second, Ordering::SeqCst);

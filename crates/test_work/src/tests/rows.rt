@@ -2,7 +2,7 @@
 use std::fmt::Debug;
 use std::process::Abort;
 
-/// Asserts that `found` is `wanted`; a failure prints `row`.
+/// Asserts that `found` equals `wanted`. A failure prints `row`.
 pub(crate) fn expect<R: Abort, T: PartialEq + Debug + Drop>(
     rt: &R,
     row: &str,
@@ -12,7 +12,7 @@ pub(crate) fn expect<R: Abort, T: PartialEq + Debug + Drop>(
     assert_eq!(rt; found, wanted, "{row}");
 }
 
-/// Asserts that `found` is `wanted`; a failure prints `at`.
+/// Asserts that `found` equals `wanted`. A failure prints `at`.
 pub(crate) fn expect_at<R: Abort, D: Debug, T: PartialEq + Debug + Drop>(
     rt: &R,
     at: &D,

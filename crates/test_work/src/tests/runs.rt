@@ -12,7 +12,7 @@ use std::sync::Wait;
 use std::sync::atomic::{AtomicU64, Ordering};
 use std::test::Fail;
 
-/// Acquires a new line of one node, closes it, and asks again. Returns both answers.
+/// Opens a line of one node, acquires it, closes it, and acquires it again. Returns both answers.
 fn acquired_and_closed<R: Wait, L: OpenLine<Free> + Drop>(
     rt: &R,
     alloc: Global,
@@ -43,7 +43,7 @@ fn a_line_is_acquired_until_it_is_closed(rt: HostRuntime) {
     expect(&rt, "acquired twice", found, wanted);
 }
 
-/// A gate that refuses the first question and allows the others; it defines `may` alone.
+/// A gate that refuses the first question and allows all others. It defines only `may`.
 #[derive(Drop)]
 struct Once {
     asked: AtomicU64,

@@ -13,7 +13,7 @@ use std::test::Fail;
 use std::thread::Threads;
 use test_support::{GRAIN, MemoryLimit};
 
-/// Does this work in a room of `bytes` bytes.
+/// Does this work while only `bytes` bytes of memory are free.
 fn worked_in<T: Threads + Wait + Sync, G: Gate + Sync>(
     rt: &T,
     alloc: Global,
@@ -29,7 +29,7 @@ fn worked_in<T: Threads + Wait + Sync, G: Gate + Sync>(
     Ok(found)
 }
 
-/// Work of two workers with two jobs each, and its report.
+/// Work of two workers, who have two jobs each, with the expected report.
 static OF_TWO: [(WorkKind, &str, Report); 2] = [
     (
         WorkKind::Board,
@@ -53,15 +53,16 @@ static OF_TWO: [(WorkKind, &str, Report); 2] = [
     ),
 ];
 
-/// Rooms, in bytes: the first, a bound that no room reaches, and the step from one room to the next. The first rooms grow by the heap's grain,
-/// so each allocation is refused once; the last have place for the stacks of threads.
+/// Amounts of free memory, in bytes: the first amount, a bound that is never reached, and the step from one amount to
+/// the next. The first row grows in steps of the heap's grain, so that each allocation is refused once. The last row
+/// has enough memory for the stacks of the threads.
 static ROOMS: [(usize, usize, usize); 2] = [
     (2 * GRAIN, 1 << 16, GRAIN),
     (1 << 20, 1 << 26, 1 << 18),
 ];
 
-/// Returns how many workers have begun. Expects that these are the first, that each has done each of its two jobs once, and that the gate was
-/// told once of the four jobs.
+/// Returns how many workers have begun. Expects that the first workers are the ones that have begun, that each of them
+/// has done each of its two jobs once, and that the gate was told once that there are four jobs.
 fn expect_whole<R: Abort, D: Debug>(rt: &R, at: &D, gate: &Counts) -> usize {
     let asked = loaded(&gate.asked);
     let mut begun = 0usize;
@@ -77,14 +78,14 @@ fn expect_whole<R: Abort, D: Debug>(rt: &R, at: &D, gate: &Counts) -> usize {
     begun
 }
 
-/// How many rooms were too small, and how many of these had room for the first of two workers alone.
+/// How many amounts of memory were too small, and how many of these were enough for the first of two workers alone.
 #[derive(Clone, Copy, Debug, PartialEq, Eq)]
 struct TooSmall {
     rooms: u32,
     half_done: u32,
 }
 
-/// Does this work in rooms that grow, until one is large enough.
+/// Does this work with more and more free memory, until the memory is enough. Returns how often it was not enough.
 fn refusals_of<T: Threads + Wait + Sync + Abort>(
     rt: &T,
     alloc: Global,

@@ -11,10 +11,11 @@ use std::sync::Wait;
 use std::test::Fail;
 use std::thread::Threads;
 
-/// The ways in which workers wait.
+/// The ways in which workers can wait.
 pub(crate) static EITHER: [WaitMode; 2] = [WaitMode::Awake, WaitMode::Asleep];
 
-/// Expects this outcome of the script's workers behind the gate, over lines of each kind, awake and asleep.
+/// Expects this outcome of the script behind the gate, over lines of each kind, with workers that poll and with workers
+/// that sleep.
 pub(crate) fn expect_work<R: Threads + Wait + Abort + Sync, G: Gate + Sync>(
     rt: &R,
     alloc: Global,
@@ -33,7 +34,7 @@ pub(crate) fn expect_work<R: Threads + Wait + Abort + Sync, G: Gate + Sync>(
     Ok(())
 }
 
-/// The test of `--version` says which names there are.
+/// The names themselves are checked by the test of `--version`.
 #[test]
 fn each_name_is_that_of_the_lock_at_its_place(rt: HostRuntime) -> Result<(), Fail> {
     for (lock, name) in ALL.iter().zip(NAMES.iter()) {
@@ -42,10 +43,10 @@ fn each_name_is_that_of_the_lock_at_its_place(rt: HostRuntime) -> Result<(), Fai
     Ok(())
 }
 
-/// A script with the report of its workers.
+/// The kind of a script, the script, and its expected report.
 type Row = (WorkKind, &'static str, Report);
 
-/// Scripts of one worker.
+/// Scripts with one worker.
 static OF_ONE: [Row; 4] = [
     (
         WorkKind::Board,
@@ -58,7 +59,7 @@ static OF_ONE: [Row; 4] = [
             left: 0,
         },
     ),
-    // a full board
+    // A board that becomes full.
     (
         WorkKind::Board,
         "board workers 1\n1 put 3\n1 put 3\n1 put 3\n1 put 3\n1 put 3\n1 put 3\n1 put 3\n1 put 3\n",
@@ -79,8 +80,9 @@ static OF_ONE: [Row; 4] = [
             total: 9,
         },
     ),
-    // 10 into account 0; 4 from there to account 9; 5 from account 0 to itself; 9 out of account 9, which has 4; 1 out of it; 2^48 into account 0,
-    // which has 6; 6 from account 0 to 1, and out of it
+    // The jobs, in order: pay 10 into account 0; move 4 from account 0 to account 9; move 5 from account 0 to itself;
+    // pay 9 out of account 9, which has only 4; pay 1 out of account 9; pay 2^48 into account 0, which has 6; move 6
+    // from account 0 to account 1; pay 6 out of account 1.
     (
         WorkKind::Bank,
         "bank workers 1 lines 2\n1 in 0 10\n1 move 0 9 4\n1 move 0 0 5\n1 out 9 9\n1 out 9 1\n1 in 0 281474976710656\n1 move 0 1 6\n1 out 1 6\n",
@@ -100,9 +102,9 @@ fn one_worker_does_its_jobs(rt: HostRuntime) -> Result<(), Fail> {
     Ok(())
 }
 
-/// Scripts of two workers whose report is the same in any order of jobs.
+/// Scripts with two workers whose report is the same in any order of the jobs.
 static OF_TWO: [Row; 2] = [
-    // a late put does not find the board full
+    // No put finds the board full, even if it comes last.
     (
         WorkKind::Board,
         "board workers 2\n1 put 1\n1 put 2\n1 put 3\n2 put 4\n2 put 5\n2 put 6\n2 put 7\n",
@@ -114,8 +116,9 @@ static OF_TWO: [Row; 2] = [
             left: 7,
         },
     ),
-    // payments that fit after any of the moves are all made: into account 0 2^48 - 110, 60 and 10, 20 of it to account 8, and 10 into
-    // account 9 and from there to account 0; 2^48 - 30 are paid in, and with the moves 2^48
+    // Payments in are all done if they fit, whichever moves come before them. Account 0 receives payments of
+    // 2^48 - 110, 60 and 10, and 20 is moved from it to account 8. Account 9 receives a payment of 10, which is moved
+    // to account 0. The payments in come to 2^48 - 30, and together with the moves to 2^48.
     (
         WorkKind::Bank,
         "bank workers 2 lines 2\n1 in 0 281474976710546\n2 in 0 60\n2 in 9 10\n2 move 0 8 20\n1 move 9 0 10\n1 in 0 10\n",
@@ -137,8 +140,8 @@ fn two_workers_do_theirs_in_any_order(rt: HostRuntime) -> Result<(), Fail> {
     Ok(())
 }
 
-/// Runs a bank with `workers` workers and `accounts` accounts, eight to a line. Each worker pays in 1 `times` times, into one account after
-/// another, in all `paid`.
+/// Runs a bank with `workers` workers and `accounts` accounts, of which each line holds eight. Each worker pays in 1
+/// `times` times, each time into the next account. All payments together come to `paid`.
 fn expect_payments<R: Threads + Wait + Abort + Sync>(
     rt: &R,
     alloc: Global,

@@ -3,7 +3,7 @@ use Rattle.std.proofs.lemmas.List.{map-append}
 use Rattle.std.specs.Vec.Iter.{into_iter_items}
 use Rattle.qolb_work.proofs.bank.all_asleep.Goals as goal
 
--- one of the lines that are left is wrapped
+-- wraps one of the lines that are left
 one_more :
     {X Y : Type 0} (f : X → Y) (all all_then : List X) (x : X) (y : Y) (left left_then opened : List Y)
     → all_then ≡ all ++ x ∷ [] → f x ≡ y → left ≡ y ∷ left_then → map f all ++ left ≡ opened → map f all_then ++ left_then ≡ opened
