@@ -53,9 +53,9 @@ def memory():
 
 # How long a waiter spins: the name in the table, and the knob and its value in waiting.tsv.
 SPINS = (
-    ("50 us near the turn, 2 us far from it", "spin near the turn, far from it, us", "50, 2"),
-    ("**learned, 10 us at least after a sleep**", "qolb_acquire", "as it is"),
-    ("Rattle's lines: 3 us and 32 yields", "spin, us; then yields", "3; 32"),
+    ("fixed limits", "spin near the turn, far from it, us", "50, 2"),
+    ("**learned limit**", "qolb_acquire", "as it is"),
+    ("lines in Rattle", "spin, us; then yields", "3; 32"),
 )
 
 
@@ -68,7 +68,7 @@ def of_knob(state, knob, value, threads):
 def spins():
     """Ratios to MCS's time with each way to spin, on a quiet machine and on a loaded one."""
     rows = [[title, of_knob("quiet", knob, value, "4 8 32"), of_knob("loaded", knob, value, "4 8")] for title, knob, value in SPINS]
-    return table(["Spin", "Quiet: 4, 8, 32 threads", "Loaded: 4, 8"], rows)
+    return table(["Spin", "Quiet: 4, 8, 32", "Loaded: 4, 8"], rows)
 
 
 # ---- c/bench/peers: our locks beside those that people use ----
