@@ -53,22 +53,22 @@ def memory():
 
 # How long a waiter spins: the name in the table, and the knob and its value in waiting.tsv.
 SPINS = (
-    ("50 us near the turn, 2 us far from it", "spin near the turn, far from it, us", "50, 2"),
-    ("**learned, 10 us at least after a sleep**", "qolb_acquire", "as it is"),
-    ("Rattle's lines: 3 us and 32 yields", "spin, us; then yields", "3; 32"),
+    ("fixed limits", "spin near the turn, far from it, us", "50, 2"),
+    ("**learned limit**", "qolb_acquire", "as it is"),
+    ("lines in Rattle", "spin, us; then yields", "3; 32"),
 )
 
 
 def of_knob(state, knob, value, threads):
     """The ratios to MCS's time with critical sections of 10 us, with these numbers of threads, of a knob that was tried."""
     found = {row["threads"]: row["of_mcs"].removeprefix("0") for row in rows_of("waiting.tsv") if (row["state"], row["knob"], row["value"], row["turn_us"]) == (state, knob, value, "10")}
-    return ", ".join(found[count] for count in threads.split())
+    return [found[count] for count in threads.split()]
 
 
 def spins():
     """Ratios to MCS's time with each way to spin, on a quiet machine and on a loaded one."""
-    rows = [[title, of_knob("quiet", knob, value, "4 8 32"), of_knob("loaded", knob, value, "4 8")] for title, knob, value in SPINS]
-    return table(["Spin", "Quiet: 4, 8, 32 threads", "Loaded: 4, 8"], rows)
+    rows = [[title, *of_knob("quiet", knob, value, "4 8 32"), *of_knob("loaded", knob, value, "4 8")] for title, knob, value in SPINS]
+    return table(["Spin", "4 threads", "8 threads", "32 threads", "4 threads, loaded", "8 threads, loaded"], rows)
 
 
 # ---- c/bench/peers: our locks beside those that people use ----
