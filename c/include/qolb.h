@@ -163,8 +163,8 @@
  *     QOLB_LOCK_INIT_BARGING(limit)   barging   2-65,535     320
  *     QOLB_COND_INIT                  strict                   8
  *
- * A lock or a condition whose bytes are all zero is initialised, and such a lock is strict. Therefore memory from
- * calloc needs no initialiser.
+ * A lock or a condition whose bytes are all zero is initialised, and such a lock is strict. Therefore a lock in memory
+ * from calloc needs no initialiser.
  *
  * EXAMPLE
  *
@@ -212,10 +212,10 @@
  * threads, including those by qolb_lock_try and those at the end of a wait on a condition.
  *
  * Usually barging threads overtake a waiting thread less often than the barging limit allows, because the first waiter
- * requests a handoff. The first waiter requests a handoff once a barging thread has overtaken it and it has found the
- * lock taken for 2 us, or 1 ms after it fell asleep. After this request, the next thread that leaves the lock hands the
- * lock over to the first waiter. A barging limit above 65,535 counts as 65,535. A lock with a limit of 0 or 1 is
- * strict.
+ * requests a handoff. The first waiter requests a handoff once a barging thread has overtaken it and the waiter has
+ * found the lock taken for 2 us. A sleeping first waiter requests a handoff 1 ms after it fell asleep. After this
+ * request, the next thread that leaves the lock hands the lock over to the first waiter. A barging limit above 65,535
+ * counts as 65,535. A lock with a limit of 0 or 1 is strict.
  *
  * Use a barging lock with a limit of 1,024 where you would use a mutex. Use a strict lock if threads must be served in
  * the order in which they asked, or if the longest wait matters more than throughput.
@@ -228,24 +228,24 @@
  *
  * A thread that times out abandons its ticket, but the ticket still counts as an open request until a holder skips it.
  * If more than 60 requests are ahead of the ticket of a thread that times out, the thread allocates memory in order to
- * abandon the ticket. If this memory cannot be allocated, the thread continues to wait until fewer requests are ahead
+ * abandon the ticket. A timed-out thread that cannot allocate memory continues to wait until fewer requests are ahead
  * of its ticket. While a lock has more than about 12,280 open requests, a call with a timeout draws no ticket, so other
  * threads may overtake the calling thread. A call that enters a barging lock polls for 10 us before it joins the queue.
- * A call whose timeout expires within these 10 us has kept no place in the queue.
+ * A call whose timeout expires before it joins the queue has kept no place in the queue.
  *
  * FORK
  *
  * A lock belongs to one process, and so does a line (qolb_node(3)). After a fork, parent and child have separate copies
- * of each lock and line, and these copies protect nothing that the two processes share. If the parent had only one
- * thread, the child may continue to use its copies.
+ * of each lock and line, and these copies protect nothing that the two processes share. The forked child of a process
+ * with one thread may continue to use its copies of the locks and lines.
  *
  * WAITING
  *
  * A thread that has drawn a ticket polls before it sleeps. The first thread in the queue polls the lock every 90 ns. A
  * thread farther back in the queue pauses longer between two polls: 150 ns longer for each waiter ahead of it. Once a
- * thread has seen how long the lock takes to go from one thread to the next, it replaces the 150 ns by three quarters
- * of that time, but by at most 500 ns. How long a thread polls before it sleeps depends on the number of threads ahead
- * of it, and on the number of processors that the process may use:
+ * thread has seen how long the lock takes to go from one thread to the next, it pauses for three quarters of that time
+ * per waiter ahead of it instead of 150 ns, but for at most 500 ns per waiter. How long a thread polls before it sleeps
+ * depends on the number of threads ahead of it, and on the number of processors that the process may use:
  *
  * - With fewer threads ahead of it than there are processors, a thread polls for 50 us, or for 1 us per thread ahead if
  *   that is longer.
@@ -262,13 +262,13 @@
  * use only one processor when one of its threads first waited, every waiting thread sleeps at once. A thread that is
  * woken before its turn yields the processor once.
  *
- * A thread that finds a barging lock taken looks at the lock six more times within 10 us. The first of these six looks
- * comes after 200 ns, and the pauses between them double until they last 4 us. The thread yields the processor before
- * each of the six looks except the first. A call whose timeout has expired does not spin, and qolb_lock_try never
- * spins.
+ * A thread that finds a barging lock taken looks at the lock six more times within 10 us. The first pause before such a
+ * look lasts 200 ns, and each further pause is twice as long as the one before, up to 4 us. The thread yields the
+ * processor before each of the six looks except the first. A call whose timeout has expired does not spin, and
+ * qolb_lock_try never spins.
  *
  * If other programs compete for the processors, a yield can take as long as a time slice. After several yields that
- * took a millisecond each, no thread of the process yields for a quarter of a second.
+ * took a millisecond each, no thread of the process yields during the next quarter of a second.
  *
  * A thread that leaves a strict lock wakes the next holder, and a thread that leaves a barging lock wakes the first
  * waiter. If the leaving thread had to sleep before it was granted the lock, it may also wake the second waiter. A
@@ -326,11 +326,11 @@
  *   plugins and does not always get this room back.
  *
  * A call that the lock does not allow returns QOLB_MISUSE and changes nothing, unless the call breaks one of the rules
- * above.
+ * for callers.
  *
  * The next holder of a lock sees everything that a thread wrote before that thread left the lock. A thread whose call
- * returns QOLB_CLOSED also sees what earlier holders wrote before they left the lock. Align data that many threads
- * change to a multiple of 64 bytes, because data directly behind a lock may share the lock's last cache line.
+ * returns QOLB_CLOSED also sees what earlier holders of the lock wrote before they left it. Align data that many
+ * threads change to a multiple of 64 bytes, because data directly behind a lock may share the lock's last cache line.
  *
  * ==== qolb_node(3): nodes, which share the 64 bytes of a line ====
  *
@@ -887,8 +887,8 @@ uint32_t qolb_state(qolb_node *node);
 
 /* clang-format off */
 
-/* A qolb_lock is a lock. QOLB_LOCK_INIT initialises a strict lock, and QOLB_LOCK_INIT_BARGING initialises a barging
- * lock with the given limit. A program must not read or change the contents of a lock. */
+/* A lock is a variable of type qolb_lock. QOLB_LOCK_INIT initialises a strict lock, and QOLB_LOCK_INIT_BARGING(limit)
+ * initialises a barging lock with this limit. A program must not read or change the contents of a lock. */
 typedef struct __attribute__((aligned(16))) qolb_lock {
     void *own;
     uint64_t limit, more[38];
@@ -896,9 +896,9 @@ typedef struct __attribute__((aligned(16))) qolb_lock {
 #define QOLB_LOCK_INIT {QOLB_NULL_, 0, {0}}
 #define QOLB_LOCK_INIT_BARGING(limit) {QOLB_NULL_, QOLB_AS_(uint64_t, limit), {0}}
 
-/* A qolb_cond is a condition variable, called a condition on this page, and QOLB_COND_INIT initialises it. A thread
- * that holds a lock can wait on a condition until another thread signals the condition. A condition may be used with
- * several locks, and does not have to be destroyed. */
+/* A condition is a condition variable of type qolb_cond, and QOLB_COND_INIT initialises it. A thread that holds a lock
+ * can wait on a condition until another thread signals the condition. A condition may be used with several locks, and
+ * does not have to be destroyed. */
 typedef struct qolb_cond {
     void *own;
 } qolb_cond;
@@ -960,9 +960,9 @@ enum qolb_result qolb_lock_enter_within(qolb_lock *lock, uint64_t nanoseconds) Q
  * - QOLB_MISUSE: The calling thread already holds the lock, so the call returns at once. */
 enum qolb_result qolb_lock_enter_until(qolb_lock *lock, uint64_t time) QOLB_LOOK;
 
-/* Leaves the lock. A strict lock then goes to the first waiter, and a barging lock becomes free.
+/* Leaves the lock. When its holder leaves, a strict lock goes to the first waiter, and a barging lock becomes free.
  *
- * The call does not wait for a turn in the queue, but it may notify tasks that wait for the lock (see qolb_task(3)).
+ * The call does not wait in the queue, but it may notify tasks that wait for the lock (see qolb_task(3)).
  *
  * Returns:
  * - QOLB_DONE: The calling thread has left the lock.
@@ -972,8 +972,8 @@ enum qolb_result qolb_lock_leave(qolb_lock *lock);
 /* Leaves the lock and shuts it, which takes the lock out of service.
  *
  * All threads and tasks that wait for the lock, all threads that wait on a condition with this lock, and all later
- * callers are told that the lock is shut. A call that begins after the shut learns at once that the lock is shut. A
- * thread or task that waits for the lock learns of the shut only after the waiter ahead of it has polled. Until the
+ * callers are told that the lock is shut. A thread that tries to enter a shut lock is told at once that the lock is
+ * shut. A waiting thread or task is told that the lock is shut only after the waiter ahead of it has polled. Until the
  * last waiter has polled, qolb_lock_is_held may return 1, although no thread will hold the lock again.
  *
  * Returns:
@@ -983,8 +983,8 @@ enum qolb_result qolb_lock_shut(qolb_lock *lock);
 
 /* Destroys the lock, so that its memory may be freed.
  *
- * A destroyed lock is in the state that its initialiser gave it. The next use of a destroyed lock opens it with the
- * same barging limit, and then the lock is not shut. The last thread that was granted the lock may destroy it after
+ * A destroyed lock is in the state that its initialiser gave it. The next use of a destroyed lock opens it again with
+ * the same barging limit, and the lock is then not shut. The last thread that was granted the lock may destroy it after
  * leaving, even if another thread is still in the call by which it left the lock.
  *
  * Returns:
@@ -1000,16 +1000,16 @@ int qolb_lock_is_mine(const qolb_lock *lock);
 
 /* Checks whether a thread or a task holds the lock, or is about to hold it.
  *
- * The call only reads the lock and does not try to enter it. Therefore the answer may already be out of date when the
- * call returns.
+ * qolb_lock_is_held only reads the lock and does not try to enter it. Therefore the answer may already be out of date
+ * when the call returns.
  *
  * Returns 1 if a thread or a task holds the lock or is about to hold it, and 0 otherwise. */
 int qolb_lock_is_held(const qolb_lock *lock);
 
 /* Leaves the lock, waits on the condition until it is signalled, and enters the lock again.
  *
- * No signal is missed that is sent after the call has left the lock. Call qolb_cond_wait in a loop that checks what the
- * thread waits for, because another thread may enter the lock before the woken thread does.
+ * The waiting thread misses no signal that is sent after the call has left the lock. Call qolb_cond_wait in a loop that
+ * checks what the thread waits for, because another thread may enter the lock before the woken thread does.
  *
  * Returns:
  * - QOLB_GRANTED: The condition was signalled, and the calling thread holds the lock.
@@ -1019,8 +1019,8 @@ enum qolb_result qolb_cond_wait(qolb_cond *cond, qolb_lock *lock) QOLB_LOOK;
 
 /* Waits on the condition like qolb_cond_wait, but for at most `nanoseconds`.
  *
- * The timeout limits only the wait for a signal. After that wait, the thread enters the lock again, however long it has
- * to wait for the lock.
+ * The timeout of qolb_cond_wait_within limits only the wait for a signal. After the wait for a signal, the thread
+ * enters the lock again, however long it has to wait for the lock.
  *
  * Returns:
  * - QOLB_GRANTED: The condition was signalled, and the calling thread holds the lock.
@@ -1035,7 +1035,7 @@ enum qolb_result qolb_cond_wait_within(qolb_cond *cond, qolb_lock *lock, uint64_
  * - QOLB_DONE: A thread was woken, or no thread was waiting. */
 enum qolb_result qolb_cond_signal(qolb_cond *cond);
 
-/* Wakes all threads that wait on the condition. A thread may call this function without holding a lock.
+/* Wakes all threads that wait on the condition. A thread may call qolb_cond_broadcast without holding a lock.
  *
  * Returns:
  * - QOLB_DONE: All waiting threads were woken, or no thread was waiting. */
