@@ -213,9 +213,9 @@
  *
  * Usually barging threads overtake a waiting thread less often than the barging limit allows, because the first waiter
  * requests a handoff. The first waiter requests a handoff once a barging thread has overtaken it and the waiter has
- * found the lock taken for 2 us. A sleeping first waiter requests a handoff 1 ms after it fell asleep. After this
- * request, the next thread that leaves the lock hands the lock over to the first waiter. A barging limit above 65,535
- * counts as 65,535. A lock with a limit of 0 or 1 is strict.
+ * found the lock taken for 2 us. A sleeping first waiter requests a handoff 1 ms after it fell asleep. After a request
+ * for a handoff, the next thread that leaves the lock hands the lock over to the first waiter. A barging limit above
+ * 65,535 counts as 65,535. A lock with a barging limit of 0 or 1 is strict.
  *
  * Use a barging lock with a limit of 1,024 where you would use a mutex. Use a strict lock if threads must be served in
  * the order in which they asked, or if the longest wait matters more than throughput.
@@ -230,8 +230,8 @@
  * If more than 60 requests are ahead of the ticket of a thread that times out, the thread allocates memory in order to
  * abandon the ticket. A timed-out thread that cannot allocate memory continues to wait until fewer requests are ahead
  * of its ticket. While a lock has more than about 12,280 open requests, a call with a timeout draws no ticket, so other
- * threads may overtake the calling thread. A call that enters a barging lock polls for 10 us before it joins the queue.
- * A call whose timeout expires before it joins the queue has kept no place in the queue.
+ * threads may overtake the calling thread. A call that enters a barging lock polls for 10 us before it joins the queue,
+ * so a call that times out within these 10 us has kept no place in the queue.
  *
  * FORK
  *
@@ -243,15 +243,15 @@
  *
  * A thread that has drawn a ticket polls before it sleeps. The first thread in the queue polls the lock every 90 ns. A
  * thread farther back in the queue pauses longer between two polls: 150 ns longer for each waiter ahead of it. Once a
- * thread has seen how long the lock takes to go from one thread to the next, it pauses for three quarters of that time
- * per waiter ahead of it instead of 150 ns, but for at most 500 ns per waiter. How long a thread polls before it sleeps
- * depends on the number of threads ahead of it, and on the number of processors that the process may use:
+ * thread has seen how long a handoff takes, the pause per waiter is three quarters of this time instead of 150 ns, but
+ * at most 500 ns. How long a thread polls before it sleeps depends on the number of threads ahead of it, and on the
+ * number of processors that the process may use:
  *
- * - With fewer threads ahead of it than there are processors, a thread polls for 50 us, or for 1 us per thread ahead if
- *   that is longer.
- * - With at least as many threads ahead of it as there are processors, but fewer than twice as many, a thread polls for
- *   50 us in a strict lock, and for 2 us in the queue of a barging lock.
- * - With at least twice as many threads ahead of it as there are processors, a thread polls for 2 us.
+ * - A thread with fewer threads ahead of it than there are processors polls for 50 us or for 1 us per thread ahead of
+ *   it, whichever is longer.
+ * - If the number of threads ahead is at least the number of processors, but less than twice that number, a thread
+ *   polls for 50 us in a strict lock, and for 2 us in the queue of a barging lock.
+ * - A thread with at least twice as many threads ahead of it as there are processors polls for 2 us.
  *
  * A waiter of a strict lock may yield the processor before each poll instead of pausing. A waiter yields once it has
  * seen as many threads ahead of it as there are processors, and only while fewer than twice that number are ahead of
@@ -262,10 +262,10 @@
  * use only one processor when one of its threads first waited, every waiting thread sleeps at once. A thread that is
  * woken before its turn yields the processor once.
  *
- * A thread that finds a barging lock taken looks at the lock six more times within 10 us. The first pause before such a
- * look lasts 200 ns, and each further pause is twice as long as the one before, up to 4 us. The thread yields the
- * processor before each of the six looks except the first. A call whose timeout has expired does not spin, and
- * qolb_lock_try never spins.
+ * A thread that finds a barging lock taken looks at the lock six more times within 10 us. The spinning thread pauses
+ * for 200 ns before the first look, and each further pause is twice as long as the one before, up to 4 us. The spinning
+ * thread yields the processor before each look at the lock except the first. A call whose timeout has expired does not
+ * spin, and qolb_lock_try never spins.
  *
  * If other programs compete for the processors, a yield can take as long as a time slice. After several yields that
  * took a millisecond each, no thread of the process yields during the next quarter of a second.
@@ -297,12 +297,12 @@
  * - A wait on a condition has no spurious wake-ups.
  *
  * In qolb.hpp, a qolb::lock differs from a std::timed_mutex, and a qolb::Condition differs from a
- * std::condition_variable:
+ * std::condition_variable, in the following way:
  *
  * - A qolb::lock throws qolb::Closed once it has been shut, and qolb::Deadlock if the calling thread already holds it.
  *
  * In the Rust crate, a qolb::Mutex differs from a std::sync::Mutex, and a qolb::Condition differs from a
- * std::sync::Condvar:
+ * std::sync::Condvar, in the following ways:
  *
  * - A qolb::Mutex is never poisoned. The method lock() of a qolb::Mutex may fail with Stopped::Closed or
  *   Stopped::Misuse.
@@ -896,9 +896,9 @@ typedef struct __attribute__((aligned(16))) qolb_lock {
 #define QOLB_LOCK_INIT {QOLB_NULL_, 0, {0}}
 #define QOLB_LOCK_INIT_BARGING(limit) {QOLB_NULL_, QOLB_AS_(uint64_t, limit), {0}}
 
-/* A condition is a condition variable of type qolb_cond, and QOLB_COND_INIT initialises it. A thread that holds a lock
- * can wait on a condition until another thread signals the condition. A condition may be used with several locks, and
- * does not have to be destroyed. */
+/* A condition is a variable of type qolb_cond, which QOLB_COND_INIT initialises. A thread that holds a lock can wait on
+ * a condition until another thread signals the condition. A condition may be used with several locks, and does not have
+ * to be destroyed. */
 typedef struct qolb_cond {
     void *own;
 } qolb_cond;
