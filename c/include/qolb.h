@@ -206,10 +206,10 @@
  * to the next thread that tries to take it, which may be a newly arrived thread without a ticket. A thread that takes
  * the lock without a ticket is called a barging thread. A thread that finds a barging lock taken first spins for a few
  * microseconds, and during that time it may still take the lock without a ticket. If the thread does not get the lock
- * while it spins, it draws a ticket and waits. The waiting threads are served in the order of their tickets. If a
- * thread draws a ticket while p requests are ahead of it, barging threads overtake the thread at most (p + 1) * (limit
- * - 1) times, where `limit` is the lock's barging limit. This bound on overtaking counts all acquisitions by barging
- * threads, including those by qolb_lock_try and those at the end of a wait on a condition.
+ * while it spins, it draws a ticket and waits. Threads that wait with a ticket are served in the order of their
+ * tickets. After a thread has drawn a ticket with p requests ahead of it, barging threads overtake the thread at most
+ * (p+1)*(limit-1) times, where `limit` is the lock's barging limit. This bound on overtaking counts all acquisitions by
+ * barging threads, including those by qolb_lock_try and those at the end of a wait on a condition.
  *
  * Usually barging threads overtake a waiting thread less often than the barging limit allows, because the first waiter
  * requests a handoff. The first waiter requests a handoff once a barging thread has overtaken it and the waiter has
