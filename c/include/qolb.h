@@ -263,9 +263,9 @@
  * woken before its turn yields the processor once.
  *
  * A thread that finds a barging lock taken looks at the lock six more times within 10 us. The spinning thread pauses
- * for 200 ns before the first look, and each further pause is twice as long as the one before, up to 4 us. The spinning
- * thread yields the processor before each look at the lock except the first. A call whose timeout has expired does not
- * spin, and qolb_lock_try never spins.
+ * for 200 ns before the first look at the lock, and each further pause is twice as long as the one before, up to 4 us.
+ * The spinning thread yields the processor before each of its looks at the lock except the first. A call whose timeout
+ * has expired does not spin, and qolb_lock_try never spins.
  *
  * If other programs compete for the processors, a yield can take as long as a time slice. After several yields that
  * took a millisecond each, no thread of the process yields during the next quarter of a second.
@@ -926,8 +926,8 @@ enum qolb_result qolb_lock_open(qolb_lock *lock, uint64_t limit) QOLB_LOOK;
  * - QOLB_MISUSE: The calling thread already holds the lock. */
 enum qolb_result qolb_lock_enter(qolb_lock *lock) QOLB_LOOK;
 
-/* Enters the lock if the calling thread does not have to wait for it. The call does not spin, even if another thread
- * holds the lock.
+/* Enters the lock if the calling thread does not have to wait for it. qolb_lock_try does not spin, even if another
+ * thread holds the lock.
  *
  * Returns:
  * - QOLB_GRANTED: The calling thread holds the lock.
@@ -962,7 +962,7 @@ enum qolb_result qolb_lock_enter_until(qolb_lock *lock, uint64_t time) QOLB_LOOK
 
 /* Leaves the lock. When its holder leaves, a strict lock goes to the first waiter, and a barging lock becomes free.
  *
- * The call does not wait in the queue, but it may notify tasks that wait for the lock (see qolb_task(3)).
+ * qolb_lock_leave does not wait in the queue, but it may notify tasks that wait for the lock (see qolb_task(3)).
  *
  * Returns:
  * - QOLB_DONE: The calling thread has left the lock.
@@ -984,8 +984,8 @@ enum qolb_result qolb_lock_shut(qolb_lock *lock);
 /* Destroys the lock, so that its memory may be freed.
  *
  * A destroyed lock is in the state that its initialiser gave it. The next use of a destroyed lock opens it again with
- * the same barging limit, and the lock is then not shut. The last thread that was granted the lock may destroy it after
- * leaving, even if another thread is still in the call by which it left the lock.
+ * the same barging limit, and the lock is then not shut. The last thread that was granted the lock may destroy the lock
+ * after leaving it, even if an earlier holder has not yet returned from the call by which it left.
  *
  * Returns:
  * - QOLB_DONE: The lock is destroyed, or was not open.
