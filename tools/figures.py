@@ -86,6 +86,8 @@ MEASURES = {
 }
 SOME = (1, 4, 8, 32)
 TOLD = {"E": "E: empty", "D": "D: 64 bytes", "T": "T: 1 us in, 3 us out", "L": "L: 10 us", "M": "M: mixed, 8 locks"}
+# The same in the page LOCKS, which explains the workloads above its tables.
+IN_LOCKS = TOLD | {"T": "T: 1 us"}
 
 
 BEFORE = "before: "  # how the names of our locks begin if an older library has them
@@ -131,7 +133,7 @@ def beside_peers(table_name, name=PEERS):
         best = best_of(found[key], BESIDE, is_more)[0]
         cells = [short(found[key][lock] / unit) if lock in found[key] else "-" for lock in BESIDE]
         cells = [f"**{cell}**" if found[key].get(lock) == best else cell for lock, cell in zip(BESIDE, cells)]
-        rows.append([TOLD[key[0]], str(key[1]), *cells, f"{of_theirs(found[key], is_more):.2f}"])
+        rows.append([IN_LOCKS[key[0]], str(key[1]), *cells, f"{of_theirs(found[key], is_more):.2f}"])
     return table(["Workload", "Threads", *(f"`{lock}`" if "_" in lock or ":" in lock else lock for lock in BESIDE), "ours to theirs"], rows)
 
 
@@ -144,9 +146,10 @@ def best_peers(name=PEERS):
         for measure, found in of_all.items():
             of = found.get(key, {}) if measure != "peers_fair" or key[1] > 1 else {}
             best = best_of(of, of, MEASURES[measure][2])
-            cells.append(f"{best[1]} {short(best[0] / MEASURES[measure][1])}" if best else "-")
-        rows.append([TOLD[key[0]], str(key[1]), *cells])
-    rows.sort(key=lambda row: (list(TOLD.values()).index(row[0]), int(row[1])))
+            named = best and best[1].replace("ticket lock with back-off", "back-off ticket lock")
+            cells.append(f"{named} {short(best[0] / MEASURES[measure][1])}" if best else "-")
+        rows.append([IN_LOCKS[key[0]], str(key[1]), *cells])
+    rows.sort(key=lambda row: (list(IN_LOCKS.values()).index(row[0]), int(row[1])))
     return table(["Workload", "Threads", "least time, ns", "least 99.9 %, us", "least processor time, ns", "fairest"], rows)
 
 

@@ -151,20 +151,20 @@
  *
  * A thread enters a qolb_lock, uses the data that the lock protects, and leaves the lock. The program provides the
  * memory of a lock, for example in the struct that the lock protects. The address of a lock must be a multiple of 16
- * bytes. A lock need not be freed.
+ * bytes. A program need not destroy a lock before it frees the lock's memory.
  *
- * The calls on this page do not allocate memory, with one exception: a call with a timeout allocates memory while more
- * than 60 requests are before its own. None of these calls returns QOLB_NO_MEMORY.
+ * The functions on this page do not allocate memory, with one exception: a call with a timeout allocates memory while
+ * more than 60 requests are ahead of its own request. No function on this page returns QOLB_NO_MEMORY.
  *
  * INITIALISERS
  *
- *     initialiser                     order     limit         bytes
- *     QOLB_LOCK_INIT                  strict                    320
- *     QOLB_LOCK_INIT_BARGING(limit)   barging   2 to 65,535     320
- *     QOLB_COND_INIT                  strict                      8
+ *     initialiser                     order     limit      bytes
+ *     QOLB_LOCK_INIT                  strict                 320
+ *     QOLB_LOCK_INIT_BARGING(limit)   barging   2-65,535     320
+ *     QOLB_COND_INIT                  strict                   8
  *
- * If all bytes of a lock or a condition are zero, the lock or condition is initialised, and the lock is strict.
- * Therefore memory from calloc needs no initialiser.
+ * A lock or a condition whose bytes are all zero is initialised, and such a lock is strict. Therefore a lock in memory
+ * from calloc needs no initialiser.
  *
  * EXAMPLE
  *
@@ -199,24 +199,23 @@
  *
  * ORDER AND BARGING
  *
- * A thread that enters a strict lock draws a ticket with one atomic step, and the lock serves tickets in order. No call
- * that begins after this step is served before the waiting thread.
+ * A thread that enters a strict lock draws a ticket with one atomic step, and the lock serves tickets in order. In a
+ * strict lock, no call that begins after a thread has drawn its ticket is served before that thread.
  *
- * A barging lock becomes free when its holder leaves, even if other threads wait for the lock. The next thread that
- * enters then takes the lock. A thread that takes the lock without a ticket is called a barging thread. If a thread
- * finds the lock taken, it first spins for a few microseconds, during which it may still take the lock without a
- * ticket. After that, the thread draws a ticket and waits. The waiting threads keep their order among themselves. Once
- * a thread has drawn its ticket, with p requests before its own, barging threads overtake it at most
+ * A barging lock becomes free when its holder leaves, even if other threads wait for the lock. A free barging lock goes
+ * to the next thread that tries to take it, which may be a newly arrived thread without a ticket. A thread that takes
+ * the lock without a ticket is called a barging thread. A thread that finds a barging lock taken first spins for a few
+ * microseconds, and during that time it may still take the lock without a ticket. If the thread does not get the lock
+ * while it spins, it draws a ticket and waits. Threads that wait with a ticket are served in the order of their
+ * tickets. After a thread has drawn a ticket with p requests ahead of it, barging threads overtake the thread at most
+ * (p+1)*(limit-1) times, where `limit` is the lock's barging limit. This bound on overtaking counts all acquisitions by
+ * barging threads, including those by qolb_lock_try and those at the end of a wait on a condition.
  *
- *     (p + 1) * (limit - 1)
- *
- * times, where `limit` is the lock's barging limit. This bound counts the acquisitions of all barging threads, whether
- * by a call that enters, by qolb_lock_try, or at the end of a wait on a condition.
- *
- * Usually a thread is overtaken less often, because the first waiter requests a hand-over of the lock. The first waiter
- * does so once a barging thread has overtaken it and it has found the lock taken for 2 us, or 1 ms after it fell
- * asleep. The next thread that leaves the lock then hands the lock over to the first waiter. A limit above 65,535
- * counts as 65,535. A lock with a limit of 0 or 1 is strict.
+ * Usually barging threads overtake a waiting thread less often than the barging limit allows, because the first waiter
+ * requests a handoff. The first waiter requests a handoff once a barging thread has overtaken it and the waiter has
+ * found the lock taken for 2 us. A sleeping first waiter requests a handoff 1 ms after it fell asleep. After a request
+ * for a handoff, the next thread that leaves the lock hands the lock over to the first waiter. A barging limit above
+ * 65,535 counts as 65,535. A lock with a barging limit of 0 or 1 is strict.
  *
  * Use a barging lock with a limit of 1,024 where you would use a mutex. Use a strict lock if threads must be served in
  * the order in which they asked, or if the longest wait matters more than throughput.
@@ -227,65 +226,68 @@
  * timeout. Only qolb_lock_enter_until takes an absolute time, measured on CLOCK_MONOTONIC. To bound the total time of a
  * loop of waits, pass each wait the time that remains.
  *
- * A thread that times out gives up its ticket, which still counts as an open request until a holder skips it. If more
- * than 60 requests are before this ticket, the thread allocates memory in order to give the ticket up. If the
- * allocation fails, the thread waits until fewer requests are before its ticket. While a lock has more than about
- * 12,280 open requests, a call with a timeout draws no ticket, so the thread may be overtaken. In a barging lock, a
- * call polls for 10 us before it joins the queue. If its timeout expires during that time, it has kept no place in the
- * queue.
+ * A thread that times out abandons its ticket, but the ticket still counts as an open request until a holder skips it.
+ * If more than 60 requests are ahead of the ticket of a thread that times out, the thread allocates memory in order to
+ * abandon the ticket. A timed-out thread that cannot allocate memory continues to wait until fewer requests are ahead
+ * of its ticket. While a lock has more than about 12,280 open requests, a call with a timeout draws no ticket, so other
+ * threads may overtake the calling thread. A call that enters a barging lock polls for 10 us before it joins the queue,
+ * so a call that times out within these 10 us has kept no place in the queue.
  *
  * FORK
  *
- * A lock or a line belongs to one process. After a fork, parent and child have separate copies of the lock or line, and
- * these copies protect nothing that the two processes share. The child of a process with one thread may continue to use
- * its copy.
+ * A lock belongs to one process, and so does a line (qolb_node(3)). After a fork, parent and child have separate copies
+ * of each lock and line, and these copies protect nothing that the two processes share. The forked child of a process
+ * with one thread may continue to use its copies of the locks and lines.
  *
  * WAITING
  *
- * A thread with a ticket first polls. The first thread in the queue polls every 90 ns. A thread farther back pauses
- * longer between two polls: 150 ns longer for each waiter before it. Once the thread has seen how long a hand-over
- * takes, it uses three quarters of that time in place of the 150 ns, but at most 500 ns. How long the thread polls
- * depends on the number of threads before it, and on the number of processors that the process may use:
+ * A thread that has drawn a ticket polls before it sleeps. The first thread in the queue polls the lock every 90 ns. A
+ * thread farther back in the queue pauses longer between two polls: 150 ns longer for each waiter ahead of it. Once a
+ * thread has seen how long a handoff takes, the pause per waiter is three quarters of this time instead of 150 ns, but
+ * at most 500 ns. How long a thread polls before it sleeps depends on the number of threads ahead of it, and on the
+ * number of processors that the process may use:
  *
- * - If fewer threads are before it than there are processors, the thread polls for 50 us, or for 1 us per thread before
- *   it if that is longer.
- * - If at least as many threads are before it as there are processors, but fewer than twice as many, the thread polls
- *   for 50 us in a strict lock, and for 2 us in the queue of a barging lock.
- * - If more threads are before it, the thread polls for 2 us.
+ * - A thread with fewer threads ahead of it than there are processors polls for 50 us or for 1 us per thread ahead of
+ *   it, whichever is longer.
+ * - If the number of threads ahead is at least the number of processors, but less than twice that number, a thread
+ *   polls for 50 us in a strict lock, and for 2 us in the queue of a barging lock.
+ * - A thread with at least twice as many threads ahead of it as there are processors polls for 2 us.
  *
- * A waiter of a strict lock may yield before each poll instead of pausing. The waiter does so once it has seen as many
- * threads before it as there are processors, and only while fewer than twice that number are before it. Each yield
- * counts as 500 ns of polling, so the thread yields at most a hundred times before it sleeps.
+ * A waiter of a strict lock may yield the processor before each poll instead of pausing. A waiter yields once it has
+ * seen as many threads ahead of it as there are processors, and only while fewer than twice that number are ahead of
+ * it. Each yield counts as 500 ns of polling, so a thread yields at most a hundred times before it sleeps.
  *
  * After polling, the thread sleeps on a futex until its turn has come. A thread that had to sleep polls for a shorter
- * time when it next waits. A thread that waits on a condition sleeps at once, and so does every thread of a process
- * that could use only one processor when a thread of this process first waited. A thread that is woken before its turn
- * yields once.
+ * time when it next waits. A thread that waits on a condition sleeps at once, without polling. In a process that could
+ * use only one processor when one of its threads first waited, every waiting thread sleeps at once. A thread that is
+ * woken before its turn yields the processor once.
  *
- * A thread that finds a barging lock taken looks at the lock again after 200 ns, and then after pauses that double up
- * to 4 us, in total six times within 10 us. The thread yields before each of these looks except the first. A call whose
- * timeout has expired does not spin, and qolb_lock_try never spins.
+ * A thread that finds a barging lock taken looks at the lock six more times within 10 us. The spinning thread pauses
+ * for 200 ns before the first look at the lock, and each further pause is twice as long as the one before, up to 4 us.
+ * The spinning thread yields the processor before each of its looks at the lock except the first. A call whose timeout
+ * has expired does not spin, and qolb_lock_try never spins.
  *
  * If other programs compete for the processors, a yield can take as long as a time slice. After several yields that
- * took a millisecond each, no thread of the process yields for a quarter of a second.
+ * took a millisecond each, no thread of the process yields during the next quarter of a second.
  *
  * A thread that leaves a strict lock wakes the next holder, and a thread that leaves a barging lock wakes the first
  * waiter. If the leaving thread had to sleep before it was granted the lock, it may also wake the second waiter. A
  * thread that leaves a lock makes a system call only if it may have to wake a sleeper.
  *
- * A strict lock always goes to the next thread in the queue. If this thread is not running, all threads behind it wait
- * until it runs. Therefore, if the runnable threads of all programs together outnumber the processors, short critical
- * sections may take many times as long as with a barging lock.
+ * A strict lock always goes to the next thread in the queue. If the next thread in the queue is not running, all
+ * threads behind it wait until it runs. Therefore, if the runnable threads of all programs together outnumber the
+ * processors, short critical sections may take many times as long as with a barging lock.
  *
- * No wait is a cancellation point. If a thread is cancelled while it waits, it goes on waiting until it is granted the
- * lock or times out, and then ends at its next cancellation point. A thread that may be cancelled at any instruction
- * (PTHREAD_CANCEL_ASYNCHRONOUS) must not call the library.
+ * No call that waits is a cancellation point. If a thread is cancelled while it waits, it goes on waiting until it is
+ * granted the lock or times out, and then ends at its next cancellation point. A thread that may be cancelled at any
+ * instruction (PTHREAD_CANCEL_ASYNCHRONOUS) must not call the library.
  *
  * DIFFERENCES
  *
- * A qolb_lock and a qolb_cond differ from a pthread_mutex_t and a pthread_cond_t:
+ * A qolb_lock differs from a pthread_mutex_t, and a qolb_cond differs from a pthread_cond_t, in the following ways:
  *
- * - Calls return an enum qolb_result. QOLB_GRANTED is 1 and not 0. Use qolb_ok to check whether a call succeeded.
+ * - Calls return an enum qolb_result. A call that enters a lock successfully returns QOLB_GRANTED, which is 1 and not
+ *   0. Use qolb_ok to check whether a call succeeded.
  * - A timeout is a duration, and not an absolute time, except in qolb_lock_enter_until.
  * - The compiler warns if a program ignores the result of a call that enters, opens or waits (warn_unused_result).
  * - There is no priority inheritance.
@@ -294,13 +296,16 @@
  * - A lock can be shut, which takes it out of service.
  * - A wait on a condition has no spurious wake-ups.
  *
- * In qolb.hpp, a qolb::lock and a qolb::Condition differ from a std::timed_mutex and a std::condition_variable:
+ * In qolb.hpp, a qolb::lock differs from a std::timed_mutex, and a qolb::Condition differs from a
+ * std::condition_variable, in the following way:
  *
  * - A qolb::lock throws qolb::Closed once it has been shut, and qolb::Deadlock if the calling thread already holds it.
  *
- * In the Rust crate, a qolb::Mutex and a qolb::Condition differ from a std::sync::Mutex and a std::sync::Condvar:
+ * In the Rust crate, a qolb::Mutex differs from a std::sync::Mutex, and a qolb::Condition differs from a
+ * std::sync::Condvar, in the following ways:
  *
- * - A qolb::Mutex is never poisoned. Its lock() may fail with Stopped::Closed or Stopped::Misuse.
+ * - A qolb::Mutex is never poisoned. The method lock() of a qolb::Mutex may fail with Stopped::Closed or
+ *   Stopped::Misuse.
  * - The first use of a qolb::Mutex allocates its lock on the heap, because a value in Rust may move.
  *
  * RULES FOR CALLERS
@@ -308,11 +313,11 @@
  * - Initialise a lock or a condition with an initialiser or with zeros. Do not move or copy a lock or a condition that
  *   has been used.
  * - A thread that entered a lock must leave it before the thread ends. If a thread ends while it holds a lock, the lock
- *   stays held, as a mutex does, and all other threads that enter the lock wait.
+ *   stays held, as a mutex does, and every other thread that enters the lock waits.
  * - Destroy a lock only if no thread is about to use it.
  * - Free the memory of a lock only once the lock is destroyed, or once nobody holds it, waits for it or is about to use
- *   it. You may free the memory even if a thread that left the lock has not yet returned from the call by which it left
- *   the lock.
+ *   it. You may free the memory of a lock even if a thread that has left the lock is still in the call by which it
+ *   left.
  * - Free the memory of a condition only while no thread is in a call on this condition.
  * - Do not call the library in a signal handler, or in the forked child of a process with several threads.
  * - All threads that use a lock must use the same loaded copy of the library. Do not mix a copy that is linked
@@ -320,11 +325,12 @@
  *   contains the static library should stay open, because glibc has room for the thread-local data of only two such
  *   plugins and does not always get this room back.
  *
- * If a lock does not allow a call for any other reason, the call returns QOLB_MISUSE and changes nothing.
+ * A call that the lock does not allow returns QOLB_MISUSE and changes nothing, unless the call breaks one of the rules
+ * for callers.
  *
  * The next holder of a lock sees everything that a thread wrote before that thread left the lock. A thread whose call
- * returns QOLB_CLOSED sees the same writes. Align data that many threads change to a multiple of 64 bytes, because data
- * directly behind a lock may share the lock's last cache line.
+ * returns QOLB_CLOSED also sees what earlier holders of the lock wrote before they left it. Align data that many
+ * threads change to a multiple of 64 bytes, because data directly behind a lock may share the lock's last cache line.
  *
  * ==== qolb_node(3): nodes, which share the 64 bytes of a line ====
  *
@@ -881,8 +887,8 @@ uint32_t qolb_state(qolb_node *node);
 
 /* clang-format off */
 
-/* A lock and its initialisers, one for a strict lock and one for a barging lock with the given limit. A program must
- * not read or change the contents of a lock. */
+/* A lock is a variable of type qolb_lock. QOLB_LOCK_INIT initialises a strict lock, and QOLB_LOCK_INIT_BARGING(limit)
+ * initialises a barging lock with this limit. A program must not read or change the contents of a lock. */
 typedef struct __attribute__((aligned(16))) qolb_lock {
     void *own;
     uint64_t limit, more[38];
@@ -890,8 +896,9 @@ typedef struct __attribute__((aligned(16))) qolb_lock {
 #define QOLB_LOCK_INIT {QOLB_NULL_, 0, {0}}
 #define QOLB_LOCK_INIT_BARGING(limit) {QOLB_NULL_, QOLB_AS_(uint64_t, limit), {0}}
 
-/* A condition and its initialiser. A thread that holds a lock can wait on a condition until another thread signals the
- * condition. A condition may be used with several locks, and need not be freed. */
+/* A condition is a variable of type qolb_cond, which QOLB_COND_INIT initialises. A thread that holds a lock can wait on
+ * a condition until another thread signals the condition. A condition may be used with several locks, and does not have
+ * to be destroyed. */
 typedef struct qolb_cond {
     void *own;
 } qolb_cond;
@@ -899,19 +906,19 @@ typedef struct qolb_cond {
 
 /* clang-format on */
 
-/* Opens a lock with a barging limit that is known only at run time (ORDER AND BARGING).
+/* Opens a lock with a barging limit that is known only at run time (see ORDER AND BARGING).
  *
- * The lock must have been initialised and not used yet, or it must have been destroyed. A program that knows the limit
- * beforehand can use an initialiser instead.
+ * The lock must have been initialised and not used yet, or it must have been destroyed. A program that knows the
+ * barging limit beforehand can use an initialiser instead of this call.
  *
  * Returns:
  * - QOLB_DONE: The lock is open.
- * - QOLB_OCCUPIED: The lock was open already, and keeps its limit. */
+ * - QOLB_OCCUPIED: The lock was already open, and keeps its barging limit. */
 enum qolb_result qolb_lock_open(qolb_lock *lock, uint64_t limit) QOLB_LOOK;
 
 /* Enters the lock, and waits until the calling thread holds it.
  *
- * The thread spins at first and then sleeps (WAITING).
+ * The calling thread spins at first and then sleeps (see WAITING).
  *
  * Returns:
  * - QOLB_GRANTED: The calling thread holds the lock.
@@ -919,42 +926,43 @@ enum qolb_result qolb_lock_open(qolb_lock *lock, uint64_t limit) QOLB_LOOK;
  * - QOLB_MISUSE: The calling thread already holds the lock. */
 enum qolb_result qolb_lock_enter(qolb_lock *lock) QOLB_LOOK;
 
-/* Enters the lock if the calling thread does not have to wait for it. The call does not spin.
+/* Enters the lock if the calling thread does not have to wait for it. qolb_lock_try does not spin, even if another
+ * thread holds the lock.
  *
  * Returns:
  * - QOLB_GRANTED: The calling thread holds the lock.
- * - QOLB_BUSY: The lock is not free: another thread or a task holds it or is next, or the calling thread already holds
- *   it.
+ * - QOLB_BUSY: Another thread or a task holds the lock or is next to get it, or the calling thread already holds the
+ *   lock.
  * - QOLB_CLOSED: The lock is shut. */
 enum qolb_result qolb_lock_try(qolb_lock *lock) QOLB_LOOK;
 
 /* Enters the lock, and waits until the calling thread holds it, but for at most `nanoseconds`.
  *
- * The timeout begins with the call. UINT64_MAX means that there is no timeout (TIMEOUTS). With a timeout of 0 the call
- * enters the lock if the lock is free.
+ * The timeout starts at the beginning of the call. If `nanoseconds` is UINT64_MAX, there is no timeout (see TIMEOUTS).
+ * If `nanoseconds` is 0, the call enters the lock if the lock is free.
  *
  * Returns:
  * - QOLB_GRANTED: The calling thread holds the lock.
- * - QOLB_TIMEDOUT: The timeout expired. The calling thread does not hold the lock.
+ * - QOLB_TIMEDOUT: The timeout expired, and the calling thread does not hold the lock.
  * - QOLB_CLOSED: The lock is shut.
- * - QOLB_MISUSE: The calling thread already holds the lock. The call returns at once. */
+ * - QOLB_MISUSE: The calling thread already holds the lock, so the call returns at once. */
 enum qolb_result qolb_lock_enter_within(qolb_lock *lock, uint64_t nanoseconds) QOLB_LOOK;
 
 /* Enters the lock, and waits until the calling thread holds it, but at most until `time`.
  *
- * `time` is an absolute time in nanoseconds, measured on CLOCK_MONOTONIC. UINT64_MAX means that there is no timeout
- * (TIMEOUTS).
+ * `time` is an absolute time in nanoseconds, measured on CLOCK_MONOTONIC. If `time` is UINT64_MAX, there is no timeout
+ * (see TIMEOUTS).
  *
  * Returns:
  * - QOLB_GRANTED: The calling thread holds the lock.
- * - QOLB_TIMEDOUT: `time` passed before the lock was granted. The calling thread does not hold the lock.
+ * - QOLB_TIMEDOUT: `time` passed before the lock was granted, and the calling thread does not hold the lock.
  * - QOLB_CLOSED: The lock is shut.
- * - QOLB_MISUSE: The calling thread already holds the lock. The call returns at once. */
+ * - QOLB_MISUSE: The calling thread already holds the lock, so the call returns at once. */
 enum qolb_result qolb_lock_enter_until(qolb_lock *lock, uint64_t time) QOLB_LOOK;
 
-/* Leaves the lock. A strict lock goes to the first waiter, and a barging lock becomes free.
+/* Leaves the lock. When its holder leaves, a strict lock goes to the first waiter, and a barging lock becomes free.
  *
- * The call does not wait for a turn, but it may make notifications for tasks (qolb_task(3)).
+ * qolb_lock_leave does not wait in the queue, but it may notify tasks that wait for the lock (see qolb_task(3)).
  *
  * Returns:
  * - QOLB_DONE: The calling thread has left the lock.
@@ -964,9 +972,9 @@ enum qolb_result qolb_lock_leave(qolb_lock *lock);
 /* Leaves the lock and shuts it, which takes the lock out of service.
  *
  * All threads and tasks that wait for the lock, all threads that wait on a condition with this lock, and all later
- * callers are told that the lock is shut. Later callers are told at once. Each waiter is told only after the waiter
- * before it has polled. Until the last one has polled, qolb_lock_is_held may return 1, although no thread will hold the
- * lock any more.
+ * callers are told that the lock is shut. A thread that tries to enter a shut lock is told at once that the lock is
+ * shut. A waiting thread or task is told that the lock is shut only after the waiter ahead of it has polled. Until the
+ * last waiter has polled, qolb_lock_is_held may return 1, although no thread will hold the lock again.
  *
  * Returns:
  * - QOLB_DONE: The lock is shut, and the calling thread has left it.
@@ -975,14 +983,14 @@ enum qolb_result qolb_lock_shut(qolb_lock *lock);
 
 /* Destroys the lock, so that its memory may be freed.
  *
- * Afterwards the lock is in the state that its initialiser gave it. The next use of the lock opens it with the same
- * limit, and then the lock is not shut. The thread that was granted the lock last, and has left the lock, may destroy
- * it even if another thread has not yet returned from the call by which it left the lock.
+ * A destroyed lock is in the state that its initialiser gave it. The next use of a destroyed lock opens it again with
+ * the same barging limit, and the lock is then not shut. The last thread that was granted the lock may destroy the lock
+ * after leaving it, even if an earlier holder has not yet returned from the call by which it left.
  *
  * Returns:
  * - QOLB_DONE: The lock is destroyed, or was not open.
- * - QOLB_BUSY: A thread or a task holds the lock or waits for it, or a thread waits on a condition with this lock.
- *   Nothing changed. */
+ * - QOLB_BUSY: A thread or a task holds the lock or waits for it, or a thread waits on a condition with this lock. The
+ *   call changed nothing. */
 enum qolb_result qolb_lock_destroy(qolb_lock *lock);
 
 /* Checks whether the calling thread holds the lock.
@@ -992,44 +1000,45 @@ int qolb_lock_is_mine(const qolb_lock *lock);
 
 /* Checks whether a thread or a task holds the lock, or is about to hold it.
  *
- * The call only reads the lock and does not try to enter it. Therefore the answer may no longer be true when the call
- * returns.
+ * qolb_lock_is_held only reads the lock and does not try to enter it. Therefore the answer may already be out of date
+ * when the call returns.
  *
  * Returns 1 if a thread or a task holds the lock or is about to hold it, and 0 otherwise. */
 int qolb_lock_is_held(const qolb_lock *lock);
 
 /* Leaves the lock, waits on the condition until it is signalled, and enters the lock again.
  *
- * The call misses no signal that comes after it has left the lock. Check in a loop what the thread waits for, because
- * another thread may enter the lock before this thread does.
+ * The waiting thread misses no signal that is sent after the call has left the lock. Call qolb_cond_wait in a loop that
+ * checks what the thread waits for, because another thread may enter the lock before the woken thread does.
  *
  * Returns:
  * - QOLB_GRANTED: The condition was signalled, and the calling thread holds the lock.
  * - QOLB_CLOSED: The lock is shut, and the calling thread does not hold it.
- * - QOLB_MISUSE: The calling thread does not hold the lock, so it has not waited. */
+ * - QOLB_MISUSE: The calling thread does not hold the lock, so the call did not wait. */
 enum qolb_result qolb_cond_wait(qolb_cond *cond, qolb_lock *lock) QOLB_LOOK;
 
-/* Waits on the condition as qolb_cond_wait does, but for at most `nanoseconds`.
+/* Waits on the condition like qolb_cond_wait, but for at most `nanoseconds`.
  *
- * The timeout limits only the wait for a signal. Afterwards the thread enters the lock again, however long this takes.
+ * The timeout of qolb_cond_wait_within limits only the wait for a signal. After the wait for a signal, the thread
+ * enters the lock again, however long it has to wait for the lock.
  *
  * Returns:
  * - QOLB_GRANTED: The condition was signalled, and the calling thread holds the lock.
  * - QOLB_TIMEDOUT: No signal came in time, and the calling thread holds the lock.
  * - QOLB_CLOSED: The lock is shut, and the calling thread does not hold it.
- * - QOLB_MISUSE: The calling thread does not hold the lock, so it has not waited. */
+ * - QOLB_MISUSE: The calling thread does not hold the lock, so the call did not wait. */
 enum qolb_result qolb_cond_wait_within(qolb_cond *cond, qolb_lock *lock, uint64_t nanoseconds) QOLB_LOOK;
 
-/* Wakes the thread that has waited longest on the condition. The caller need not hold the lock.
+/* Wakes the thread that has waited longest on the condition. A thread may signal a condition without holding a lock.
  *
  * Returns:
- * - QOLB_DONE: The thread is woken, or no thread waited. */
+ * - QOLB_DONE: A thread was woken, or no thread was waiting. */
 enum qolb_result qolb_cond_signal(qolb_cond *cond);
 
-/* Wakes all threads that wait on the condition. The caller need not hold the lock.
+/* Wakes all threads that wait on the condition. A thread may call qolb_cond_broadcast without holding a lock.
  *
  * Returns:
- * - QOLB_DONE: The threads are woken, or no thread waited. */
+ * - QOLB_DONE: All waiting threads were woken, or no thread was waiting. */
 enum qolb_result qolb_cond_broadcast(qolb_cond *cond);
 
 /* clang-format off */
