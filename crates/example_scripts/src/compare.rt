@@ -13,19 +13,19 @@ use std::thread::Threads;
 /// The form of a script.
 #[derive(Clone, Copy)]
 pub enum Form {
-    /// A schedule. Lines of each kind give the same answers.
+    /// A schedule. Its answers are the same for every kind of line.
     Schedule,
     /// A step script.
     Steps,
-    /// A work script whose report is the same in every schedule, and over lines of each kind.
+    /// A work script whose report is the same for every order in which the workers run and for every kind of line.
     Work(WorkKind),
 }
 
-/// Runs the script in each possible way, and compares the outputs.
+/// Runs the script in every possible way, and compares the outputs with the answer.
 ///
 /// # Errors
 ///
-/// The call fails if the output differs from the answer, or if the script is refused.
+/// The call fails if an output differs from the answer, or if the script is refused.
 pub fn compare<R: Threads + Wait + Sync>(
     rt: &R,
     alloc: Global,
@@ -54,11 +54,11 @@ pub fn compare<R: Threads + Wait + Sync>(
     Ok(())
 }
 
-/// Draws the script as an SVG, and compares the picture.
+/// Draws the script as an SVG, and compares the picture with the stored picture.
 ///
 /// # Errors
 ///
-/// The call fails if the picture differs, or if the script is refused or is work.
+/// The call fails if the picture differs, or if the script is refused or is a work script.
 pub fn compare_picture(
     alloc: Global,
     form: Form,
@@ -76,7 +76,7 @@ pub fn compare_picture(
     }
 }
 
-/// Returns an error unless `compare` accepts a right answer, and refuses a wrong answer and another form.
+/// Returns an error unless `compare` accepts a correct answer, and rejects a wrong answer and a wrong form.
 pub fn refuses_others<R: Threads + Wait + Sync>(rt: &R, alloc: Global) -> anyhow::Result<()> {
     let script = b"nodes 1 lines 1\nenq 1 0\n";
     let right = b"granted\nline 0 served 0 withdrawn 0 told 0 left 1\n";
@@ -93,7 +93,7 @@ pub fn refuses_others<R: Threads + Wait + Sync>(rt: &R, alloc: Global) -> anyhow
     Ok(())
 }
 
-/// Returns an error if `said` is not `wanted`.
+/// Returns an error if `said` differs from `wanted`.
 fn expect(said: &[u8], wanted: &[u8]) -> anyhow::Result<()>
     ensures { IsOk result ↔ (said.now ≡ wanted.now) }
 {
@@ -101,7 +101,7 @@ fn expect(said: &[u8], wanted: &[u8]) -> anyhow::Result<()>
     Ok(())
 }
 
-/// Returns the output of the schedule over lines of this kind.
+/// Returns the output of the schedule on lines of this kind.
 fn replay(alloc: Global, script: &[u8], kind: Option<Lock>) -> anyhow::Result<Vec<u8>> {
     let mut said = Vec::new(alloc);
     let done = run_schedule_with(
@@ -130,7 +130,7 @@ fn steps(alloc: Global, script: &[u8]) -> anyhow::Result<Vec<u8>> {
     }
 }
 
-/// Returns the report of the work over lines of this kind.
+/// Returns the report of the work script on lines of this kind.
 fn report<R: Threads + Wait + Sync>(
     rt: &R,
     alloc: Global,

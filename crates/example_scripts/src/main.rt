@@ -12,7 +12,8 @@ use std::rt::Files;
 use std::sync::Wait;
 use std::thread::Threads;
 
-/// A script `NAME.txt`, its answer `NAME.out`, and the picture `NAME.svg` of a script that a page shows.
+/// An example: a script `NAME.txt`, its expected output `NAME.out`, and for a script that a page shows, the picture
+/// `NAME.svg`.
 #[derive(Clone, Copy)]
 struct Example {
     name: &'static str,
@@ -124,7 +125,7 @@ fn main(rt: HostRuntime) -> anyhow::Result<()> {
     Ok(())
 }
 
-/// Returns the number of files here whose names end so.
+/// Returns the number of files in the current folder whose names have this ending.
 fn files_that_end<R: Files + AllocGlobal + Clone>(rt: &R, end: &str) -> anyhow::Result<usize> {
     let mut files = 0usize;
     for entry in fs::read_dir(rt, ".")? {
@@ -135,7 +136,7 @@ fn files_that_end<R: Files + AllocGlobal + Clone>(rt: &R, end: &str) -> anyhow::
     Ok(files)
 }
 
-/// Runs the example's script, and compares its output with the stored answer.
+/// Runs the script of the example, and compares the output with the stored output.
 fn check<R: Files + AllocGlobal + Threads + Wait + Sync>(
     rt: &R,
     alloc: Global,
@@ -156,7 +157,7 @@ fn check<R: Files + AllocGlobal + Threads + Wait + Sync>(
     .context(name)
 }
 
-/// Draws the example's script, and compares the picture with the stored one.
+/// Draws the script of the example, and compares the picture with the stored picture.
 fn check_picture<R: Files + AllocGlobal>(
     rt: &R,
     alloc: Global,

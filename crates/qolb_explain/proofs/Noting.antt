@@ -23,7 +23,7 @@ use Rattle.qolb_replay.specs.StepRuns.{line_of}
 use Rattle.qolb_replay.proofs.Tallying.{range_more}
 use Rattle.qolb_explain.specs.Notes.{AreNotesOf, IsTried, Notes, enabled, line_notes, misuse_text, misuses, note_if, note_on, not_enabled, nothing, on_line, refusal_note, refused, told}
 
--- the notes on the lines below this one, and on this one too
+-- the notes on the lines before this one, and then also on this line
 pub line_more : (script : Script) (n : ℕ) (notes longer : List ℕ) → notes ≡ flat_map (line_notes script) (range_with_len 0 n) → longer ≡ notes ++ line_notes script n
     → longer ≡ flat_map (line_notes script) (range_with_len 0 (n + 1))
 line_more script n notes longer was more =
@@ -35,7 +35,7 @@ line_more script n notes longer was more =
     ∙ flat_map-append (line_notes script) (range_with_len 0 n) (n ∷ [])
     ∙ ap (λ t. flat_map (line_notes script) (range_with_len 0 n) ++ t) (append-nil (line_notes script n)))
 
--- a command of the line is noted if it is misuse
+-- a command on the line has a note if it is misuse
 pub misuse_noted : (line number : ℕ) (s : OwnerState) (c : Command) (at : PortState) (old new : List ℕ) → commands.line_of c ≡ line → is_misuse (said_of s c) ≡ true → at ≡ state_of s (commands.node_of c)
     → new ≡ old ++ misuse_text number c at → new ≡ old ++ note_on line number s c
 misuse_noted line number s c at old new here misuse is adds =
@@ -47,7 +47,7 @@ none_noted line number s c old here lawful =
     let test : ((commands.line_of c == line) && is_misuse (said_of s c)) ≡ false = ap (λ b. b && is_misuse (said_of s c)) (eq-eqb (commands.line_of c) line here) ∙ lawful in
     sym (append-nil old) ∙ ap (λ b. old ++ (if b then misuse_text number c (state_of s (commands.node_of c)) else [])) (sym test)
 
--- i commands of a schedule were done on a line, and noted behind what was there before
+-- The first i commands of a schedule were executed on a line, and their notes follow the text that was there before.
 pub record Stands (script : Script) (line i number : ℕ) (plain : PlainView) (before notes : List ℕ) : Type 0 where
   pub s : OwnerState
   pub agrees : Agrees plain s
@@ -84,7 +84,7 @@ pub stands_last : (script : Script) (line i number : ℕ) (plain : PlainView) (b
 stands_last script line i number plain before notes was none =
     sym (append-nil notes) ∙ sym (ap (λ cs. notes ++ misuses line (i + 1) was.s cs) none) ∙ was.notes_are
 
--- an event that was tried, whatever it told
+-- an event that was tried, whatever its result
 pub still_refused : (e : Event) (before after : State) (r : Result Told NotEnabled) → IfErr r (λ why. IsRefused before e why) → OnErr r (after ≡ before) → IfErr r (IsRefused after e)
 still_refused e before after (Ok what) why same = tt
 still_refused e before after (Err x) why same = subst (λ c. IsRefused c e x) (sym same) why

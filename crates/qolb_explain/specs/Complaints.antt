@@ -6,12 +6,12 @@ use Rattle.qolb_script.specs.declared.reason.Refusal.{Refusal}
 use Rattle.qolb_script.specs.declared.reason.Refusal.TheVariants.{Line}
 use Rattle.qolb_script.specs.Text.{numbered_lines, worded}
 
--- the line of this number among some lines, if it is there
+-- the line with this number, if there is such a line
 abbrev pub line_at : ℕ → List (ℕ × List ℕ) → List ℕ
 line_at n [] = []
 line_at n (line ∷ rest) = if line.0 == n then line.1 else line_at n rest
 
--- a complaint with this line of a script and this reason is about the line for which its reader refused it, and has the reader's reason
+-- The complaint shows the line that the reader of the script refused, and gives the reason that the reader gave.
 pub record IsAbout (script line : List ℕ) (reason : Reason) (why : Refusal) : Type 0 where
   pub number : ℕ
   pub of_reader : why ≡ Line number reason

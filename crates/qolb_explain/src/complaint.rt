@@ -7,20 +7,20 @@ use crate::near::near;
 use qolb_script::{Allowed, Form, NumberedLines, Reason, Refusal, ScriptKind, Words};
 use std::fmt;
 
-/// The largest number of bytes of a line that are shown.
+/// The largest number of bytes of a line that a complaint shows.
 const MAX_SHOWN: usize = 200;
 
-/// The largest number of digits of a number.
+/// The largest number of digits that a number may have.
 const MAX_DIGITS: usize = 20;
 
-/// A line that is refused, and the reason for it.
+/// A refused line, and the reason why it was refused.
 #[derive(Clone, Copy, Debug)]
 pub struct Complaint<'a> {
     pub line: &'a [u8],
     pub reason: Reason,
 }
 
-/// Returns the complaint about a script that its reader refused, or `None` if memory was refused.
+/// Returns the complaint about a script that its reader refused, or `None` if an allocation failed.
 pub fn complaint_about<'a>(script: &'a [u8], why: Refusal) -> Option<Complaint<'a>>
     ensures { MatchOption result
         (why ≡ Refusal.Memory) (λ it. IsAbout script.now it.line.now it.reason why) }
@@ -34,7 +34,7 @@ pub fn complaint_about<'a>(script: &'a [u8], why: Refusal) -> Option<Complaint<'
     }
 }
 
-/// Returns the line of this number, if it has a word; else none of its bytes.
+/// Returns the line with this number if it has a word, and otherwise an empty slice.
 fn numbered<'a>(script: &'a [u8], wanted: u64) -> &'a [u8]
     ensures { result.now ≡ line_at wanted (worded (numbered_lines script.now)) }
 {
@@ -85,7 +85,7 @@ fn header(kind: ScriptKind) -> &'static str {
     }
 }
 
-/// Returns the name of a kind of scripts.
+/// Returns the name of a kind of script.
 fn name(kind: ScriptKind) -> &'static str {
     match kind {
         ScriptKind::Schedule => "a schedule",
@@ -95,7 +95,7 @@ fn name(kind: ScriptKind) -> &'static str {
     }
 }
 
-/// Returns the subcommands for scripts of a kind.
+/// Returns the subcommands that read a script of this kind.
 fn subcommands(kind: ScriptKind) -> &'static str {
     match kind {
         ScriptKind::Schedule => "`qolb replay` and `qolb draw`",
@@ -105,7 +105,7 @@ fn subcommands(kind: ScriptKind) -> &'static str {
     }
 }
 
-/// Writes which kind of script a line begins, and how one of the kind begins that was asked for.
+/// Writes the kind of script that a line begins, and how a script of the requested kind begins.
 fn write_other<W: fmt::Write>(
     f: &mut fmt::Formatter<W>,
     found: ScriptKind,
@@ -117,7 +117,7 @@ fn write_other<W: fmt::Write>(
     write!(f, "{script} begins with `{form}`")
 }
 
-/// Writes which byte of a line is the first that no script has, and what to write in its place where that is known.
+/// Writes the first byte of a line that is not allowed in a script, and what to write instead if that is known.
 fn write_byte<W: fmt::Write>(f: &mut fmt::Formatter<W>, line: &[u8]) -> fmt::Result {
     let mut place = 0u64;
     for byte in line.iter().copied() {
@@ -138,7 +138,8 @@ fn is_shown(byte: u8) -> bool {
     b' ' <= byte && byte <= b'~'
 }
 
-/// Returns what to write in the place of this byte, the first of a line that no script has; empty if that is not known.
+/// Returns what to write instead of this byte, which is the first byte of a line that is not allowed in a script. The
+/// text is empty if no replacement is known.
 fn hint_of(line: &[u8], byte: u8) -> &'static str {
     match byte {
         b'\t' => "; spaces separate words",
@@ -148,8 +149,9 @@ fn hint_of(line: &[u8], byte: u8) -> &'static str {
     }
 }
 
-/// Writes that a word is no number of a range; how long a number may be, if it has more digits; and what a job begins with: no other line has a number
-/// for its first word.
+/// Writes that a word is not a number in a range. If the word has too many digits, also writes how long a number may
+/// be. If the word is the first one of its line, also writes what a job begins with, because only a job has a number as
+/// its first word.
 fn write_range<W: fmt::Write>(
     f: &mut fmt::Formatter<W>,
     line: &[u8],
@@ -171,12 +173,12 @@ fn write_range<W: fmt::Write>(
     Ok(())
 }
 
-/// Returns `true` if a word is digits alone, and more than a number may have.
+/// Returns `true` if a word consists of digits alone, and has more digits than a number may have.
 fn has_many_digits(word: &[u8]) -> bool {
     word.len() > MAX_DIGITS && word.iter().all(|&b| matches!(b, b'0'..=b'9'))
 }
 
-/// Returns the words that are allowed.
+/// Returns the allowed words as a text.
 fn words(allowed: Allowed) -> &'static str {
     match allowed {
         Allowed::Commands => "none of enq, poll, write, show, deq, out, shut",
@@ -191,7 +193,7 @@ fn words(allowed: Allowed) -> &'static str {
     }
 }
 
-/// Writes that a word is none of those that are allowed, and the one that is near it.
+/// Writes that a word is not one of the allowed words, and the allowed word that resembles it.
 fn write_word<W: fmt::Write>(
     f: &mut fmt::Formatter<W>,
     line: &[u8],
@@ -211,7 +213,7 @@ fn write_word<W: fmt::Write>(
     }
 }
 
-/// Writes that a line has too few words or too many, and its form.
+/// Writes that a line has too few or too many words, and the form that it should have.
 fn write_form<W: fmt::Write>(f: &mut fmt::Formatter<W>, line: &[u8], form: Form) -> fmt::Result {
     f.write_str("wrong number of words, the form is `")?;
     match form {
@@ -248,7 +250,7 @@ fn write_form<W: fmt::Write>(f: &mut fmt::Formatter<W>, line: &[u8], form: Form)
     f.write_str("`")
 }
 
-/// Returns the word at this place of a line; empty if there is none.
+/// Returns the word at this place of a line, or an empty slice if the line has fewer words.
 fn word_at(line: &[u8], place: u64) -> &[u8] {
     let mut at = 0u64;
     for word in Words::new(line) {
@@ -260,7 +262,7 @@ fn word_at(line: &[u8], place: u64) -> &[u8] {
     &[]
 }
 
-/// Writes a line, and dots if it has more than `MAX_SHOWN` bytes.
+/// Writes a line, followed by dots if the line has more than `MAX_SHOWN` bytes.
 fn write_line<W: fmt::Write>(f: &mut fmt::Formatter<W>, line: &[u8]) -> fmt::Result {
     f.write_str("    ")?;
     write_bytes(f, line)?;
@@ -270,7 +272,7 @@ fn write_line<W: fmt::Write>(f: &mut fmt::Formatter<W>, line: &[u8]) -> fmt::Res
     f.write_str("\n")
 }
 
-/// Writes at most `MAX_SHOWN` bytes: those that no script has as `\xNN`.
+/// Writes at most `MAX_SHOWN` bytes. A byte that is not allowed in a script is written as `\xNN`.
 fn write_bytes<W: fmt::Write>(f: &mut fmt::Formatter<W>, bytes: &[u8]) -> fmt::Result {
     for byte in bytes.iter().copied().take(MAX_SHOWN) {
         if is_shown(byte) {

@@ -2,11 +2,13 @@
 //! libraries.
 use qolb_script::Allowed;
 
-/// More bytes than any word has that is near another.
+/// A length that exceeds the length of every word in the lists below.
 const MAX_WORD: usize = 20;
 
-/// Returns the allowed word that does what another word says, in capitals too: of another subcommand or of a library of locks. It is a list, as
-/// `withdraw` is far from `out` by its letters.
+/// Returns the allowed word with the same meaning as the given word, in small letters or capitals.
+///
+/// The given word may come from another subcommand or from another lock library. The words are listed, because a
+/// comparison of letters would not find, for example, that `withdraw` means `out`.
 pub fn near(allowed: Allowed, word: &[u8]) -> Option<&'static str> {
     let letters = small_letters(word);
     let word = &letters[..word.len().min(MAX_WORD)];
@@ -19,7 +21,7 @@ pub fn near(allowed: Allowed, word: &[u8]) -> Option<&'static str> {
     }
 }
 
-/// Returns the first `MAX_WORD` letters of a word as small ones, with zeros behind them.
+/// Returns the first `MAX_WORD` letters of a word in lower case, padded with zeros.
 fn small_letters(word: &[u8]) -> [u8; MAX_WORD] {
     let mut letters = [0; MAX_WORD];
     for place in 0..word.len().min(MAX_WORD) {
@@ -28,7 +30,7 @@ fn small_letters(word: &[u8]) -> [u8; MAX_WORD] {
     letters
 }
 
-/// Returns the command that is near this word.
+/// Returns the command that this word resembles.
 fn near_command(word: &[u8]) -> Option<&'static str> {
     match word {
         b"enq"
@@ -64,7 +66,7 @@ fn near_command(word: &[u8]) -> Option<&'static str> {
     }
 }
 
-/// Returns the event that is near this word.
+/// Returns the event that this word resembles.
 fn near_event(word: &[u8]) -> Option<&'static str> {
     match word {
         b"enq"
@@ -96,7 +98,7 @@ fn near_event(word: &[u8]) -> Option<&'static str> {
     }
 }
 
-/// Returns the job of a board that is near this word.
+/// Returns the job of a board that this word resembles.
 fn near_board_job(word: &[u8]) -> Option<&'static str> {
     match word {
         b"put" | b"push" | b"add" | b"give" | b"store" | b"in" | b"insert" | b"enq" | b"enqueue" =>
@@ -108,7 +110,7 @@ fn near_board_job(word: &[u8]) -> Option<&'static str> {
     }
 }
 
-/// Returns the job of a bank that is near this word.
+/// Returns the job of a bank that this word resembles.
 fn near_bank_job(word: &[u8]) -> Option<&'static str> {
     match word {
         b"in" | b"deposit" | b"pay" | b"put" | b"add" | b"credit" => Some("in"),

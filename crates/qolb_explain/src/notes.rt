@@ -14,8 +14,10 @@ use qolb_script::{Command, Said, Schedule, ScriptError, read_schedule};
 use qolb_words::{push_field, verb};
 use std::alloc::{AllocError, Global};
 
-/// Returns a line of text for each command of a schedule that is misuse, by the lines of the schedule: the node's state, and which commands
-/// it allows. Empty if the script is refused.
+/// Returns a line of text for each misused command of a schedule: the state of the node, and the commands that this
+/// state allows.
+///
+/// The notes are grouped by the lines of the schedule. The text is empty if the script is refused.
 pub fn notes_of_schedule(alloc: Global, script: &[u8]) -> Result<Vec<u8>, AllocError>
     ensures { IfOk result (λ notes. notes.items ≡ spec.schedule_notes script.now) }
 {
@@ -37,7 +39,7 @@ fn notes_on(alloc: Global, schedule: &Schedule) -> Result<Vec<u8>, AllocError>
     Ok(notes)
 }
 
-/// Opens a line of a schedule.
+/// Opens a line as the schedule describes it.
 fn open(schedule: &Schedule) -> PlainLine
     ensures nodes { result.nodes ≡ schedule.now.nodes }
     ensures opened { Agrees result (opened (config_of schedule.now)) }
@@ -53,7 +55,7 @@ fn open(schedule: &Schedule) -> PlainLine
     plain
 }
 
-/// Appends the notes on the commands on one line of a schedule.
+/// Appends the notes on those commands of a schedule that concern one line.
 fn push_misuses(notes: &mut Vec<u8>, schedule: &Schedule, line: u64) -> Result<(), AllocError>
     ensures { OnOk result (notes.new.items ≡ notes.old.items
         ++ spec.line_notes schedule.now line) }
@@ -67,7 +69,7 @@ fn push_misuses(notes: &mut Vec<u8>, schedule: &Schedule, line: u64) -> Result<(
     Ok(())
 }
 
-/// Does a command if it is on this line, and appends a note if it is misuse.
+/// Executes a command if it concerns this line, and appends a note if the command is misuse.
 fn push_if_misuse(
     notes: &mut Vec<u8>,
     plain: &mut PlainLine,
@@ -93,7 +95,7 @@ fn push_if_misuse(
     Ok(())
 }
 
-/// Returns `true` if this answer says that a command is misuse.
+/// Returns `true` if this answer says that the command was misuse.
 fn is_misuse(said: Said) -> bool
     ensures { result ≡ is_misuse said }
 {
@@ -122,7 +124,7 @@ fn push_misuse(
     Ok(())
 }
 
-/// Returns a state in words, and which commands it allows.
+/// Returns a description of a state, and the commands that the state allows.
 fn words_of_state(state: PortState) -> &'static [u8]
     ensures { result.now ≡ spec.state_words state }
 {

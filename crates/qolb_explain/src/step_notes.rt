@@ -12,8 +12,10 @@ use qolb_script::{ScriptError, Steps, read_steps};
 use qolb_words::{push_field, push_point, step_verb};
 use std::alloc::{AllocError, Global};
 
-/// Returns a line of text for each event of a step script that is refused: the node's point, and which events it allows. Empty if the
-/// script is refused.
+/// Returns a line of text for each refused event of a step script: the point of the node, and the events that this
+/// point allows.
+///
+/// The text is empty if the script is refused.
 pub fn notes_of_steps(alloc: Global, script: &[u8]) -> Result<Vec<u8>, AllocError>
     ensures { IfOk result (λ notes. spec.AreStepNotes script.now notes.items) }
 {
@@ -38,7 +40,7 @@ fn notes_on(alloc: Global, steps: &Steps) -> Result<Vec<u8>, AllocError>
     Ok(notes)
 }
 
-/// Opens the line of a step script.
+/// Opens the line that a step script describes.
 fn open(steps: &Steps) -> Core
     ensures { result ≡ first (line_of steps.now) }
 {
@@ -53,7 +55,7 @@ fn open(steps: &Steps) -> Core
     core
 }
 
-/// Makes an event, and appends a note if the node's point does not allow it.
+/// Runs an event, and appends a note if the point of the node does not allow the event.
 fn push_if_refused(
     notes: &mut Vec<u8>,
     core: &mut Core,
@@ -68,7 +70,7 @@ fn push_if_refused(
     Ok(())
 }
 
-/// Appends the note on an event that was tried and told this, if it was refused.
+/// Appends a note on an event that was tried, if its result is a refusal.
 fn push_note(
     notes: &mut Vec<u8>,
     core: &Core,
@@ -110,7 +112,7 @@ fn push_refusal(
     Ok(())
 }
 
-/// Returns which events a point allows.
+/// Returns the events that a point allows.
 fn events_at(point: Point) -> &'static [u8]
     ensures { result.now ≡ spec.events_at point }
 {

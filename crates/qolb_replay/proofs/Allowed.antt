@@ -30,14 +30,14 @@ module _ (s : OwnerState) (c : Command) (state : PortState) (same : state ≡ st
   test : (b : Bool) → is_allowed state c ≡ b → is_allowed (state_of s (node_of c)) c ≡ b
   test b h = sym (ap (λ t. is_allowed t c) same) ∙ h
 
-  -- an allowed command has its answer and its effect
+  -- an allowed command has the answer and the effect that the model gives it
   pub allowed_said : is_allowed state c ≡ true → answered s c ≡ said_of s c
   allowed_said h = sym (ap (λ b. if b then answered s c else Misuse) (test true h))
 
   pub allowed_after : is_allowed state c ≡ true → after_allowed s c ≡ after_command s c
   allowed_after h = sym (ap (λ b. if b then after_allowed s c else s) (test true h))
 
-  -- a command that is not allowed is misuse, and changes nothing
+  -- a command that is not allowed is misuse, and does not change anything
   pub refused_said : is_allowed state c ≡ false → Misuse ≡ said_of s c
   refused_said h = sym (ap (λ b. if b then answered s c else Misuse) (test false h))
 

@@ -27,7 +27,7 @@ use Rattle.qolb_replay.specs.Calls.{Promises, Calls, AnswersByPort, all_allowed}
 use Rattle.qolb_replay.proofs.Allowed.{queued_state, holding_state}
 use Rattle.line_blocking.proofs.Rounds.{get_of}
 
--- a state and what is seen of it allow the same
+-- a state and what the port sees of it allow the same commands
 may_ask_seen : (x : PortState) → may_ask x ≡ may_ask (seen x)
 may_ask_seen port.Idle = refl
 may_ask_seen port.Linking = refl
@@ -64,14 +64,14 @@ allowed_seen x (command.Out node line) = queued_seen x
 allowed_seen x (command.Shut node line) = holding_seen x
 allowed_seen x (command.Write node line mask bytes) = holding_seen x
 
--- a call, and the round of meets after it
+-- a call, followed by a round of meets
 module _ (s : OwnerState) (ports : List ViewAndTurn) (whole : AreSynced s ports) (place : ℕ) (u a : ViewAndTurn) (at : slice_get ports place ≡ Some u) (new : List ViewAndTurn) (round : MeetsOthers all_allowed place (set ports place a) new) where
-  -- nothing was done
+  -- the call did not do anything
   unchanged : a ≡ u → AreSynced s new
   unchanged e = spreads all_allowed s place a (set ports place a) new (called s ports whole place u a at (ap (λ x. x.view.node) e)) round s (leaves_so (place + 1) s) whole.reached
       (subst (λ x. KnowsWhole s x) (sym e) (whole.knows place u at))
 
-  -- an allowed command
+  -- the call executed an allowed command
   done : (c : Command) (what : Said) → place + 1 ≡ node_of c → is_allowed u.view.state c ≡ true → is_allowed (state_of s (place + 1)) c ≡ true → Promises c what u a → (what ≡ answered s c) × AreSynced (after_allowed s c) new
   done (command.Enq node line) what e may_u may (answer, is, h) =
       let r = asked all_allowed s ports whole place u a at h.continues.extends h.continues.history new round may_u may answer h.busy h.asks h.joined h.granted h.queued h.told in
@@ -108,7 +108,7 @@ module _ (s : OwnerState) (ports : List ViewAndTurn) (whole : AreSynced s ports)
           let d = calls.refused h in
           (d.0 ∙ sym (ap (λ b. if b then answered s c else said.Misuse) (test false h)), subst (λ b. AreSynced (if b then after_allowed s c else s) new) (sym (test false h)) (unchanged d.1))
 
--- the same, with the round of meets before it
+-- the same statement, with a round of meets before the call as well
 pub answers_forced : (s : OwnerState) (old new : List ViewAndTurn) (c : Command) (what : Said) → AreSynced s old → AnswersByPort c what old new → (what ≡ said_of s c) × AreSynced (after_command s c) new
 answers_forced s old new c what whole h =
     let at : slice_get old h.place ≡ Some h.before.port = ap (λ xs. slice_get xs h.place) h.before.was ∙ (ap (slice_get (h.before.before ++ h.before.port ∷ h.before.behind)) (sym h.before.at) ∙ get_here h.before.before h.before.port h.before.behind) in
@@ -119,7 +119,7 @@ answers_forced s old new c what whole h =
     get_here [] x ys = refl
     get_here (z ∷ xs) x ys = get_here xs x ys
 
--- ports as a line has them
+-- the ports of a line
 module _ {P : Type 0} (view : P → View) (turn : P → Write) where
   at_place : (xs : List P) (place : ℕ) (d : P) → place < length xs → slice_get (map (view_and_turn view turn) xs) place ≡ Some (view_and_turn view turn (get_or xs place d))
   at_place xs place d lt = slice_get-map (view_and_turn view turn) xs place ∙ ap (option_map (view_and_turn view turn)) (get_of xs place d lt)
@@ -145,7 +145,7 @@ module _ {P : Type 0} (view : P → View) (turn : P → Write) where
     after = subst (λ xs. MeetsOthers all_allowed place xs (map (view_and_turn view turn) new)) (map-set (view_and_turn view turn) met place a) after;
   }
 
-  -- ports of a line that was just opened
+  -- the ports of a line that was just opened
   pub new_whole : (label : ℕ) (config : LineConfig) (ports : List P) → MayOpen config → length config.opening.bytes ≡ 64 → AreNew label config (map view ports) → AreSynced (opened config) (map (view_and_turn view turn) ports)
   new_whole label config ports may long new = opened_whole label config (map (view_and_turn view turn) ports) may long (subst (AreNew label config) (sym (again ports)) new)
     where

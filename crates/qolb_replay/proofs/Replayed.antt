@@ -54,9 +54,10 @@ ends_step script k text after what e told more = record {
     summary : ℕ → Said
     summary = summary_of script.nodes (replay_of script)
 
--- Lines of some kind: which state of one owner each shows, and how many nodes it has.
+-- These lemmas hold for lines of any kind. They need the state of a line with one owner that each line represents, and
+-- its number of nodes.
 module _ {R : Type 0} (represents : R → OwnerState → Type 0) (nodes_of : R → ℕ) where
-  -- a line that was just opened, with counts that are all 0
+  -- a line that was just opened has counts that are all 0
   pub record IsNew (config : LineConfig) (t : CountingLine R) : Type 0 where
     pub nodes_are : nodes_of t.line ≡ config.nodes
     pub agrees : represents t.line (opened config)
@@ -71,7 +72,7 @@ module _ {R : Type 0} (represents : R → OwnerState → Type 0) (nodes_of : R �
     told_are = ap (λ c. c.told) new.nothing_said;
   }
 
-  -- no line, and one line more
+  -- no line, and then one more line
   pub none_opened : (config : LineConfig) → AreLinesOf represents nodes_of config.nodes (replay_start config 0) []
   none_opened config = record { len = refl; each = λ number d lt. absurd (omega arith) }
 
@@ -128,7 +129,7 @@ module _ {R : Type 0} (represents : R → OwnerState → Type 0) (nodes_of : R �
       longer : said_text_of (replay_step (replay_after script i) c) ≡ said_text_of (replay_after script i) ++ said_text (said_of (line_at (replay_after script i).lines (line_of c)) c)
       longer = text_more (replay_after script i).said (line_of c) (said_of (line_at (replay_after script i).lines (line_of c)) c)
 
-  -- the same, of a command at a place of a list, and of the line with its number
+  -- the same statement for a command at a place of a list, and for the line with the number of this command's line
   pub command_done : (script : Script) (i at : ℕ) (lines : List (CountingLine R)) (text after : List ℕ) (commands : List Command) (d : Command) (what : Said) (old new : CountingLine R)
       → Stands script i lines text → commands ≡ script.commands → i < length commands → at ≡ line_of (get_or commands i d) → IsInRange script
       → old ≡ get_or lines at old → Does represents nodes_of (get_or commands i d) what old new → after ≡ text ++ said_text what → Stands script (i + 1) (set lines at new) after

@@ -45,7 +45,7 @@ reaches_start detail script core is = record {
   one_each = refl;
 }
 
--- one more event, which told a word or was refused
+-- one more event, which returned a word or was refused
 pub reaches_step : (detail : Detail) (script : StepScript) (i : ℕ) (core after : State) (counts new : Counts) (text longer : List ℕ) (event : Event) (what : Heard)
     → (r : Reaches detail script i core counts text) → Tells (start_of script) (take i script.events ++ event ∷ []) (r.all ++ what ∷ []) after
     → take (i + 1) script.events ≡ take i script.events ++ event ∷ [] → Counted (said_by what) counts new → longer ≡ text ++ heard_text detail what
@@ -63,7 +63,7 @@ reaches_step detail script i core after counts new text longer event what r runs
     one_more : (test : Said → Bool) (n : ℕ) → n ≡ count_by test (map said_by r.all) → n + one_if (test (said_by what)) ≡ count_by test (map said_by (r.all ++ what ∷ []))
     one_more test n e = ap (λ m. m + one_if (test (said_by what))) e ∙ sym (ap (count_by test) (map-append said_by r.all (what ∷ [])) ∙ count_by_one_more test (map said_by r.all) (said_by what))
 
--- one more node
+-- the count of nodes that are in a call, wait or hold, with one more node
 pub nodes_busy_more : (c : State) (n : ℕ) (b : Bool) → is_busy (point c (n + 1)) ≡ b → nodes_busy (n + 1) c ≡ nodes_busy n c + one_if b
 nodes_busy_more c n b h =
     ap (λ k. nodes_busy k c) next
@@ -80,7 +80,7 @@ nodes_busy_more c n b h =
     same : 1 + n ≡ n + 1
     same = omega arith
 
--- one more step of the core, whatever its result
+-- one more step of the core, whatever its result is
 abbrev pub heard_after : Result Told NotEnabled → State → Heard
 heard_after r after = record { told = result_ok r; rank = rank after }
 
@@ -89,7 +89,7 @@ tells_more : (from : State) (events : List Event) (all : List Heard) (before aft
 tells_more from events all before after event (Ok t) runs step why same = told event t runs step
 tells_more from events all before after event (Err e) runs step why same = subst (λ c. Tells from (events ++ event ∷ []) (all ++ heard_after (Err e) c ∷ []) c) (sym same) (refused event e runs why)
 
--- the same, of an event at a place of a list
+-- the same statement for an event at a place of a list
 pub step_done : (detail : Detail) (script : StepScript) (i : ℕ) (core after : State) (counts new : Counts) (text longer : List ℕ) (events : List Event) (d : Event) (r : Result Told NotEnabled) (what : Option Told) (said : Said)
     → Reaches detail script i core counts text → events ≡ script.events → i < length events
     → IfOk r (λ t. Step core (get_or events i d) t after) → IfErr r (λ e. IsRefused core (get_or events i d) e) → OnErr r (after ≡ core)

@@ -18,19 +18,19 @@ one : (b : Bool) → 0 + cond b 1 0 ≡ one_if b
 one true = refl
 one false = refl
 
--- one more element
+-- the count over a list with one more element
 pub count_by_one_more : {X : Type 0} (p : X → Bool) (xs : List X) (x : X) → count_by p (xs ++ x ∷ []) ≡ count_by p xs + one_if (p x)
 count_by_one_more p xs x =
     let both : count_by p (xs ++ x ∷ []) ≡ count_by p xs + count_by p (x ∷ []) = sum_by-append (λ y. cond (p y) 1 0) xs (x ∷ []) in
     both ∙ ap (λ n. count_by p xs + n) (one (p x))
 
--- one more number
+-- a range that is one number longer
 pub range_more : (a n : ℕ) → range_with_len a (suc n) ≡ range_with_len a n ++ (a + n) ∷ []
 range_more a zero = let same : a ≡ a + 0 = omega arith in ap (λ k. k ∷ []) same
 range_more a (suc n) = let same : (a + 1) + n ≡ a + suc n = omega arith in
     ap (λ xs. a ∷ xs) (range_more (a + 1) n ∙ ap (λ k. range_with_len (a + 1) n ++ k ∷ []) same)
 
--- one more node
+-- the count of nodes that wait or hold, with one more node
 pub nodes_left_more : (s : OwnerState) (n : ℕ) (b : Bool) → (is_queued (state_of s (suc n)) || is_holding (state_of s (suc n))) ≡ b → nodes_left (suc n) s ≡ nodes_left n s + one_if b
 nodes_left_more s n b h =
     ap (count_by test) (range_more 1 n ∙ ap (λ k. range_with_len 1 n ++ k ∷ []) same)
@@ -43,7 +43,7 @@ nodes_left_more s n b h =
     same : 1 + n ≡ suc n
     same = omega arith
 
--- one more answer of line `at`, as line `number` counts it
+-- one more answer on line `at`, as line `number` counts it
 times_more : (test : Said → Bool) (number at : ℕ) (before : List (ℕ × Said)) (what : Said) (same : Bool) → (at == number) ≡ same → times_said test number (before ++ (at, what) ∷ []) ≡ times_said test number before + one_if (same && test what)
 times_more test number at before what same h = count_by_one_more (λ s. (s.0 == number) && test s.1) before (at, what) ∙ ap (λ b. times_said test number before + one_if (b && test what)) h
 
@@ -53,7 +53,7 @@ not_eq a b ne = ne_eqb a b ne
 eq_self : (a : ℕ) → (a == a) ≡ true
 eq_self a = eq-eqb a a refl
 
--- states of which the same is seen wait or hold alike
+-- states that look the same to a port agree on whether a node waits or holds
 pub left_seen : (a b : PortState) → seen a ≡ seen b → (is_queued a || is_holding a) ≡ (is_queued b || is_holding b)
 left_seen a b e = by a ∙ (ap (λ x. is_queued x || is_holding x) e ∙ sym (by b))
   where
@@ -81,7 +81,7 @@ module _ {R : Type 0} (represents : R → OwnerState → Type 0) (nodes_of : R �
   in_replay : line_of c < length r.lines
   in_replay = let e = are.len in omega arith
 
-  -- the line that did the command
+  -- the line that executed the command
   its_own : IsLineOf represents nodes_of nodes (replay_step r c) (line_of c) new
   its_own = record {
     nodes_are = does.nodes ∙ was.nodes_are;
@@ -95,7 +95,7 @@ module _ {R : Type 0} (represents : R → OwnerState → Type 0) (nodes_of : R �
       counted test n h = ap (λ m. m + one_if (test what)) h ∙ ap (λ w. times_said test (line_of c) r.said + one_if (test w)) said_is
           ∙ sym (times_more test (line_of c) (line_of c) r.said (said_of (line_at r.lines (line_of c)) c) true (eq_self (line_of c)))
 
-  -- another line
+  -- a line that did not execute the command
   others : (number : ℕ) (d : CountingLine R) → number < length lines → number ≢ line_of c → IsLineOf represents nodes_of nodes (replay_step r c) number (get_or lines number d)
   others number d lt ne = let was_so = are.each number d lt in record {
     nodes_are = was_so.nodes_are;

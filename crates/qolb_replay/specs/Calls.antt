@@ -14,11 +14,11 @@ use Rattle.qolb_script.specs.declared.reply_text.Said.TheVariants as said
 use Rattle.qolb_script.specs.Commands.{node_of}
 use Rattle.qolb_script.specs.Reply.{is_allowed}
 
--- the law of a replayed line, which allows every change
+-- the data invariant of a replayed line, which allows every change
 abbrev pub all_allowed : List ℕ → List ℕ → Type 0
 all_allowed old new = Unit {0}
 
--- what a command does that is allowed
+-- the effect of an allowed command
 abbrev pub Promises : Command → Said → ViewAndTurn → ViewAndTurn → Type 0
 Promises (command.Enq node line) what old new = (answer : Enq) × (what ≡ said.Enq answer) × Enqueues all_allowed old.view new.view new.turn answer
 Promises (command.Poll node line) what old new = (answer : Poll) × (what ≡ said.Poll answer) × Polls all_allowed old.view new.view new.turn answer
@@ -28,12 +28,12 @@ Promises (command.Out node line) what old new = (answer : Out) × (what ≡ said
 Promises (command.Shut node line) what old new = (what ≡ said.Shut) × Releases all_allowed true old.view new.view old.turn
 Promises (command.Write node line mask bytes) what old new = (what ≡ said.Written) × (new.view ≡ old.view) × (new.turn ≡ turn_after old.turn mask.0 bytes.bytes)
 
--- a command that is not allowed is misuse, and changes nothing
+-- A command that is not allowed is misuse, and does not change anything.
 pub record Calls (c : Command) (what : Said) (old new : ViewAndTurn) : Type 0 where
   pub allowed : is_allowed old.view.state c ≡ true → Promises c what old new
   pub refused : is_allowed old.view.state c ≡ false → (what ≡ said.Misuse) × (new ≡ old)
 
--- the node's port met all others, did the command, and met all others again
+-- the port of the node met all other ports, executed the command, and met all other ports again
 pub record AnswersByPort (c : Command) (what : Said) (old new : List ViewAndTurn) : Type 0 where
   pub place : ℕ
   pub of_node : place + 1 ≡ node_of c

@@ -22,7 +22,7 @@ use Rattle.qolb_replay.specs.declared.input.TheConstants.{MAX_BYTES}
 use Rattle.qolb_replay.specs.declared.steps.Detail.{Detail}
 use Rattle.qolb_replay.specs.declared.steps.Detail.TheVariants.{Words, Ranks}
 
--- what an event told, or that it was refused; and the rank of the state after it
+-- the word that an event returned, or that the event was refused, and the rank of the core after the event
 pub record Heard : Type 0 where
   pub told : Option Told
   pub rank : ℕ
@@ -30,14 +30,14 @@ pub record Heard : Type 0 where
 abbrev pub said_by : Heard → Said
 said_by heard = step_said heard.told
 
--- These events were tried one after another, from the core `from` to the last core. An event that was enabled told a word; an event
--- that was not is refused, tells none and changes nothing.
+-- These events were tried one after another, from the core `from` to the last core. An event that was enabled returned
+-- a word. An event that was not enabled was refused, returned no word, and did not change anything.
 pub data Tells (from : State) : List Event → List Heard → State → Type 0 where
   nothing : Tells from [] [] from
   told : {events : List Event} {all : List Heard} {before after : State} (event : Event) (what : Told) → Tells from events all before → Step before event what after → Tells from (events ++ event ∷ []) (all ++ record { told = Some what; rank = rank after } ∷ []) after
   refused : {events : List Event} {all : List Heard} {before : State} (event : Event) (why : NotEnabled) → Tells from events all before → IsRefused before event why → Tells from (events ++ event ∷ []) (all ++ record { told = None; rank = rank before } ∷ []) before
 
--- a node at this point is in a call, waits or holds
+-- a node at this point is in a call, waits or holds the line
 abbrev pub is_busy : Point → Bool
 is_busy point.Idle = false
 is_busy point.Ready = false
@@ -46,31 +46,31 @@ is_busy point.Rolled = false
 is_busy point.Shut = false
 is_busy p = true
 
--- how many of the nodes 1 to `nodes` are in a call, wait or hold
+-- the number of nodes from 1 to `nodes` that are in a call, wait or hold the line
 abbrev pub nodes_busy : ℕ → State → ℕ
 nodes_busy nodes c = count_by (λ n. is_busy (state.point c n)) (range_with_len 1 nodes)
 
--- the text of an event: a line with its word, and with the rank after it if `Ranks` are asked for
+-- the text for an event: a line with its word, followed by the rank if `detail` is `Ranks`
 abbrev pub heard_text : Detail → Heard → List ℕ
 heard_text Words heard = said_text (said_by heard)
 heard_text Ranks heard = ranked_text heard.told heard.rank
 
--- the reply: what each event told, and then the summary of the line
+-- the reply: the result of each event, followed by the summary of the line
 abbrev pub step_text : Detail → List Heard → State → List ℕ
 step_text detail all last = flat_map (heard_text detail) all ++ said_text (step_summary (map said_by all) (nodes_busy last.nodes last))
 
--- the configuration of a step script's line: zeros, the script's nodes and its lease
+-- the configuration of the line of a step script: zeros, the nodes of the script, and its lease
 abbrev pub line_of : StepScript → LineConfig
 line_of script = record { nodes = script.nodes; opening = record { bytes = zeros }; lease = script.lease }
 
--- the text is the reply of a run of the script
+-- the text is the reply to a run of the script
 pub record IsStepReply (detail : Detail) (script : StepScript) (text : List ℕ) : Type 0 where
   pub all : List Heard
   pub last : State
   pub runs : Tells (first (line_of script)) script.events all last
   pub text_is : text ≡ step_text detail all last
 
--- the bytes are a step script, and this is its reply
+-- the bytes are a step script, and the text is the reply to it
 pub record IsStepReplyTo (detail : Detail) (input text : List ℕ) : Type 0 where
   pub fits : length input ≤ MAX_BYTES
   pub script : StepScript

@@ -8,7 +8,7 @@ use Rattle.qolb_script.specs.Reply.{Replay, line_at, said_of, after_command, tim
 use Rattle.qolb_replay.specs.declared.line.Counts.{Counts}
 use Rattle.qolb_replay.specs.declared.line.CountingLine.{CountingLine}
 
--- 1 if the test passes, else 0
+-- 1 if the test passes, and 0 otherwise
 abbrev pub one_if : Bool → ℕ
 one_if test = if test then 1 else 0
 
@@ -18,7 +18,7 @@ pub record Counted (what : Said) (old new : Counts) : Type 0 where
   pub withdrawn : new.withdrawn ≡ old.withdrawn + one_if (is_withdrawn what)
   pub told : new.told ≡ old.told + one_if (is_told what)
 
--- no count is above n
+-- no count exceeds n
 pub record AreWithin (n : ℕ) (counts : Counts) : Type 0 where
   pub served : counts.served ≤ n
   pub withdrawn : counts.withdrawn ≤ n
@@ -28,16 +28,17 @@ pub record AreWithin (n : ℕ) (counts : Counts) : Type 0 where
 abbrev pub no_counts : Counts
 no_counts = record { served = 0; withdrawn = 0; told = 0 }
 
--- For lines of some kind: which state of one owner each shows, and how many nodes it has.
+-- These definitions hold for lines of any kind. They need the state of a line with one owner that each line represents,
+-- and its number of nodes.
 module _ {R : Type 0} (represents : R → OwnerState → Type 0) (nodes_of : R → ℕ) where
-  -- the line did a command, answered this, and counted the answer
+  -- the line executed a command, gave this answer, and counted the answer
   pub record Does (c : Command) (what : Said) (old new : CountingLine R) : Type 0 where
     pub said : (s : OwnerState) → represents old.line s → what ≡ said_of s c
     pub agrees : (s : OwnerState) → represents old.line s → represents new.line (after_command s c)
     pub nodes : nodes_of new.line ≡ nodes_of old.line
     pub counted : Counted what old.counts new.counts
 
-  -- the line is number `number` of the replay
+  -- this is line number `number` of the replay
   pub record IsLineOf (nodes : ℕ) (r : Replay) (number : ℕ) (t : CountingLine R) : Type 0 where
     pub nodes_are : nodes_of t.line ≡ nodes
     pub agrees : represents t.line (line_at r.lines number)

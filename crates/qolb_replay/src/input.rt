@@ -11,11 +11,11 @@ use std::io::Read;
 /// The largest number of bytes that a script may have.
 pub const MAX_BYTES: usize = 16_777_216;
 
-/// Reads the rest of the reader, at most `MAX_BYTES` bytes.
+/// Reads the rest of the input, up to `MAX_BYTES` bytes.
 ///
 /// # Errors
 ///
-/// `Memory`, `Read` or `Long`.
+/// Returns `Memory` if an allocation failed, `Read` if the reader failed, and `Long` if the input has more bytes.
 pub fn read_all<A: Allocator, R: Read>(
     alloc: A,
     reader: &mut Watched<R>,

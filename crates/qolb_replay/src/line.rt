@@ -15,21 +15,21 @@ use qolb_model::{Enq, Free, LineSync, MAX_NODES, Out, Poll, PortState};
 use qolb_script::{Command, Said};
 use std::marker::Model;
 
-/// A line of a replay. Nodes are numbered from 1.
+/// A line in a replay. Nodes are numbered from 1.
 pub trait ReplayLine {
-    /// Refinement mapping: the line shows this state of a line with one owner.
+    /// The refinement mapping: the line represents this state of a line with one owner.
     ghost represents: { Self → OwnerState → Type 0 };
 
     /// The number of the line's nodes.
     ghost nodes_of: { Self → ℕ };
 
-    /// Returns the node's state, as far as it decides which calls are allowed.
+    /// Returns the state of the node, as far as the state determines which calls are allowed.
     fn state(&self, node: u64) -> PortState
         requires first { 1 ≤ node }
         requires last { node ≤ nodes_of self.now }
         ensures { (s : OwnerState) → represents self.now s → seen result ≡ seen (state_of s node) };
 
-    /// Does the command if the node's state allows it, and else answers misuse.
+    /// Executes the command if the state of the node allows it, and otherwise answers that the command is misuse.
     fn answer(&mut self, command: &Command) -> Said
         requires first { 1 ≤ node_of command.now }
         requires last { node_of command.now ≤ nodes_of self.old }
@@ -52,7 +52,7 @@ pub fn allows(state: PortState, command: &Command) -> bool
 
 /// A line with the ports of its nodes, in the order of the nodes.
 ///
-/// Contracts see the ports alone: the view of each, and the turn of its holder.
+/// Contracts see only the ports: the view of each port, and the turn of its holder.
 #[derive(Drop)]
 pub struct PortedLine<L: LineSync<Free> + Drop>
 where
@@ -81,7 +81,7 @@ impl<L: LineSync<Free> + Drop> PortedLine<L>
 where
     L::Port: Drop,
 {
-    /// Wraps a line that was just opened, with the ports of its nodes in order.
+    /// Wraps a line that was just opened, together with the ports of its nodes in order.
     pub fn new(line: L, ports: Vec<L::Port>) -> PortedLine<L>
         requires belongs { All (L.belongs line) ports.items }
         requires bytes { length (L.config_of line).opening.bytes ≡ 64 }
@@ -111,7 +111,10 @@ where
     }
 }
 
-/// Does the command by the port of its node. That port meets each other port before and after the call, so its answer is a single owner's.
+/// Executes the command through the port of its node.
+///
+/// The port meets every other port before and after the call. The answer is therefore the answer of a line with a
+/// single owner.
 fn answer<L: LineSync<Free>>(line: &L, ports: &mut [L::Port], command: &Command) -> Said
     requires first { 1 ≤ node_of command.now }
     requires last { node_of command.now ≤ length ports.old }
@@ -127,7 +130,8 @@ fn answer<L: LineSync<Free>>(line: &L, ports: &mut [L::Port], command: &Command)
     said
 }
 
-/// Does the command by this port if its state allows it, and else answers misuse.
+/// Executes the command through this port if the state of the port allows it, and otherwise answers that the command is
+/// misuse.
 fn call<L: LineSync<Free>>(line: &L, port: &mut L::Port, command: &Command) -> Said
     requires belongs { L.belongs line.now port.old }
     ensures belongs { L.belongs line.now port.new }
@@ -157,7 +161,7 @@ fn call<L: LineSync<Free>>(line: &L, port: &mut L::Port, command: &Command) -> S
     }
 }
 
-/// Counts the ends of requests in the answers: served, withdrawn, told closed.
+/// The numbers of requests that ended in each way: served, withdrawn, and notified that the line is closed.
 #[derive(Clone, Copy)]
 pub struct Counts {
     pub served: u64,
@@ -180,7 +184,7 @@ impl Counts {
         }
     }
 
-    /// Counts `said`, the answer of a call or of an event.
+    /// Adds `said`, the answer of a call or of an event, to the counts.
     pub fn add(&mut self, said: &Said)
         requires { AreWithin (2 ^ 64 - 2) self.old }
         ensures { Counted said.now self.old self.new }
@@ -198,7 +202,7 @@ impl Counts {
         }
     }
 
-    /// Returns the last answer of line number `line`, of which `left` nodes wait or hold.
+    /// Returns the last answer of line number `line`, at which `left` nodes still wait or hold.
     pub fn summary(self, line: u64, left: u64) -> Said
         ensures { result ≡ Said.Summary line self.served self.withdrawn self.told left }
     {
@@ -212,7 +216,7 @@ impl Counts {
     }
 }
 
-/// A line of a replay, with the counts of its answers.
+/// A line in a replay, together with the counts of its answers.
 #[derive(Drop)]
 pub struct CountingLine<R> {
     pub line: R,
@@ -225,7 +229,7 @@ impl<R: ReplayLine> CountingLine<R> {
     ghost use Rattle.qolb_script.specs.Reply.{Replay, summary_of};
     ghost use Rattle.qolb_replay.specs.Tallies.{AreWithin, Does, IsLineOf, no_counts};
 
-    /// Wraps a line of a replay, with counts that are all 0.
+    /// Wraps a line in a replay, with counts that are all 0.
     pub fn new(line: R) -> CountingLine<R>
         ensures { result ≡ record { line = line; counts = no_counts } }
     {
@@ -235,7 +239,7 @@ impl<R: ReplayLine> CountingLine<R> {
         }
     }
 
-    /// Does a command, and counts its answer.
+    /// Executes a command, and counts its answer.
     pub fn take(&mut self, command: &Command) -> Said
         requires first { 1 ≤ node_of command.now }
         requires last { node_of command.now ≤ R.nodes_of self.old.line }
@@ -247,7 +251,8 @@ impl<R: ReplayLine> CountingLine<R> {
         said
     }
 
-    /// Returns the summary of the line: its number, its counts, and how many of the nodes wait or hold.
+    /// Returns the summary of the line: its number, its counts, and the number of nodes that wait at the line or hold
+    /// it.
     pub fn summary(&self, number: u64, nodes: u64) -> Said
         requires in_range { nodes ≤ MAX_NODES }
         requires nodes { nodes ≤ R.nodes_of self.now.line }
@@ -259,14 +264,14 @@ impl<R: ReplayLine> CountingLine<R> {
     }
 }
 
-/// Returns `true` if a node in this state waits at its line or holds it.
+/// Returns `true` if a node in this state waits at its line or holds the line.
 fn is_left(state: PortState) -> bool
     ensures { result ≡ (is_queued state || is_holding state) }
 {
     matches!(state, PortState::Queued | PortState::Holding)
 }
 
-/// Returns how many of the nodes wait at the line or hold it.
+/// Returns the number of nodes that wait at the line or hold it.
 fn nodes_left_at<R: ReplayLine>(line: &R, nodes: u64) -> u64
     requires in_range { nodes ≤ MAX_NODES }
     requires nodes { nodes ≤ R.nodes_of line.now }

@@ -23,7 +23,8 @@ impl ReplayLine for PlainLine {
     }
 }
 
-/// Does the command on the line if the node's state allows it, and else answers misuse.
+/// Executes the command on the line if the state of the node allows it, and otherwise answers that the command is
+/// misuse.
 fn answer(line: &mut PlainLine, command: &Command) -> Said
     requires first { 1 ≤ node_of command.now }
     requires last { node_of command.now ≤ line.old.nodes }

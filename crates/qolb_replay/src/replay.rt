@@ -19,10 +19,10 @@ use std::alloc::{AllocError, Allocator, Global};
 use std::io::{Read, Write};
 use thiserror::Error;
 
-/// Why a schedule could not be replayed.
+/// The error of a script that could not be replayed.
 #[derive(Clone, Copy, Debug, PartialEq, Eq, Error)]
 pub enum ReplayError {
-    /// A growth of memory was refused.
+    /// An allocation failed.
     #[error("out of memory")]
     Memory,
     /// The reader failed.
@@ -31,16 +31,16 @@ pub enum ReplayError {
     /// The input has more bytes than a script may have.
     #[error("script too long")]
     Long,
-    /// The input is no schedule.
+    /// The input is not a script of the expected kind.
     #[error(transparent)]
     Script(ScriptError),
-    /// The writer failed, or took no byte.
+    /// The writer failed, or did not take any byte.
     #[error("write fault")]
     Write,
 }
 
 impl ReplayError {
-    /// The error's number.
+    /// Returns the number of the error.
     pub fn number(&self) -> u8
         ensures memory { self.now ≡ ReplayError.Memory → result ≡ 1 }
         ensures read { self.now ≡ ReplayError.Read → result ≡ 2 }
@@ -85,10 +85,11 @@ impl From<Fault> for ReplayError {
     }
 }
 
-/// Replays the schedule that the reader gives by lines that nodes share, of this type, and writes its reply, which is the same for each type.
+/// Replays the schedule from the reader on shared lines of this type, and writes the reply.
 ///
-/// The whole input is read first, and the reply is built whole before its first byte is written: with every error but `Write`
-/// nothing was written.
+/// The reply is the same for every type of line. The function reads the whole input first, and builds the whole reply
+/// before it writes the first byte. Therefore nothing was written unless the call succeeds or returns the error
+/// `Write`.
 pub fn run_schedule_over<L: OpenLine<Free> + Drop, R: Read, W: Write>(
     alloc: Global,
     reader: &mut Watched<R>,
@@ -105,7 +106,7 @@ where
     Ok(())
 }
 
-/// What the lines of a schedule are opened with.
+/// The parameters with which the lines of a schedule are opened.
 fn config_for<A: Allocator>(schedule: &Schedule<A>) -> LineConfig
     ensures { result ≡ config_of schedule.now }
 {
@@ -116,7 +117,7 @@ fn config_for<A: Allocator>(schedule: &Schedule<A>) -> LineConfig
     }
 }
 
-/// The reply of the schedule that the input is, by plain lines.
+/// Returns the reply to the schedule in the input, replayed on plain lines.
 pub fn answered_plainly<A: Allocator + Copy>(
     alloc: A,
     input: &[u8],
@@ -130,8 +131,9 @@ pub fn answered_plainly<A: Allocator + Copy>(
     Ok(reply(alloc, &schedule, lines)?)
 }
 
-/// The reply of the schedule that the input is. Lines that nodes share and their ports lie in memory of `shared`, all else in memory of
-/// `alloc`.
+/// Returns the reply to the schedule in the input.
+///
+/// Shared lines and their ports are allocated from `shared`, and everything else is allocated from `alloc`.
 pub fn answered_over<A: Allocator + Copy, L: OpenLine<Free> + Drop>(
     alloc: A,
     shared: Global,
@@ -148,7 +150,7 @@ where
     Ok(reply(alloc, &schedule, lines)?)
 }
 
-/// The reply of a schedule, by these lines, of which nothing was said yet.
+/// Returns the reply to a schedule, replayed on these lines, which have not answered any command yet.
 fn reply<A: Allocator, R: ReplayLine + Drop>(
     alloc: A,
     schedule: &Schedule<A>,
@@ -171,7 +173,7 @@ fn reply<A: Allocator, R: ReplayLine + Drop>(
     Ok(text)
 }
 
-/// Lines that are opened so, of which nothing was said.
+/// Returns plain lines that were opened with these parameters and have not answered any command yet.
 fn open_lines<A: Allocator>(
     alloc: A,
     config: &LineConfig,
@@ -192,7 +194,7 @@ fn open_lines<A: Allocator>(
     Ok(all)
 }
 
-/// Lines that nodes share, opened so, of which nothing was said.
+/// Returns shared lines that were opened with these parameters and have not answered any command yet.
 fn open_ported<A: Allocator, L: OpenLine<Free> + Drop>(
     alloc: A,
     shared: Global,

@@ -18,19 +18,20 @@ use qolb_script::{Said, ScriptError, Steps, Watched, push_ranked, push_said, rea
 use std::alloc::{AllocError, Allocator};
 use std::io::{Read, Write};
 
-/// What is written of each event of a step script.
+/// What the reply says about each event of a step script.
 #[derive(Clone, Copy, Debug, PartialEq, Eq)]
 pub enum Detail {
-    /// The word that it told.
+    /// The word that the event returned.
     Words,
-    /// The word, and then the core's rank after the event: how many productive events can follow each other from there.
+    /// The word, followed by the rank of the core after the event. The rank is the number of productive events that can
+    /// follow each other from this core.
     Ranks,
 }
 
-/// Runs the step script that the reader gives on a core of reversed links, and writes the word that each event told.
+/// Runs the step script from the reader on a core of a link line, and writes the word that each event returned.
 ///
-/// Reads the whole input first, and builds the whole reply before it writes the first byte. So with every error but `Write` no byte was
-/// written.
+/// The function reads the whole input first, and builds the whole reply before it writes the first byte. Therefore
+/// nothing was written unless the call succeeds or returns the error `Write`.
 pub fn run_steps<A: Allocator, R: Read, W: Write>(
     alloc: A,
     reader: &mut Watched<R>,
@@ -42,10 +43,10 @@ pub fn run_steps<A: Allocator, R: Read, W: Write>(
     run_steps_with(alloc, reader, writer, Detail::Words)
 }
 
-/// Runs a step script as `run_steps` does, and writes of each event what `detail` names.
+/// Runs a step script as `run_steps` does, and writes for each event what `detail` selects.
 ///
-/// Reads the whole input first, and builds the whole reply before it writes the first byte. So with every error but `Write` no byte was
-/// written.
+/// The function reads the whole input first, and builds the whole reply before it writes the first byte. Therefore
+/// nothing was written unless the call succeeds or returns the error `Write`.
 pub fn run_steps_with<A: Allocator, R: Read, W: Write>(
     alloc: A,
     reader: &mut Watched<R>,
@@ -61,7 +62,7 @@ pub fn run_steps_with<A: Allocator, R: Read, W: Write>(
     Ok(())
 }
 
-/// The reply of the step script that the input is.
+/// Returns the reply to the step script in the input.
 pub fn answer_steps<A: Allocator + Copy>(
     alloc: A,
     input: &[u8],
@@ -69,7 +70,7 @@ pub fn answer_steps<A: Allocator + Copy>(
 ) -> Result<Vec<u8, A>, ReplayError>
     ensures ok { IfOk result (λ text. length input.now ≤ MAX_BYTES
         → IsStepReplyTo detail input.now text.items) }
-    // Also of more bytes than `read_all` gives.
+    // This clause also covers inputs of more bytes than `read_all` returns.
     ensures any_length { IfOk result (λ text. (script : StepScript)
         × (steps_of input.now ≡ Ok script) × IsStepReply detail script text.items) }
     ensures refused { IfErr result (HasNoStepReply input.now) }
@@ -79,7 +80,7 @@ pub fn answer_steps<A: Allocator + Copy>(
     Ok(reply(alloc, &steps, detail)?)
 }
 
-/// Returns the reply of a step script.
+/// Returns the reply to a step script.
 fn reply<A: Allocator + Clone>(
     alloc: A,
     steps: &Steps<A>,
@@ -107,7 +108,9 @@ fn reply<A: Allocator + Clone>(
     Ok(text)
 }
 
-/// Appends the text of an event that told this and left this core. If memory is refused the text is unchanged.
+/// Appends the text for an event with this result and this core after it.
+///
+/// If an allocation fails, the text is unchanged.
 fn push_heard<A: Allocator>(
     text: &mut Vec<u8, A>,
     told: Option<Told>,
@@ -124,7 +127,7 @@ fn push_heard<A: Allocator>(
     }
 }
 
-/// Returns the answer of an event: the word that it told, or that it was refused.
+/// Returns the answer to an event: the word that the event returned, or that the event was refused.
 fn said_of(told: Option<Told>) -> Said
     ensures { result ≡ step_said told }
 {
@@ -134,7 +137,7 @@ fn said_of(told: Option<Told>) -> Said
     }
 }
 
-/// Returns `true` if a node at this point is in a call, waits or holds.
+/// Returns `true` if a node at this point is in a call, waits or holds the line.
 fn is_busy_at(point: Point) -> bool
     ensures { result ≡ is_busy point }
 {
@@ -144,7 +147,7 @@ fn is_busy_at(point: Point) -> bool
     )
 }
 
-/// Returns how many nodes are in a call, wait or hold.
+/// Returns the number of nodes that are in a call, wait or hold the line.
 fn nodes_left(core: &Core) -> u64
     ensures { result ≡ nodes_busy core.now.nodes core.now }
 {

@@ -20,11 +20,11 @@ too_many place off hex (Ok bytes) same long =
     let past : nat_le (off + length bytes) 64 ≡ false = grind (arith, nat_tests) in
     rw past refl
 
--- more bytes than a line has are refused
+-- a word for more bytes than a line has is refused
 pub placed_at-long : (place off : ℕ) (hex : List ℕ) → 64 < length hex / 2 → Err (Fit place) ≡ placed_at place off hex (decode_of hex)
 placed_at-long place off hex long = too_many place off hex (decode_of hex) refl long
 
--- a word of few digits that are not decoded is not hex
+-- a short word that does not decode is not hex
 no_hex : (place off : ℕ) (hex : List ℕ) (d : Result (List ℕ) FromHexError) → length hex / 2 ≤ 64 → is_err d ≡ true → Err (Hex place) ≡ placed_at place off hex d
 no_hex place off hex (Ok bytes) short bad = cc
 no_hex place off hex (Err e) short bad =
@@ -56,14 +56,14 @@ decoded_so (Ok bytes) r out h ok = ap Ok (sym h.1)
 decoded_so (Err e) (Ok u) out h ok = cc
 decoded_so (Err e) (Err f) out h ok = cc
 
--- the decoded bytes
+-- decoding into a buffer of the right size returns the decoded bytes
 pub decoded : (hex : List ℕ) (n : ℕ) (r : Result (Unit {0}) FromHexError) (out : List ℕ)
     → MatchResult (decode_sized hex n) (λ bytes. (r ≡ Ok tt) × (out ≡ bytes)) (λ e. r ≡ Err e) → is_err r ≡ false → decode_of hex ≡ Ok out
 decoded hex n r out h ok =
     let sized = decoded_so (decode_sized hex n) r out h ok in
     sym (decode_sized-twice hex n (decode_sized-ok hex n out sized)) ∙ sized
 
--- bytes that fit are placed
+-- bytes that fit are placed into the line
 pub placed_at-fits : (place off : ℕ) (mask : Mask) (bytes : Line64) (hex «data» : List ℕ) → decode_of hex ≡ Ok «data» → off + length «data» ≤ 64
     → mask.0 ≡ placed_mask off (length «data») → bytes.bytes ≡ placed_line off «data» → Ok (mask, bytes) ≡ placed_at place off hex (decode_of hex)
 placed_at-fits place off mask bytes hex «data» same fits m b =

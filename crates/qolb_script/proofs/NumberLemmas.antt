@@ -17,14 +17,14 @@ pub all_digits : (word : List ℕ) → list_all is_ascii_digit word ≡ all_asci
 all_digits [] = refl
 all_digits (b ∷ bs) = ap (λ t. is_ascii_digit b && t) (all_digits bs)
 
--- a text of digits is a number's, and is UTF-8
+-- a text that consists of digits denotes a number, and is UTF-8
 digits : IsNumeralModel (λ ds. all_ascii_digits ds ≡ true) (digits_value 10)
 digits = numerals_by_value _ tells_all_ascii_digits
 
 IsUtf8-digits : (word : List ℕ) → all_ascii_digits word ≡ true → IsUtf8 word
 IsUtf8-digits word h = IsUtf8-from_ascii word (IsAscii-from_digits word (digits.to word h))
 
--- a word that is too long, or has another byte than digits, is no number
+-- a word that is too long or contains a byte that is not a digit does not denote a number
 not_second : (a c d : Bool) (v : ℕ) → (if a && false && c && d then Some v else None) ≡ None
 not_second true c d v = refl
 not_second false c d v = refl
@@ -51,7 +51,7 @@ number_of-other word h =
     sym (ap (λ b. if nat_le 1 (length word) && nat_le (length word) 20 && b && nat_lt (digits_value 10 word) (2 ^ 64) then Some (digits_value 10 word) else None) h
     ∙ not_third (nat_le 1 (length word)) (nat_le (length word) 20) (nat_lt (digits_value 10 word) (2 ^ 64)) (digits_value 10 word))
 
--- what is parsed is the number of a word that is not too long and has digits alone
+-- parsing returns the number of a word, if the word is not too long and consists of digits
 picked : {E : Type 0} (n v m : ℕ) (c : Bool) (r : Result ℕ E) → n ≤ 20 → c ≡ true → OkIff r ((0 < n) × (v < m)) v
     → result_ok r ≡ (if nat_le 1 n && nat_le n 20 && c && nat_lt v m then Some v else None)
 picked n v m c (Ok x) short same h =
@@ -71,7 +71,7 @@ pub number_parsed : {E : Type 0} (word : List ℕ) (r : Result ℕ E) → length
     → result_ok r ≡ number_of word
 number_parsed word r short all h = picked (length word) (digits_value 10 word) (2 ^ 64) (all_ascii_digits word) r short all (parse_digits digits 64 word r h all)
 
--- digits are read as a text, which is theirs
+-- digits are decoded to a text with the same bytes
 pub text_read : {E : Type 0} (P : E → Type 0) (word : List ℕ) (r : Result (Bor (List ℕ)) E) → all_ascii_digits word ≡ true
     → MatchResult r (λ s. (s.now ≡ word) × IsUtf8 word) (λ e. (IsUtf8 word → ⊥) × P e) → result_ok r ≡ None → ⊥
 text_read P word (Ok s) all h none = cc

@@ -12,7 +12,7 @@ use Rattle.qolb_script.specs.Refusals.{error_of, line_error, of_line, with_error
 use Rattle.qolb_script.specs.Commands.{read_line}
 use Rattle.qolb_script.specs.Script.{followed_by, items_of, made_of, script_under}
 
--- the items that were read, and those of the other lines
+-- the items that were read, followed by the items of the remaining lines
 abbrev pub onto : {A : Type 0} → List A → Result (List A) Refusal → Result (List A) Refusal
 onto read (Ok rest) = Ok (read ++ rest)
 onto read (Err why) = Err why
@@ -21,7 +21,7 @@ onto-followed_by : {A : Type 0} (read : List A) (item : A) (rest : Result (List 
 onto-followed_by read item (Ok rest) = ap Ok (sym (append_assoc read (item ∷ []) rest))
 onto-followed_by read item (Err why) = refl
 
--- one item more
+-- one more item is read
 pub longer : {A : Type 0} (read after : List A) (item : A) → after ≡ read ++ item ∷ [] → length after ≡ length read + 1
 longer read after item pushed = ap length pushed ∙ length-append read (item ∷ [])
 
@@ -40,7 +40,7 @@ item_read {A} item_of all read after left rest number line item was few next fou
     ∙ onto-followed_by read item others ∙ ap (λ xs. onto xs others) (sym pushed)
     ∙ ap (λ n. onto after (items_of item_of n rest)) (sym (longer read after item pushed))
 
--- the first of these lines has an item: it is read now, or was read before
+-- the first of these lines is an item: it is read now, or it was read before
 first_read : {A : Type 0} (item_of : List (List ℕ) → Result A Reason) (number : ℕ) (line : List ℕ) (item : A) (rest : List (ℕ × List ℕ)) → read_line item_of line ≡ Ok item
     → IsOk (items_of item_of 0 (take 1 ((number, line) ∷ rest)))
 first_read item_of number line item rest found = subst (λ r. IsOk (followed_by (of_line number r) (Ok []))) (sym found) refl
@@ -52,7 +52,7 @@ begun item_of [] all left rest number line item first before next found =
     subst (λ lines. IsOk (items_of item_of 0 (take 1 lines))) (sym next ∙ first refl) (first_read item_of number line item rest found)
 begun item_of (x ∷ xs) all left rest number line item first before next found = before (omega arith)
 
--- a script that is read, in part or whole, has a header and a first item that are not refused
+-- if a script is read in part or as a whole, neither its header nor its first item is refused
 pub begun_under : {H A S : Type 0} (item_of : H → List (List ℕ) → Result A Reason) (make : H → List A → S) (header : H) (rest : List (ℕ × List ℕ)) → IsOk (items_of (item_of header) 0 (take 1 rest))
     → IsOk (script_under item_of make (Ok header) (take 1 rest))
 begun_under {A = A} {S = S} item_of make header rest ok = made (make header) (items_of (item_of header) 0 (take 1 rest)) ok
@@ -73,7 +73,7 @@ whole_begun item_of make (Ok header) [] ok = ok
 whole_begun item_of make (Ok header) (line ∷ rest) ok =
     first_of_all (make header) (of_line line.0 (read_line (item_of header) line.1)) (items_of (item_of header) 1 rest) ok
 
--- only a refused growth has the error of one
+-- only a failed allocation has the error `Memory`
 memory_only : (n : ℕ) (why : Reason) → line_error n why ≡ error.Memory → ⊥
 memory_only n (reason.Number place low high) e = cc
 memory_only n reason.TooMany e = cc

@@ -18,12 +18,12 @@ no_commands : reply_to (codes "nodes 1 lines 1\n") ≡ Ok (codes "line 0 served 
 unfolding digits
 no_commands = refl
 
--- one node hands the line over to another, with a write
+-- one node writes, and hands the line over to another node
 handed_over : reply_to (codes "nodes 2 lines 1\nenq 1 0\nwrite 1 0 0 a1b2\nenq 2 0\npoll 2 0\ndeq 1 0\npoll 2 0\nshow 2 0\ndeq 2 0\n") ≡ Ok (codes "granted\nok\nqueued\nwaiting\nreleased\ngranted\na1b2" ++ replicate 124 48 ++ codes "\nreleased\nline 0 served 2 withdrawn 0 told 0 left 0\n")
 unfolding digits encode_with decode_pairs
 handed_over = refl
 
--- the last place of a line can be written, and no place behind it
+-- a write can reach the last byte of a line, and no byte after it
 last_place : reply_to (codes "nodes 1 lines 1\nenq 1 0\nwrite 1 0 63 ff\nshow 1 0\n") ≡ Ok (codes "granted\nok\n" ++ replicate 126 48 ++ codes "ff\nline 0 served 0 withdrawn 0 told 0 left 1\n")
 unfolding digits encode_with decode_pairs
 last_place = refl
@@ -32,37 +32,37 @@ behind_the_last_place : reply_to (codes "nodes 1 lines 1\nenq 1 0\nwrite 1 0 63 
 unfolding decode_pairs
 behind_the_last_place = refl
 
--- commands in states that do not allow them
+-- commands that the state of the node does not allow
 misuses : reply_to (codes "nodes 1 lines 1\npoll 1 0\ndeq 1 0\nenq 1 0\nenq 1 0\ndeq 1 0\n") ≡ Ok (codes "misuse\nmisuse\ngranted\nmisuse\nreleased\nline 0 served 1 withdrawn 0 told 0 left 0\n")
 unfolding digits
 misuses = refl
 
--- the oldest request is served first, whatever its node
+-- the oldest request is served first, whichever node made the request
 in_order : reply_to (codes "nodes 4 lines 1\nenq 4 0\nenq 3 0\nenq 1 0\nenq 2 0\ndeq 4 0\npoll 1 0\npoll 3 0\ndeq 3 0\npoll 2 0\npoll 1 0\ndeq 1 0\npoll 2 0\n") ≡ Ok (codes "granted\nqueued\nqueued\nqueued\nreleased\nwaiting\ngranted\nreleased\nwaiting\ngranted\nreleased\ngranted\nline 0 served 3 withdrawn 0 told 0 left 1\n")
 unfolding digits
 in_order = refl
 
--- a withdrawn node is busy until a release passes it
+-- a node that has withdrawn is busy until a release skips its request
 withdrawn : reply_to (codes "nodes 3 lines 1\nenq 1 0\nenq 2 0\nenq 3 0\nout 2 0\nenq 2 0\ndeq 1 0\nenq 2 0\npoll 3 0\ndeq 3 0\npoll 2 0\n") ≡ Ok (codes "granted\nqueued\nqueued\nwithdrawn\nbusy\nreleased\nqueued\ngranted\nreleased\ngranted\nline 0 served 2 withdrawn 1 told 0 left 1\n")
 unfolding digits
 withdrawn = refl
 
--- each request that is at its turn on a closed line is told
+-- on a closed line, every request whose turn comes is notified of the closing
 closed : reply_to (codes "nodes 3 lines 1\nenq 1 0\nenq 2 0\nenq 3 0\nshut 1 0\npoll 3 0\npoll 2 0\npoll 3 0\nenq 1 0\nenq 2 0\n") ≡ Ok (codes "granted\nqueued\nqueued\nshut\nwaiting\nclosed\nclosed\nclosed\nclosed\nline 0 served 1 withdrawn 0 told 4 left 0\n")
 unfolding digits
 closed = refl
 
--- two lines do not share anything
+-- two lines do not share any state
 two_lines : reply_to (codes "nodes 2 lines 2\nenq 1 0\nenq 2 1\nenq 1 1\ndeq 2 1\npoll 1 1\nshut 1 1\nenq 2 1\nenq 2 0\nout 2 0\n") ≡ Ok (codes "granted\ngranted\nqueued\nreleased\ngranted\nshut\nclosed\nqueued\nwithdrawn\nline 0 served 0 withdrawn 1 told 0 left 1\nline 1 served 2 withdrawn 0 told 1 left 0\n")
 unfolding digits
 two_lines = refl
 
--- the second of two turns closes the line
+-- with a lease of two acquisitions, the second one closes the line
 leased : reply_to (codes "nodes 2 lines 1 lease 2\nenq 1 0\nwrite 1 0 0 07\nenq 2 0\ndeq 1 0\npoll 2 0\nenq 1 0\ndeq 2 0\npoll 1 0\nenq 2 0\n") ≡ Ok (codes "granted\nok\nqueued\nreleased\ngranted\nqueued\nreleased\nclosed\nclosed\nline 0 served 2 withdrawn 0 told 2 left 0\n")
 unfolding digits decode_pairs
 leased = refl
 
--- a withdrawn request uses no turn
+-- a withdrawn request does not count against the lease
 leased_and_withdrawn : reply_to (codes "nodes 3 lines 1 lease 2\nenq 1 0\nenq 2 0\nenq 3 0\nout 2 0\ndeq 1 0\npoll 3 0\ndeq 3 0\nenq 1 0\n") ≡ Ok (codes "granted\nqueued\nqueued\nwithdrawn\nreleased\ngranted\nreleased\nclosed\nline 0 served 2 withdrawn 1 told 1 left 0\n")
 unfolding digits
 leased_and_withdrawn = refl
@@ -73,7 +73,7 @@ no_turns = refl
 no_number_of_turns : reply_to (codes "nodes 1 lines 1 lease") ≡ Err (BadLine 1)
 no_number_of_turns = refl
 
--- of two faults of a header a wrong word is named first
+-- of two faults in a header, a wrong word is named first
 wrong_word_first : reply_to (codes "nodes 0 lines 1 leash 1") ≡ Err (BadLine 1)
 wrong_word_first = refl
 
@@ -87,7 +87,7 @@ leased_steps = refl
 no_turns_of_steps : steps_of (codes "nodes 1 lease 0") ≡ Err (Number 1)
 no_turns_of_steps = refl
 
--- first faults: no header, a number out of its range, a missing word
+-- first faults: no header, a number that is out of its range, and a missing word
 nothing : reply_to [] ≡ Err (BadLine 1)
 nothing = refl
 
@@ -100,7 +100,7 @@ no_such_node = refl
 no_line : reply_to (codes "nodes 2 lines 1\nenq 1") ≡ Err (BadLine 2)
 no_line = refl
 
--- step scripts: events in order, and first faults
+-- step scripts: the events in order, and first faults
 two_lines_of_steps : steps_of (codes "nodes 2\nlink 2") ≡ Ok (record { nodes = 2; lease = None; events = Link 2 ∷ [] })
 two_lines_of_steps = refl
 
@@ -117,7 +117,8 @@ write_past_the_end : steps_of (codes "nodes 2\nwrite 1 63 ffff") ≡ Err (BadLin
 unfolding decode_pairs
 write_past_the_end = refl
 
--- the text of a request that is served and of one that is told of the closed line, with one event refused between them
+-- the text for a request that is served and a request that is notified of the closed line, with a refused event between
+-- them
 said_of_steps : text_of (map step_said (Some told.Went ∷ Some told.Granted ∷ Some told.Shut ∷ None ∷ Some told.Closed ∷ [])) ≡ codes "went\ngranted\nshut\nrefused\nclosed\n"
 said_of_steps = refl
 
@@ -125,7 +126,7 @@ summary_of_steps : text_of (step_summary (map step_said (Some told.Went ∷ Some
 unfolding digits
 summary_of_steps = refl
 
--- work scripts: jobs in order, and first faults
+-- work scripts: the jobs in order, and first faults
 work_on_a_board : work_of Board (codes "board workers 2\n2 put 5\n\n1 take\n") ≡ Ok (record { kind = Board; workers = 2; lines = 1; jobs = Put 2 5 ∷ Take 1 ∷ [] })
 work_on_a_board = refl
 
@@ -135,7 +136,7 @@ work_at_a_bank = refl
 no_such_account : work_of Bank (codes "bank workers 1 lines 1\n1 in 8 1\n") ≡ Err (Number 2)
 no_such_account = refl
 
--- an unknown job is bad whatever its worker
+-- an unknown job is bad, whatever its worker is
 unknown_job_first : work_of Board (codes "board workers 1\n2 give\n") ≡ Err (BadLine 2)
 unknown_job_first = refl
 

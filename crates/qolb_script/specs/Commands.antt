@@ -21,7 +21,7 @@ use Rattle.qolb_script.specs.declared.reason.Form.TheVariants as form
 use Rattle.qolb_script.specs.Refusals.{and_then, unless_same}
 use Rattle.qolb_script.specs.Text.{words_of, is_plain, number_within}
 
--- the node, and the line, that a command is of
+-- the node that makes a command, and the line that the command concerns
 abbrev pub node_of : Command → ℕ
 node_of (Enq node line) = node
 node_of (Poll node line) = node
@@ -40,7 +40,7 @@ line_of (Out node line) = line
 line_of (Shut node line) = line
 line_of (Write node line mask bytes) = line
 
--- the command that a first word names, behind which are a node and a line
+-- The command that a first word names. A node and a line follow this word.
 abbrev pub named_command : List ℕ → Option (ℕ → ℕ → Command)
 named_command word =
     if bytes_eq word (codes "enq") then Some Enq
@@ -51,14 +51,14 @@ named_command word =
     else if bytes_eq word (codes "shut") then Some Shut
     else None
 
--- a node from 1 to `nodes`, by the word at this place; and a line from 0 to `lines` - 1, by the third word
+-- The word at this place denotes a node from 1 to `nodes`. The third word denotes a line from 0 to `lines` - 1.
 abbrev pub node_within : ℕ → ℕ → List ℕ → Result ℕ Reason
 node_within place nodes word = number_within place 1 nodes word
 
 abbrev pub line_within : ℕ → List ℕ → Result ℕ Reason
 line_within lines word = number_within 3 0 (lines - 1) word
 
--- a call of the node and the line behind its first word
+-- a call, whose node and line follow its first word
 abbrev pub call_at : ℕ → ℕ → (ℕ → ℕ → Command) → List (List ℕ) → Result Command Reason
 call_at nodes lines call (node ∷ line ∷ []) = and_then (node_within 2 nodes node) (λ n. and_then (line_within lines line) (λ l. Ok (call n l)))
 call_at nodes lines call words = Err (Count form.Call)
@@ -67,8 +67,8 @@ abbrev pub call_of : ℕ → ℕ → Option (ℕ → ℕ → Command) → List (
 call_of nodes lines None words = Err (Word 1 allowed.Commands)
 call_of nodes lines (Some call) words = call_at nodes lines call words
 
--- the mask and the line of a write from place `off` on of the bytes of the word at a place, if they fit. A word of too many digits does not
--- fit, whether or not it is hex
+-- The mask and the line of a write that begins at byte `off`, if its bytes fit. The bytes are the word at this place. A
+-- word with too many digits does not fit, whether or not it is hex.
 abbrev pub placed_at : ℕ → ℕ → List ℕ → Result (List ℕ) FromHexError → Result (Mask × Line64) Reason
 placed_at place off hex (Err error) = Err (if nat_le (length hex / 2) 64 then Hex place else Fit place)
 placed_at place off hex (Ok bytes) =
@@ -76,26 +76,27 @@ placed_at place off hex (Ok bytes) =
     then Ok (record { 0 = placed_mask off (length bytes) }, record { bytes = placed_line off bytes })
     else Err (Fit place)
 
--- the mask and the line of a write, from its words for place and bytes; the first of them is at this place of the line
+-- The mask and the line of a write, from its words for the place and for the bytes. The first of the two is the word at
+-- this place of the line.
 abbrev pub placed_of : ℕ → List ℕ → List ℕ → Result (Mask × Line64) Reason
 placed_of place off hex = and_then (number_within place 0 63 off) (λ o. placed_at (place + 1) o hex (decode_of hex))
 
--- a write, behind its first word
+-- a write, from the words that follow its first word
 abbrev pub write_of : ℕ → ℕ → List (List ℕ) → Result Command Reason
 write_of nodes lines (node ∷ line ∷ off ∷ hex ∷ []) =
     and_then (node_within 2 nodes node) (λ n. and_then (line_within lines line) (λ l. and_then (placed_of 4 off hex) (λ p. Ok (Write n l p.0 p.1))))
 write_of nodes lines words = Err (Count form.Write)
 
--- the command that these words are
+-- the command that these words denote
 abbrev pub command_of : ℕ → ℕ → List (List ℕ) → Result Command Reason
 command_of nodes lines [] = Err (Count form.Call)
 command_of nodes lines (first ∷ rest) = if bytes_eq first (codes "write") then write_of nodes lines rest else call_of nodes lines (named_command first) rest
 
--- a lease of at least one turn, by the word at this place
+-- a lease of at least one acquisition, from the word at this place
 abbrev pub lease_within : ℕ → List ℕ → Result ℕ Reason
 lease_within place word = number_within place 1 (2 ^ 64 - 1) word
 
--- the header of a schedule without a lease, and with one
+-- the header of a schedule without a lease, and with a lease
 abbrev pub sizes_header : List ℕ → List ℕ → List ℕ → Result Header Reason
 sizes_header nodes third lines =
     and_then (unless_same 3 allowed.Lines (codes "lines") third) (λ same. and_then (node_within 2 MAX_NODES nodes) (λ n. and_then (number_within 4 1 MAX_LINES lines) (λ l. Ok (record { nodes = n; lines = l; lease = None }))))
@@ -104,17 +105,17 @@ abbrev pub leased_header : List ℕ → List ℕ → List ℕ → List ℕ → L
 leased_header nodes third lines fifth lease =
     and_then (unless_same 3 allowed.Lines (codes "lines") third) (λ same. and_then (unless_same 5 allowed.Lease (codes "lease") fifth) (λ also. and_then (node_within 2 MAX_NODES nodes) (λ n. and_then (number_within 4 1 MAX_LINES lines) (λ l. and_then (lease_within 6 lease) (λ turns. Ok (record { nodes = n; lines = l; lease = Some turns }))))))
 
--- a header behind its first word
+-- the words of a header that follow the first word
 abbrev pub rest_of_header : List (List ℕ) → Result Header Reason
 rest_of_header (nodes ∷ third ∷ lines ∷ []) = sizes_header nodes third lines
 rest_of_header (nodes ∷ third ∷ lines ∷ fifth ∷ lease ∷ []) = leased_header nodes third lines fifth lease
 rest_of_header words = Err (Count (form.Header Schedule))
 
--- the header that these words are: `nodes N lines L`, and perhaps `lease C`
+-- the header that these words denote: `nodes N lines L`, optionally followed by `lease C`
 abbrev pub header_of : List (List ℕ) → Result Header Reason
 header_of [] = Err (Count (form.Header Schedule))
 header_of (first ∷ rest) = if bytes_eq first (codes "nodes") then rest_of_header rest else Err (Begin Schedule)
 
--- a line that has a byte which no script has is bad, whatever its words
+-- A line that contains a byte that is not allowed in a script is refused, whatever its words are.
 abbrev pub read_line : {A : Type 0} → (List (List ℕ) → Result A Reason) → List ℕ → Result A Reason
 read_line read line = if is_plain line then read (words_of line) else Err Byte

@@ -4,7 +4,7 @@ use Rattle.std.specs.Prelude.{ℕ, List, ◌++◌, codes, decimal}
 use Rattle.qolb_script.specs.declared.error.ScriptError.{ScriptError}
 use Rattle.qolb_script.specs.declared.error.ScriptError.TheVariants.{Memory, BadLine, Number, TooMany}
 
--- the fault, with the number of its line
+-- the text of the error, which names the line unless memory ran out
 abbrev pub error_text : ScriptError → List ℕ
 error_text Memory = codes "out of memory"
 error_text (BadLine line) = codes "bad line " ++ decimal line

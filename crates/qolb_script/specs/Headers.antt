@@ -13,12 +13,12 @@ use Rattle.qolb_script.specs.Commands.{header_of, read_line}
 use Rattle.qolb_script.specs.Events.{step_header_of}
 use Rattle.qolb_script.specs.Jobs.{work_header_of}
 
--- the kind of the scripts of this work
+-- the kind of script that describes this kind of work
 abbrev pub script_kind : WorkKind → ScriptKind
 script_kind Board = script.Board
 script_kind Bank = script.Bank
 
--- the kind of script that has this line as its header. No line is a header of two kinds
+-- The kind of script that has this line as its header. No line is a header of two kinds.
 abbrev pub kind_of_header : List ℕ → Option ScriptKind
 kind_of_header line =
     if is_ok (read_line header_of line) then Some script.Schedule
@@ -27,7 +27,8 @@ kind_of_header line =
     else if is_ok (read_line (work_header_of Bank) line) then Some script.Bank
     else None
 
--- the reason why a line is not the header of a kind of script that was asked for: that it is one of another kind, else this reason
+-- The reason why a line is not a header of the requested kind: the line is a header of another kind, or else the given
+-- reason.
 abbrev pub of_other : ScriptKind → Option ScriptKind → Reason → Reason
 of_other asked None why = why
 of_other asked (Some found) why = Other found asked
@@ -39,6 +40,6 @@ abbrev pub or_other : {H : Type 0} → ScriptKind → List ℕ → Result H Reas
 or_other asked line (Ok header) = Ok header
 or_other asked line (Err why) = Err (unless_other asked line why)
 
--- the header that a numbered line is
+-- the header that a numbered line denotes
 abbrev pub header_at : {H : Type 0} → ScriptKind → (List (List ℕ) → Result H Reason) → ℕ × List ℕ → Result H Refusal
 header_at asked read line = of_line line.0 (or_other asked line.1 (read_line read line.1))

@@ -28,7 +28,7 @@ worker_of (PayIn worker account amount) = worker
 worker_of (PayOut worker account amount) = worker
 worker_of (Move worker source target amount) = worker
 
--- the job is of this kind of work, over accounts of `lines` lines
+-- the job belongs to this kind of work, and its accounts lie on `lines` lines
 abbrev pub IsOfKind : WorkKind → ℕ → Job → Type 0
 IsOfKind Board lines (Put worker task) = Unit {0}
 IsOfKind Board lines (Take worker) = Unit {0}
@@ -37,7 +37,7 @@ IsOfKind Bank lines (PayOut worker account amount) = account < ACCOUNTS_A_LINE *
 IsOfKind Bank lines (Move worker source target amount) = (source < ACCOUNTS_A_LINE * lines) × (target < ACCOUNTS_A_LINE * lines)
 IsOfKind _ lines _ = ⊥
 
--- a worker, by the first word; a task or an amount is any number; an account is one of the lines'
+-- The first word denotes a worker. A task or an amount can be any number. An account must lie on one of the lines.
 abbrev pub worker_within : ℕ → List ℕ → Result ℕ Reason
 worker_within workers word = node_within 1 workers word
 
@@ -47,11 +47,11 @@ any_number place word = number_within place 0 (2 ^ 64 - 1) word
 abbrev pub account_within : ℕ → ℕ → List ℕ → Result ℕ Reason
 account_within place lines word = number_within place 0 (ACCOUNTS_A_LINE * lines - 1) word
 
--- the reason why a line is no job if its second word names none
+-- the reason why a line is not a job, given that its second word does not name a job
 abbrev pub no_job : Allowed → ℕ → List ℕ → Reason
 no_job all workers worker = if is_err (worker_within workers worker) then NoWorker workers else Word 2 all
 
--- the jobs behind a worker and a second word, at a board and at a bank
+-- the words of a job that follow the worker and the second word, for a board and for a bank
 abbrev pub take_of : ℕ → List ℕ → List (List ℕ) → Result Job Reason
 take_of workers worker [] = and_then (worker_within workers worker) (λ w. Ok (Take w))
 take_of workers worker words = Err (Count form.Take)
@@ -60,19 +60,19 @@ abbrev pub put_of : ℕ → List ℕ → List (List ℕ) → Result Job Reason
 put_of workers worker (task ∷ []) = and_then (worker_within workers worker) (λ w. and_then (any_number 3 task) (λ t. Ok (Put w t)))
 put_of workers worker words = Err (Count form.Put)
 
--- a worker, an account and an amount
+-- a payment, which has a worker, an account and an amount
 abbrev pub payment_of : ℕ → ℕ → List ℕ → List (List ℕ) → Result (ℕ × ℕ × ℕ) Reason
 payment_of workers lines worker (account ∷ amount ∷ []) =
     and_then (worker_within workers worker) (λ w. and_then (account_within 3 lines account) (λ a. and_then (any_number 4 amount) (λ n. Ok (w, a, n))))
 payment_of workers lines worker words = Err (Count form.Payment)
 
--- a move from one account to another
+-- a move of an amount from one account to another
 abbrev pub move_of : ℕ → ℕ → List ℕ → List (List ℕ) → Result Job Reason
 move_of workers lines worker (source ∷ target ∷ amount ∷ []) =
     and_then (worker_within workers worker) (λ w. and_then (account_within 3 lines source) (λ s. and_then (account_within 4 lines target) (λ t. and_then (any_number 5 amount) (λ n. Ok (Move w s t n)))))
 move_of workers lines worker words = Err (Count form.Move)
 
--- the job at a board that these words are: `w take` or `w put task`
+-- the job of a board that these words denote: `w take` or `w put task`
 abbrev pub board_job : ℕ → List (List ℕ) → Result Job Reason
 board_job workers (worker ∷ verb ∷ rest) =
     if bytes_eq verb (codes "take") then take_of workers worker rest
@@ -80,7 +80,7 @@ board_job workers (worker ∷ verb ∷ rest) =
     else Err (no_job allowed.BoardJobs workers worker)
 board_job workers words = Err (Count (form.Job script.Board))
 
--- the job at a bank that these words are: `w in account amount`, `w out account amount` or `w move from to amount`
+-- the job of a bank that these words denote: `w in account amount`, `w out account amount` or `w move from to amount`
 abbrev pub bank_job : ℕ → ℕ → List (List ℕ) → Result Job Reason
 bank_job workers lines (worker ∷ verb ∷ rest) =
     if bytes_eq verb (codes "in") then and_then (payment_of workers lines worker rest) (λ p. Ok (PayIn p.0 p.1 p.2))
@@ -89,12 +89,12 @@ bank_job workers lines (worker ∷ verb ∷ rest) =
     else Err (no_job allowed.BankJobs workers worker)
 bank_job workers lines words = Err (Count (form.Job script.Bank))
 
--- the job of this kind of work that these words are
+-- the job of this kind of work that these words denote
 abbrev pub job_of : WorkKind → ℕ → ℕ → List (List ℕ) → Result Job Reason
 job_of Board workers lines words = board_job workers words
 job_of Bank workers lines words = bank_job workers lines words
 
--- headers behind their first word
+-- the words of a header that follow the first word
 abbrev pub rest_of_board : List (List ℕ) → Result WorkHeader Reason
 rest_of_board (second ∷ workers ∷ []) =
     and_then (unless_same 2 allowed.Workers (codes "workers") second) (λ same. and_then (node_within 3 MAX_NODES workers) (λ w. Ok (record { workers = w; lines = 1 })))
@@ -105,7 +105,7 @@ rest_of_bank (second ∷ workers ∷ fourth ∷ lines ∷ []) =
     and_then (unless_same 2 allowed.Workers (codes "workers") second) (λ same. and_then (unless_same 4 allowed.Lines (codes "lines") fourth) (λ also. and_then (node_within 3 MAX_NODES workers) (λ w. and_then (number_within 5 1 MAX_LINES lines) (λ l. Ok (record { workers = w; lines = l })))))
 rest_of_bank words = Err (Count (form.Header script.Bank))
 
--- the header that these words are: `board workers W`, of a board's one line, or `bank workers W lines L`
+-- The header that these words denote: `board workers W` for a board, which has one line, or `bank workers W lines L`.
 abbrev pub board_header : List (List ℕ) → Result WorkHeader Reason
 board_header [] = Err (Count (form.Header script.Board))
 board_header (first ∷ rest) = if bytes_eq first (codes "board") then rest_of_board rest else Err (Begin script.Board)

@@ -6,7 +6,7 @@ use Rattle.qolb_script.specs.declared.command.Command.TheVariants as command
 use Rattle.qolb_script.specs.declared.command_reader.Verb.{Verb}
 use Rattle.qolb_script.specs.declared.command_reader.Verb.TheVariants.{Enq, Poll, Show, Deq, Out, Shut}
 
--- the first word of its commands
+-- the first word of the commands of this kind
 abbrev pub word_of : Verb → List ℕ
 word_of Enq = codes "enq"
 word_of Poll = codes "poll"
@@ -15,7 +15,7 @@ word_of Deq = codes "deq"
 word_of Out = codes "out"
 word_of Shut = codes "shut"
 
--- the command at a node and a line
+-- the command of this kind for a node and a line
 abbrev pub made : Verb → ℕ → ℕ → Command
 made Enq = command.Enq
 made Poll = command.Poll

@@ -9,8 +9,8 @@ use Rattle.qolb_script.specs.StepScript.{StepScript, IsOfItsNodes}
 use Rattle.qolb_script.specs.declared.job.WorkKind.TheVariants.{Board}
 use Rattle.qolb_script.specs.WorkScript.{WorkScript, AreOfIts}
 
--- the limits of a schedule: 1 to `MAX_NODES` nodes, 1 to `MAX_LINES` lines and at most `MAX_COMMANDS` commands, each in range; a lease
--- is of at least one turn
+-- The limits of a schedule: 1 to `MAX_NODES` nodes, 1 to `MAX_LINES` lines and at most `MAX_COMMANDS` commands, each in
+-- its range. A lease allows at least one acquisition.
 pub record IsBounded (script : Script) : Type 0 where
   pub least_nodes : 1 ≤ script.nodes
   pub most_nodes : script.nodes ≤ MAX_NODES
@@ -28,7 +28,7 @@ pub record IsStepBounded (script : StepScript) : Type 0 where
   pub most_events : length script.events ≤ MAX_COMMANDS
   pub range : IsOfItsNodes script
 
--- the ranges of a work script; a board has one line
+-- The ranges of a work script. A board has one line.
 pub record IsWorkBounded (work : WorkScript) : Type 0 where
   pub least_workers : 1 ≤ work.workers
   pub most_workers : work.workers ≤ MAX_NODES

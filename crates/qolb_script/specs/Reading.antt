@@ -7,7 +7,7 @@ use Rattle.qolb_script.specs.declared.text.Words.{Words}
 use Rattle.qolb_script.specs.declared.text.NumberedLines.{NumberedLines}
 use Rattle.qolb_script.specs.Text.{words_of, worded}
 
--- the lines of the rest of a text, if there is a rest
+-- the lines of the remaining text, if any text remains
 abbrev pub parts_left : Option (Bor (List ℕ)) → List (List ℕ)
 parts_left None = []
 parts_left (Some rest) = slice_split (λ b. b == 10) rest.now

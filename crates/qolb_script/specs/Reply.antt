@@ -39,8 +39,8 @@ is_holding port.Left = false
 is_holding port.Rolled = false
 is_holding port.Shut = false
 
--- the node is in a state that allows the command: asking takes one that neither waits nor holds, polling and withdrawing one that
--- waits, the others one that holds
+-- The state of the node allows the command. A node may request a line if it neither waits for the line nor holds it.
+-- Polling and withdrawing need a waiting node, and the other commands need a holder.
 abbrev pub is_allowed : PortState → Command → Bool
 is_allowed state (Enq node line) = may_ask state
 is_allowed state (Poll node line) = is_queued state
@@ -50,7 +50,7 @@ is_allowed state (Out node line) = is_queued state
 is_allowed state (Shut node line) = is_holding state
 is_allowed state (Write node line mask bytes) = is_holding state
 
--- the answer to an allowed command, and the state after it
+-- the answer to an allowed command, and the state after the command
 abbrev pub answered : OwnerState → Command → Said
 answered s (Enq node line) = said.Enq (enq_answer s node)
 answered s (Poll node line) = said.Poll (poll_answer s node)
@@ -69,19 +69,19 @@ after_allowed s (Out node line) = after_out s node
 after_allowed s (Shut node line) = after_release s true
 after_allowed s (Write node line mask bytes) = after_write s mask.0 bytes.bytes
 
--- a command that is not allowed is misuse, and changes nothing
+-- A command that is not allowed is misuse, and does not change anything.
 abbrev pub said_of : OwnerState → Command → Said
 said_of s c = if is_allowed (state_of s (node_of c)) c then answered s c else said.Misuse
 
 abbrev pub after_command : OwnerState → Command → OwnerState
 after_command s c = if is_allowed (state_of s (node_of c)) c then after_allowed s c else s
 
--- the state of every line, and the answers so far, each with its line
+-- the state of every line, and the answers so far, each with the number of its line
 pub record Replay : Type 0 where
   pub lines : List OwnerState
   pub said : List (ℕ × Said)
 
--- every line is opened with zeros, for the script's nodes and with its lease
+-- every line is opened with zeros, for the nodes of the script and with its lease
 abbrev pub config_of : Script → LineConfig
 config_of script = record { nodes = script.nodes; opening = record { bytes = zeros }; lease = script.lease }
 
@@ -89,7 +89,7 @@ config_of script = record { nodes = script.nodes; opening = record { bytes = zer
 abbrev pub replay_start : LineConfig → ℕ → Replay
 replay_start config lines = record { lines = replicate lines (opened config); said = [] }
 
--- the state of a line that does not exist
+-- the state that stands for a line that does not exist
 abbrev pub no_line : OwnerState
 no_line = opened (record { nodes = 0; opening = record { bytes = zeros }; lease = None })
 
@@ -105,11 +105,12 @@ replay_step r c = record {
 abbrev pub replay_of : Script → Replay
 replay_of script = fold replay_step (replay_start (config_of script) script.lines) script.commands
 
--- how many answers of this kind a line has
+-- the number of answers of this kind that a line has given
 abbrev pub times_said : (Said → Bool) → ℕ → List (ℕ × Said) → ℕ
 times_said test line said = count_by (λ s. (s.0 == line) && test s.1) said
 
--- tests of an answer: a request was served, was withdrawn, or was told. The answer is of a call or of an event
+-- Tests of an answer to a call or an event: a request was served, was withdrawn, or was notified that the line is
+-- closed.
 abbrev pub is_served : Said → Bool
 is_served said.Released = true
 is_served said.Shut = true
@@ -129,7 +130,7 @@ is_told (said.Out out.Closed) = true
 is_told (said.Told told.Closed) = true
 is_told what = false
 
--- how many of the nodes wait at a line or hold it
+-- the number of nodes that wait at a line or hold it
 abbrev pub nodes_left : ℕ → OwnerState → ℕ
 nodes_left nodes s = count_by (λ n. is_queued (state_of s n) || is_holding (state_of s n)) (range_with_len 1 nodes)
 
@@ -137,7 +138,7 @@ abbrev pub summary_of : ℕ → Replay → ℕ → Said
 summary_of nodes r line =
     said.Summary line (times_said is_served line r.said) (times_said is_withdrawn line r.said) (times_said is_told line r.said) (nodes_left nodes (line_at r.lines line))
 
--- the text: the answers to the commands, in order, and then the summaries of the lines
+-- the text: the answers to the commands in order, followed by the summaries of the lines
 abbrev pub text_of : List Said → List ℕ
 text_of all = flat_map said_text all
 
@@ -145,7 +146,7 @@ abbrev pub reply_of : Script → List ℕ
 reply_of script =
     text_of (map (λ s. s.1) (replay_of script).said) ++ text_of (map (summary_of script.nodes (replay_of script)) (range_with_len 0 script.lines))
 
--- the text that a replay of these bytes writes, or their first fault
+-- the text that a replay of these bytes writes, or the first fault of the bytes
 abbrev pub replied : Result Script ScriptError → Result (List ℕ) ScriptError
 replied (Ok script) = Ok (reply_of script)
 replied (Err error) = Err error

@@ -4,7 +4,7 @@ use Rattle.std.specs.Prelude.{ℕ, List, [], ◌∷◌, ◌++◌, codes, decimal
 use Rattle.qolb_script.specs.declared.report.Report.{Report}
 use Rattle.qolb_script.specs.declared.report.Report.TheVariants.{Board, Bank}
 
--- a word and the digits of a number, on one line
+-- a line that consists of a word and the digits of a number
 abbrev pub figure : List ℕ → List ℕ → List ℕ
 figure word digits = word ++ digits ++ 10 ∷ []
 

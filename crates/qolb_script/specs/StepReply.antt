@@ -7,15 +7,15 @@ use Rattle.qolb_script.specs.declared.reply_text.Said.TheVariants as said
 use Rattle.qolb_script.specs.Said.{said_words}
 use Rattle.qolb_script.specs.Reply.{is_served, is_withdrawn, is_told}
 
--- the answer of an event: what it told, or that it was refused
+-- the answer to an event: the word that the event returned, or that the event was refused
 abbrev pub step_said : Option Told → Said
 step_said (Some what) = said.Told what
 step_said None = said.Refused
 
--- the line of text of an event, with the rank after it: `went 4`
+-- the line of text for an event, with the rank at its end, such as `went 4`
 abbrev pub ranked_text : Option Told → ℕ → List ℕ
 ranked_text told rank = said_words (step_said told) ++ codes " " ++ decimal rank ++ 10 ∷ []
 
--- the summary of the only line: its counts, and how many nodes are left in a call or at the line
+-- the summary of the only line: its counts, and the number of nodes that are in a call, wait or hold the line
 abbrev pub step_summary : List Said → ℕ → Said
 step_summary all left = said.Summary 0 (count_by is_served all) (count_by is_withdrawn all) (count_by is_told all) left

@@ -6,7 +6,7 @@ use Rattle.link_core.specs.declared.event.Event.TheVariants as event
 use Rattle.qolb_script.specs.declared.step.Step.{Step}
 use Rattle.qolb_script.specs.declared.step.Step.TheVariants.{Reset, Prepend, Link, Load, Home, Done, Grant, Roll, Freed, Close}
 
--- the first word of its events
+-- the first word of the events of this kind
 abbrev pub word_of : Step → List ℕ
 word_of Reset = codes "reset"
 word_of Prepend = codes "prepend"
@@ -19,7 +19,7 @@ word_of Roll = codes "roll"
 word_of Freed = codes "freed"
 word_of Close = codes "close"
 
--- the event of a node
+-- the event of this kind for a node
 abbrev pub event_of : Step → ℕ → Event
 event_of Reset = event.Reset
 event_of Prepend = event.Prepend

@@ -3,7 +3,7 @@ ghost use Rattle.qolb_script.specs.Commands.{node_of, line_of};
 
 use line_lanes::{Line64, Mask};
 
-/// One command of a schedule: a call of a node on a line. Nodes are numbered from 1, lines from 0.
+/// One command of a schedule, which is a call that a node makes on a line. Nodes are numbered from 1, lines from 0.
 #[derive(Clone, Copy, Debug, PartialEq, Eq)]
 pub enum Command {
     Enq {
@@ -54,7 +54,7 @@ impl Command {
         }
     }
 
-    /// Returns the line of the call.
+    /// Returns the line on which the node makes the call.
     pub fn line(&self) -> u64
         ensures { result ≡ line_of self.now }
     {

@@ -15,25 +15,25 @@ use hex::decode_to_slice;
 use line_lanes::{Line64, Mask, placed};
 use qolb_model::MAX_NODES;
 
-/// The largest number of bytes that a command may write: a whole line.
+/// The largest number of bytes that a command may write, which is a whole line.
 const MAX_BYTES: usize = 64;
 
-/// The last place of a byte in a line.
+/// The place of the last byte in a line.
 pub const LAST_PLACE: u64 = 63;
 
-/// The first word of a write.
+/// The first word of a command that writes.
 pub const WRITE: &[u8] = b"write";
 
-/// The word of a header before its number of nodes.
+/// The word in a header that precedes the number of nodes.
 pub const NODES: &[u8] = b"nodes";
 
-/// The word of a header before its number of lines.
+/// The word in a header that precedes the number of lines.
 pub const LINES: &[u8] = b"lines";
 
-/// The word of a header before its lease.
+/// The word in a header that precedes the lease.
 pub const LEASE: &[u8] = b"lease";
 
-/// The kind of a command of a node and a line, by its first word.
+/// The kind of a command that has only a node and a line, as its first word tells.
 #[derive(Clone, Copy)]
 pub enum Verb {
     Enq,
@@ -44,7 +44,7 @@ pub enum Verb {
     Shut,
 }
 
-/// All kinds.
+/// All kinds of such commands.
 const VERBS: [Verb; 6] = [
     Verb::Enq,
     Verb::Poll,
@@ -55,14 +55,14 @@ const VERBS: [Verb; 6] = [
 ];
 
 impl Verb {
-    /// Returns the kind that a first word names, or `None` if it names none.
+    /// Returns the kind that this first word names, or `None` if it names none.
     pub fn named(word: &[u8]) -> Option<Verb>
         ensures { result ≡ find (λ verb. bytes_eq word.now (word_of verb)) VERBS }
     {
         VERBS.iter().find(|verb| word == verb.word()).copied()
     }
 
-    /// Returns the first word of its commands.
+    /// Returns the first word of the commands of this kind.
     fn word(self) -> &'static [u8]
         ensures { result.now ≡ word_of self }
     {
@@ -76,7 +76,7 @@ impl Verb {
         }
     }
 
-    /// Returns the command of this kind of a node and a line.
+    /// Returns the command of this kind for a node and a line.
     pub fn command(self, node: u64, line: u64) -> Command
         ensures { result ≡ made self node line }
     {
@@ -99,7 +99,7 @@ pub struct Header {
     pub lease: Option<u64>,
 }
 
-/// A reader of the commands below a header of these numbers.
+/// A reader of the commands below a header with these numbers.
 #[derive(Drop)]
 pub struct CommandReader {
     pub nodes: u64,
@@ -120,7 +120,7 @@ impl ReadItem for CommandReader {
     }
 }
 
-/// Reads a header line: the numbers of nodes and of lines, and the lease if there is one.
+/// Reads the header line of a schedule: the numbers of nodes and lines, and the lease if the line has one.
 pub fn read_header(line: &[u8]) -> Result<Header, Reason>
     ensures header { result ≡ spec.read_line spec.header_of line.now }
     ensures nodes { IfOk result (λ header. AreNodes header.nodes) }
@@ -135,7 +135,7 @@ pub fn read_header(line: &[u8]) -> Result<Header, Reason>
     }
 }
 
-/// Reads a header behind its first word.
+/// Reads the words of a header that follow the first word.
 fn read_rest_of_header(mut words: Words) -> Result<Header, Reason>
     ensures header { result ≡ spec.rest_of_header (words_left words.entry) }
     ensures nodes { IfOk result (λ header. AreNodes header.nodes) }
@@ -190,7 +190,7 @@ fn read_leased(
     })
 }
 
-/// Reads a lease of at least one turn, from the word at this place.
+/// Reads a lease of at least one acquisition from the word at this place.
 pub fn lease_within(place: u64, word: &[u8]) -> Result<u64, Reason>
     ensures lease { result ≡ spec.lease_within place word.now }
     ensures range { IfOk result (λ turns. 1 ≤ turns) }
@@ -198,7 +198,7 @@ pub fn lease_within(place: u64, word: &[u8]) -> Result<u64, Reason>
     number_within(place, 1, u64::MAX, word)
 }
 
-/// Reads the command on a line, under a header of these numbers.
+/// Reads the command on a line of a schedule with these numbers of nodes and lines.
 fn read_command(nodes: u64, lines: u64, text: &[u8]) -> Result<Command, Reason>
     requires { 1 ≤ lines }
     ensures command { result ≡ spec.read_line (spec.command_of nodes lines) text.now }
@@ -221,7 +221,7 @@ fn read_command(nodes: u64, lines: u64, text: &[u8]) -> Result<Command, Reason>
     }
 }
 
-/// Reads a node, from 1 to `nodes`, from the word at this place.
+/// Reads a node from 1 to `nodes` from the word at this place.
 pub fn node_within(place: u64, nodes: u64, word: &[u8]) -> Result<u64, Reason>
     ensures node { result ≡ spec.node_within place nodes word.now }
     ensures range { IfOk result (λ n. (1 ≤ n) × (n ≤ nodes)) }
@@ -229,7 +229,7 @@ pub fn node_within(place: u64, nodes: u64, word: &[u8]) -> Result<u64, Reason>
     number_within(place, 1, nodes, word)
 }
 
-/// Reads a line number, from 0 to `lines` - 1, from the third word.
+/// Reads a line number from 0 to `lines` - 1 from the third word.
 fn line_within(lines: u64, word: &[u8]) -> Result<u64, Reason>
     requires { 1 ≤ lines }
     ensures line { result ≡ spec.line_within lines word.now }
@@ -238,7 +238,7 @@ fn line_within(lines: u64, word: &[u8]) -> Result<u64, Reason>
     number_within(3, 0, lines - 1, word)
 }
 
-/// Reads a call behind its first word.
+/// Reads the words of a call that follow the first word.
 fn read_call(nodes: u64, lines: u64, verb: Verb, mut words: Words) -> Result<Command, Reason>
     requires { 1 ≤ lines }
     ensures command { result ≡ spec.call_at nodes lines (made verb) (words_left words.entry) }
@@ -255,7 +255,8 @@ fn read_call(nodes: u64, lines: u64, verb: Verb, mut words: Words) -> Result<Com
     }
 }
 
-/// Reads a write of hex bytes from a place of a line on, behind its first word.
+/// Reads the words of a write that follow the first word: the node, the line, the place of the first byte, and the
+/// bytes in hex.
 fn read_write(nodes: u64, lines: u64, mut words: Words) -> Result<Command, Reason>
     requires { 1 ≤ lines }
     ensures command { result ≡ spec.write_of nodes lines (words_left words.entry) }
@@ -281,7 +282,8 @@ fn read_write(nodes: u64, lines: u64, mut words: Words) -> Result<Command, Reaso
     }
 }
 
-/// Reads the mask and the bytes of a write, from its words for place and bytes. The first of them is word `place` of its line.
+/// Reads the mask and the bytes of a write from two words: the place of the first byte, and the bytes in hex. The first
+/// of the two is word `place` of its line.
 pub fn read_placed(place: u64, off: &[u8], hex: &[u8]) -> Result<(Mask, Line64), Reason>
     requires { place < 10 }
     ensures { result ≡ spec.placed_of place off.now hex.now }
@@ -290,7 +292,8 @@ pub fn read_placed(place: u64, off: &[u8], hex: &[u8]) -> Result<(Mask, Line64),
     placed_at(place + 1, off as usize, hex)
 }
 
-/// Reads the mask and the bytes of a write of hex bytes from place `off` on, if they fit into a line. The bytes are word `place` of its line.
+/// Reads the mask and the bytes of a write that begins at byte `off` of a line, if the bytes are hex and fit into the
+/// line. They are word `place` of their line.
 fn placed_at(place: u64, off: usize, hex: &[u8]) -> Result<(Mask, Line64), Reason>
     requires { off < 64 }
     ensures { result ≡ spec.placed_at place off hex.now (decode_of hex.now) }

@@ -4,22 +4,24 @@ ghost use Rattle.std.specs.Prelude.{◌≡◌, ℕ};
 use std::error::Error;
 use std::fmt;
 
-/// Why a script is refused. Line numbers count from 1; lines without words count, too.
+/// The error of a refused script.
+///
+/// Line numbers count from 1, and lines without words are counted, too.
 #[derive(Clone, Copy, Debug, PartialEq, Eq)]
 pub enum ScriptError {
-    /// A growth of memory was refused.
+    /// An allocation failed.
     Memory,
-    /// The line has a byte that no script has, an unknown first word, a wrong number of words, a wrong fixed word, or hex that is
-    /// none or does not fit.
+    /// The line has a byte that is not allowed in a script, an unknown first word, a wrong number of words, a wrong
+    /// fixed word, or a word for bytes that is not hex or does not fit.
     BadLine(u64),
-    /// A word of the line is no number, or out of its range.
+    /// A word of the line that must be a number is not a number, or is out of its range.
     Number(u64),
-    /// The line is the first command past the largest number that a script may have.
+    /// The line is the first one past the largest number of commands that a script may have.
     TooMany(u64),
 }
 
 impl ScriptError {
-    /// Returns the error's number.
+    /// Returns the number of the error, from 1 to 4.
     pub fn number(&self) -> u8
         ensures memory { self.now ≡ ScriptError.Memory → result ≡ 1 }
         ensures bad_line { (line : ℕ) → self.now ≡ ScriptError.BadLine line → result ≡ 2 }

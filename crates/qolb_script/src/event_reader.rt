@@ -14,7 +14,7 @@ use crate::text::{ReadItem, Words};
 use link_core::Event;
 use qolb_model::MAX_NODES;
 
-/// A reader of the events below a header of this number of nodes.
+/// A reader of the events below a header that gives this number of nodes.
 #[derive(Drop)]
 pub struct EventReader {
     pub nodes: u64,
@@ -39,7 +39,7 @@ pub struct StepHeader {
     pub lease: Option<u64>,
 }
 
-/// Reads the header line of a step script: the number of nodes, and the lease if there is one.
+/// Reads the header line of a step script: the number of nodes, and the lease if the line has one.
 pub fn read_step_header(text: &[u8]) -> Result<StepHeader, Reason>
     ensures header { result ≡ read_line spec.step_header_of text.now }
     ensures nodes { IfOk result (λ header. AreNodes header.nodes) }
@@ -53,7 +53,7 @@ pub fn read_step_header(text: &[u8]) -> Result<StepHeader, Reason>
     }
 }
 
-/// Reads a header behind its first word.
+/// Reads the words of a header that follow the first word.
 fn read_rest_of_header(mut words: Words) -> Result<StepHeader, Reason>
     ensures header { result ≡ spec.rest_of_step_header (words_left words.entry) }
     ensures nodes { IfOk result (λ header. AreNodes header.nodes) }
@@ -72,7 +72,7 @@ fn read_rest_of_header(mut words: Words) -> Result<StepHeader, Reason>
     }
 }
 
-/// Reads a header with a lease.
+/// Reads a header that has a lease.
 fn read_leased(nodes: &[u8], third: &[u8], lease: &[u8]) -> Result<StepHeader, Reason>
     ensures header { result ≡ spec.leased_steps nodes.now third.now lease.now }
     ensures nodes { IfOk result (λ header. AreNodes header.nodes) }
@@ -85,7 +85,7 @@ fn read_leased(nodes: &[u8], third: &[u8], lease: &[u8]) -> Result<StepHeader, R
     })
 }
 
-/// Reads the event on a line, of one of `nodes` nodes.
+/// Reads the event on a line of a script with `nodes` nodes.
 fn read_event(nodes: u64, text: &[u8]) -> Result<Event, Reason>
     ensures event { result ≡ read_line (spec.event_of nodes) text.now }
     ensures range { IfOk result (λ e. (1 ≤ node_of e) × (node_of e ≤ nodes)) }
@@ -106,7 +106,7 @@ fn read_event(nodes: u64, text: &[u8]) -> Result<Event, Reason>
     }
 }
 
-/// Reads an event behind its first word.
+/// Reads the words of an event that follow the first word.
 fn read_step(nodes: u64, step: Step, mut words: Words) -> Result<Event, Reason>
     ensures event { result ≡ spec.step_at nodes (event_of step) (words_left words.entry) }
     ensures range { IfOk result (λ e. (1 ≤ node_of e) × (node_of e ≤ nodes)) }
@@ -117,7 +117,7 @@ fn read_step(nodes: u64, step: Step, mut words: Words) -> Result<Event, Reason>
     }
 }
 
-/// Reads a write of hex bytes from a place on, into the bytes of a holder, behind its first word.
+/// Reads the words of a write that follow the first word: the node, the place of the first byte, and the bytes in hex.
 fn read_write(nodes: u64, mut words: Words) -> Result<Event, Reason>
     ensures event { result ≡ spec.step_write nodes (words_left words.entry) }
     ensures range { IfOk result (λ e. (1 ≤ node_of e) × (node_of e ≤ nodes)) }

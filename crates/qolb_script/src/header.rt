@@ -8,7 +8,7 @@ use crate::job::WorkKind;
 use crate::job_reader::read_work_header;
 use crate::reason::{Reason, ScriptKind};
 
-/// Returns the kind of the scripts of this work.
+/// Returns the kind of script that describes this kind of work.
 pub fn script_kind(kind: WorkKind) -> ScriptKind
     ensures { result ≡ spec.script_kind kind }
 {
@@ -35,7 +35,9 @@ fn kind_of_header(line: &[u8]) -> Option<ScriptKind>
     }
 }
 
-/// Returns the reason why a line is not the header of a script of kind `asked`: that it begins a script of another kind, or else `why`.
+/// Returns the reason why a line is not the header of a script of kind `asked`.
+///
+/// The reason is that the line is the header of another kind of script, if it is. Otherwise the reason is `why`.
 pub fn unless_other(asked: ScriptKind, line: &[u8], why: Reason) -> Reason
     ensures { result ≡ spec.unless_other asked line.now why }
 {

@@ -2,10 +2,10 @@
 ghost use Rattle.std.specs.Prelude.{◌≡◌};
 ghost use Rattle.qolb_script.specs.Jobs.{worker_of};
 
-/// The number of accounts of a bank's line: one for each lane.
+/// The number of accounts on a line of a bank, one for each lane.
 pub const ACCOUNTS_A_LINE: u64 = 8;
 
-/// What the workers of a script share: a board, or the lines of a bank.
+/// What the workers of a script share: a task board, or the lines of a bank.
 #[derive(Clone, Copy, Debug, PartialEq, Eq)]
 pub enum WorkKind {
     Board,

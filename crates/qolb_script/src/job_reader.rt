@@ -13,14 +13,14 @@ use crate::schedule::MAX_LINES;
 use crate::text::{ReadItem, Words, number_within};
 use qolb_model::MAX_NODES;
 
-/// The words of headers.
+/// The fixed words of headers.
 pub const BOARD: &[u8] = b"board";
 
 pub const BANK: &[u8] = b"bank";
 
 pub const WORKERS: &[u8] = b"workers";
 
-/// The second words of jobs.
+/// The words that can be the second word of a job.
 pub const PUT: &[u8] = b"put";
 
 pub const TAKE: &[u8] = b"take";
@@ -38,7 +38,7 @@ pub struct WorkHeader {
     pub lines: u64,
 }
 
-/// A reader of the jobs of this kind of work, below a header of these numbers.
+/// A reader of the jobs of this kind of work, below a header with these numbers.
 #[derive(Drop)]
 pub struct JobReader {
     pub kind: WorkKind,
@@ -91,7 +91,7 @@ fn read_board_header(text: &[u8]) -> Result<WorkHeader, Reason>
     }
 }
 
-/// Reads a board's header behind its first word.
+/// Reads the words of a board's header that follow the first word.
 fn read_rest_of_board(mut words: Words) -> Result<WorkHeader, Reason>
     ensures header { result ≡ spec.rest_of_board (words_left words.entry) }
     ensures workers { IfOk result (λ header. AreNodes header.workers) }
@@ -123,7 +123,7 @@ fn read_bank_header(text: &[u8]) -> Result<WorkHeader, Reason>
     }
 }
 
-/// Reads a bank's header behind its first word.
+/// Reads the words of a bank's header that follow the first word.
 fn read_rest_of_bank(mut words: Words) -> Result<WorkHeader, Reason>
     ensures header { result ≡ spec.rest_of_bank (words_left words.entry) }
     ensures workers { IfOk result (λ header. AreNodes header.workers) }
@@ -145,7 +145,7 @@ fn read_rest_of_bank(mut words: Words) -> Result<WorkHeader, Reason>
     }
 }
 
-/// Reads the job on a line, at a board.
+/// Reads the job on a line of a board's work script.
 fn read_board_job(workers: u64, text: &[u8]) -> Result<Job, Reason>
     ensures job { result ≡ read_line (spec.board_job workers) text.now }
     ensures range { IfOk result (λ job. (1 ≤ spec.worker_of job) × (spec.worker_of job ≤ workers)
@@ -164,7 +164,7 @@ fn read_board_job(workers: u64, text: &[u8]) -> Result<Job, Reason>
     }
 }
 
-/// Returns the reason why a line is no job if its second word names none.
+/// Returns the reason why a line is not a job, given that its second word does not name a job.
 fn no_job(allowed: Allowed, workers: u64, worker: &[u8]) -> Reason
     ensures { result ≡ spec.no_job allowed workers worker.now }
 {
@@ -174,7 +174,7 @@ fn no_job(allowed: Allowed, workers: u64, worker: &[u8]) -> Reason
     }
 }
 
-/// Reads a job behind `take`.
+/// Reads the words of a job that follow `take`.
 fn read_take(workers: u64, worker: &[u8], mut words: Words) -> Result<Job, Reason>
     ensures job { result ≡ spec.take_of workers worker.now (words_left words.entry) }
     ensures range { IfOk result (λ job. (1 ≤ spec.worker_of job) × (spec.worker_of job ≤ workers)
@@ -188,7 +188,7 @@ fn read_take(workers: u64, worker: &[u8], mut words: Words) -> Result<Job, Reaso
     }
 }
 
-/// Reads a job behind `put`.
+/// Reads the words of a job that follow `put`.
 fn read_put(workers: u64, worker: &[u8], mut words: Words) -> Result<Job, Reason>
     ensures job { result ≡ spec.put_of workers worker.now (words_left words.entry) }
     ensures range { IfOk result (λ job. (1 ≤ spec.worker_of job) × (spec.worker_of job ≤ workers)
@@ -203,7 +203,7 @@ fn read_put(workers: u64, worker: &[u8], mut words: Words) -> Result<Job, Reason
     }
 }
 
-/// Reads the job on a line, at a bank of `lines` lines.
+/// Reads the job on a line of the work script of a bank with `lines` lines.
 fn read_bank_job(workers: u64, lines: u64, text: &[u8]) -> Result<Job, Reason>
     requires not_zero { 1 ≤ lines }
     requires in_range { lines ≤ MAX_LINES }
@@ -236,7 +236,7 @@ fn read_bank_job(workers: u64, lines: u64, text: &[u8]) -> Result<Job, Reason>
     }
 }
 
-/// Reads the worker, the account and the amount of a payment, behind its second word.
+/// Reads the worker, the account and the amount of a payment, where the last two follow the second word.
 fn read_payment(
     workers: u64,
     lines: u64,
@@ -260,7 +260,7 @@ fn read_payment(
     }
 }
 
-/// Reads the move of an amount from one account to another, behind its second word.
+/// Reads the words of a job that follow `move`: two accounts and the amount to move from the first to the second.
 fn read_move(workers: u64, lines: u64, worker: &[u8], mut words: Words) -> Result<Job, Reason>
     requires not_zero { 1 ≤ lines }
     requires in_range { lines ≤ MAX_LINES }
@@ -288,7 +288,7 @@ fn read_move(workers: u64, lines: u64, worker: &[u8], mut words: Words) -> Resul
     }
 }
 
-/// Reads a worker, from the first word.
+/// Reads a worker from the first word.
 fn worker_within(workers: u64, word: &[u8]) -> Result<u64, Reason>
     ensures worker { result ≡ spec.worker_within workers word.now }
     ensures range { IfOk result (λ n. (1 ≤ n) × (n ≤ workers)) }
@@ -296,14 +296,14 @@ fn worker_within(workers: u64, word: &[u8]) -> Result<u64, Reason>
     node_within(1, workers, word)
 }
 
-/// Reads any number, from the word at this place.
+/// Reads a number without a range from the word at this place.
 fn any_number(place: u64, word: &[u8]) -> Result<u64, Reason>
     ensures { result ≡ spec.any_number place word.now }
 {
     number_within(place, 0, u64::MAX, word)
 }
 
-/// Reads an account of one of `lines` lines, from the word at this place.
+/// Reads an account of a bank with `lines` lines from the word at this place.
 fn account_within(place: u64, lines: u64, word: &[u8]) -> Result<u64, Reason>
     requires not_zero { 1 ≤ lines }
     requires in_range { lines ≤ MAX_LINES }

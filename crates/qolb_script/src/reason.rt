@@ -5,7 +5,7 @@ ghost use Rattle.qolb_script.specs.Refusals.{error_of, unless_same};
 
 use crate::error::ScriptError;
 
-/// The kind of a script, by its header.
+/// The kind of a script, which its header determines.
 #[derive(Clone, Copy, Debug, PartialEq, Eq)]
 pub enum ScriptKind {
     Schedule,
@@ -14,43 +14,43 @@ pub enum ScriptKind {
     Bank,
 }
 
-/// The words that are allowed at a place.
+/// The set of words that are allowed at a place.
 #[derive(Clone, Copy, Debug, PartialEq, Eq)]
 pub enum Allowed {
-    /// The first words of a schedule's commands.
+    /// The words that can begin a command of a schedule.
     Commands,
-    /// The first words of events.
+    /// The words that can begin an event of a step script.
     Events,
-    /// The second words of a board's jobs.
+    /// The words that can be the second word of a board's job.
     BoardJobs,
-    /// The second words of a bank's jobs.
+    /// The words that can be the second word of a bank's job.
     BankJobs,
-    /// `lines`, of a header.
+    /// The word `lines` in a header.
     Lines,
-    /// `lease`, of a header.
+    /// The word `lease` in a header.
     Lease,
-    /// `workers`, of a header.
+    /// The word `workers` in a header.
     Workers,
 }
 
-/// The form of a line: its words, and what its numbers are.
+/// The form of a line: which words it has, and what its numbers mean.
 #[derive(Clone, Copy, Debug, PartialEq, Eq)]
 pub enum Form {
-    /// The first line of a script.
+    /// The first line of a script of this kind.
     Header(ScriptKind),
-    /// A command of a node and a line.
+    /// A command with a node and a line, other than a write.
     Call,
-    /// A write of a schedule.
+    /// A write in a schedule.
     Write,
-    /// An event of a node.
+    /// An event with a node, other than a write.
     Event,
-    /// A write of a step script.
+    /// A write in a step script.
     StepWrite,
-    /// A job of this kind of script, whose second word is left out.
+    /// A job in this kind of script whose second word is missing.
     Job(ScriptKind),
     Put,
     Take,
-    /// A job of a bank, `in` or `out`.
+    /// A payment of a bank, whose second word is `in` or `out`.
     Payment,
     Move,
 }
@@ -58,27 +58,28 @@ pub enum Form {
 /// The reason why a line is refused. Places of words count from 1.
 #[derive(Clone, Copy, Debug, PartialEq, Eq)]
 pub enum Reason {
-    /// No line has a word, and the script is to be of this kind.
+    /// No line of the script has a word. The script should have been of this kind.
     Empty(ScriptKind),
-    /// The line is the header of another kind of script than the one that was asked for.
+    /// The line is the header of another kind of script than the caller asked for.
     Other {
         found: ScriptKind,
         asked: ScriptKind,
     },
-    /// The first word is not that of the header of this kind.
+    /// The first word is not the word that begins a header of this kind.
     Begin(ScriptKind),
     /// A byte is neither a space nor a visible ASCII character.
     Byte,
-    /// The word at this place is none of those that are allowed there.
+    /// The word at this place is not one of the words that are allowed there.
     Word {
         place: u64,
         allowed: Allowed,
     },
-    /// The second word names no job, and the first word is none of this number of workers, as in a job without its worker.
+    /// The second word does not name a job, and the first word is not one of this number of workers. The worker may be
+    /// missing.
     NoWorker(u64),
-    /// A line of this form has another number of words.
+    /// The line does not have the number of words that a line of this form has.
     Count(Form),
-    /// The word at this place is no number, or is out of its range.
+    /// The word at this place is not a number, or is out of its range.
     Number {
         place: u64,
         low: u64,
@@ -86,13 +87,13 @@ pub enum Reason {
     },
     /// The word at this place is not hex.
     Hex(u64),
-    /// The bytes of the word at this place go past the end of the line.
+    /// The bytes of the word at this place would reach past the end of the line.
     Fit(u64),
-    /// The line is the first past the largest number below a header.
+    /// The line is the first one past the largest number of lines that may follow a header.
     TooMany,
 }
 
-/// Checks that the word at a place of a header is `name`, which is all that is allowed there.
+/// Checks that the word at a place of a header is `name`, the only word that is allowed there.
 pub fn same_word(place: u64, allowed: Allowed, name: &[u8], word: &[u8]) -> Result<(), Reason>
     ensures { result ≡ unless_same place allowed name.now word.now }
 {
@@ -103,17 +104,17 @@ pub fn same_word(place: u64, allowed: Allowed, name: &[u8], word: &[u8]) -> Resu
     }
 }
 
-/// Why bytes are no script.
+/// The reason why bytes are not a script.
 #[derive(Clone, Copy, Debug, PartialEq, Eq)]
 pub enum Refusal {
-    /// A growth of memory was refused.
+    /// An allocation failed.
     Memory,
-    /// The line of this number is refused, for this reason. Lines count from 1.
+    /// The line with this number is refused for this reason. Lines count from 1.
     Line(u64, Reason),
 }
 
 impl Refusal {
-    /// Returns the error of a script that is refused so.
+    /// Returns the error of a script that is refused for this reason.
     pub fn error(self) -> ScriptError
         ensures { result ≡ error_of self }
     {

@@ -10,7 +10,7 @@ use link_core::Told;
 use qolb_model::{Enq, Out, Poll};
 use std::alloc::{AllocError, Allocator};
 
-/// An answer in the output of a replay, a line of text each.
+/// One answer in the output of a replay, which is one line of text.
 #[derive(Clone, Copy, Debug, PartialEq, Eq)]
 pub enum Said {
     Enq(Enq),
@@ -21,13 +21,14 @@ pub enum Said {
     Shut,
     /// The node's state does not allow the command.
     Misuse,
-    /// The bytes of a line, as 128 hex digits.
+    /// The bytes of a line, which are printed as 128 hex digits.
     Bytes(Line64),
-    /// The word that an event of a step script told.
+    /// The word that an event of a step script returned.
     Told(Told),
-    /// The event is not enabled.
+    /// The event was not enabled.
     Refused,
-    /// The counts of a line: the requests that were served, withdrawn and told closed, and the nodes that still wait or hold.
+    /// The counts of a line: the requests that were served, that were withdrawn and that ended because the line was
+    /// closed, and the nodes that still wait or hold.
     Summary {
         line: u64,
         served: u64,
@@ -37,13 +38,16 @@ pub enum Said {
     },
 }
 
-/// The largest number of bytes of a summary, with its newline: five numbers of at most 20 digits, and the words before them.
+/// The largest number of bytes in a summary with its newline: five numbers of at most 20 digits, and the words before
+/// them.
 const MAX_SUMMARY: usize = 137;
 
-/// The largest number of bytes of a rank, with the space before it and the newline.
+/// The largest number of bytes in a rank, with the space before it and the newline.
 const MAX_RANK: usize = 22;
 
-/// Appends the answer's line of text, with its newline. If memory is refused the text is unchanged.
+/// Appends the line of text for the answer, with its newline.
+///
+/// Allocates room in the text. If the allocation fails, the text is unchanged.
 pub fn push_said<A: Allocator>(text: &mut Vec<u8, A>, said: &Said) -> Result<(), AllocError>
     ensures ok { OnOk result (text.new.items ≡ text.old.items ++ said_text said.now) }
     ensures err { OnErr result (text.new.items ≡ text.old.items) }
@@ -69,7 +73,7 @@ pub fn push_said<A: Allocator>(text: &mut Vec<u8, A>, said: &Said) -> Result<(),
     }
 }
 
-/// Returns the words of an answer to asking.
+/// Returns the words that answer a request for the line.
 fn enq_words(answer: Enq) -> &'static [u8]
     ensures { result.now ≡ said_words (Said.Enq answer) }
 {
@@ -81,7 +85,7 @@ fn enq_words(answer: Enq) -> &'static [u8]
     }
 }
 
-/// Returns the words of an answer to polling.
+/// Returns the words that answer a poll.
 fn poll_words(answer: Poll) -> &'static [u8]
     ensures { result.now ≡ said_words (Said.Poll answer) }
 {
@@ -92,7 +96,7 @@ fn poll_words(answer: Poll) -> &'static [u8]
     }
 }
 
-/// Returns the words of an answer to withdrawing.
+/// Returns the words that answer a withdrawal.
 fn out_words(answer: Out) -> &'static [u8]
     ensures { result.now ≡ said_words (Said.Out answer) }
 {
@@ -103,7 +107,7 @@ fn out_words(answer: Out) -> &'static [u8]
     }
 }
 
-/// Returns the words of what an event told.
+/// Returns the words for what an event returned.
 fn told_words(told: Told) -> &'static [u8]
     ensures { result.now ≡ said_words (Said.Told told) }
 {
@@ -121,8 +125,9 @@ fn told_words(told: Told) -> &'static [u8]
     }
 }
 
-/// Appends the answer of an event of a step script, and then the rank. The answer is what the event told, or that it was refused. If memory
-/// is refused the text is unchanged.
+/// Appends the answer of an event of a step script, followed by the rank.
+///
+/// The answer is what the event returned, or that it was refused. If an allocation fails, the text is unchanged.
 pub fn push_ranked<A: Allocator>(
     text: &mut Vec<u8, A>,
     told: Option<Told>,
@@ -139,7 +144,7 @@ pub fn push_ranked<A: Allocator>(
     Ok(())
 }
 
-/// Returns the words of what an event told, or of a refusal.
+/// Returns the words for what an event returned, or for a refusal.
 fn step_words(told: Option<Told>) -> &'static [u8]
     ensures { result.now ≡ said_words (step_said told) }
 {
@@ -194,7 +199,7 @@ fn push_summary<A: Allocator>(
     Ok(())
 }
 
-/// Appends words and a number, for which there is room.
+/// Appends words and a number. The caller has made room for them.
 fn put_number<A: Allocator>(text: &mut Vec<u8, A>, words: &[u8], number: u64)
     requires { vec_len text.old + length words.now + 20 ≤ vec_capacity text.old }
     ensures items { text.new.items ≡ text.old.items ++ (words.now ++ decimal number) }

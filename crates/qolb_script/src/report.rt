@@ -8,10 +8,11 @@ use crate::watched::{Fault, Watched};
 use itoa::{Buffer, Integer};
 use std::io::Write;
 
-/// What workers have done, as a report.
+/// The result of the work of all workers, as the program reports it.
 #[derive(Clone, Copy, Debug, PartialEq, Eq)]
 pub enum Report {
-    /// The report of a board: tasks stored, puts that found it full, tasks taken, takes that found it empty, and tasks left.
+    /// The report of a board. It counts the tasks stored, the puts that found the board full, the tasks taken, the
+    /// takes that found the board empty, and the tasks left.
     Board {
         stored: u64,
         full: u64,
@@ -19,7 +20,7 @@ pub enum Report {
         empty: u64,
         left: u64,
     },
-    /// The report of a bank: what was paid in, what was paid out, and the sum of all balances.
+    /// The report of a bank: the amount paid in, the amount paid out, and the sum of all balances.
     Bank {
         paid_in: u128,
         paid_out: u128,
@@ -27,7 +28,9 @@ pub enum Report {
     },
 }
 
-/// Writes the report, a line for each number. If it fails, a part of the report may have been written.
+/// Writes the report, one line for each number.
+///
+/// If a write fails, a part of the report may have been written.
 pub fn write_report<W: Write>(report: &Report, out: &mut Watched<W>) -> Result<(), Fault>
     ensures fault { IsErr result ↔ (has_failed out.new ≡ true) }
     ensures bytes { OnOk result (Appends (W.contents (inner_of out.old))
@@ -59,7 +62,7 @@ pub fn write_report<W: Write>(report: &Report, out: &mut Watched<W>) -> Result<(
     }
 }
 
-/// Writes a word and a number, on one line.
+/// Writes a line that consists of a word and a number.
 fn write_figure<W: Write, N: Integer>(
     out: &mut Watched<W>,
     word: &[u8],

@@ -10,13 +10,15 @@ use crate::text::NumberedLines;
 use std::alloc::{Allocator, Global};
 use std::marker::Model;
 
-/// The largest number of commands or events of a script.
+/// The largest number of commands, events or jobs in a script.
 pub const MAX_COMMANDS: u64 = 100_000;
 
-/// The largest number of lines of a schedule.
+/// The largest number of lines in a schedule.
 pub const MAX_LINES: u64 = 8;
 
-/// A schedule that was read: the header's numbers, and the commands in order. Only `read_schedule` makes it.
+/// A schedule: the numbers in its header, and the commands in order.
+///
+/// Only `read_schedule` and `parse_schedule` create a schedule.
 #[derive(Drop)]
 pub struct Schedule<A: Allocator = Global> {
     nodes: u64,
@@ -69,7 +71,9 @@ impl<A: Allocator> Schedule<A> {
         self.lines
     }
 
-    /// Returns the lease of each line: the number of its served turns. Returns `None` if the header has none.
+    /// Returns the lease of each line, which is the number of acquisitions after which the line closes.
+    ///
+    /// Returns `None` if the header has no lease.
     pub fn lease(&self) -> Option<u64>
         ensures lease { result ≡ self.now.lease }
         ensures range { IsLease result }
@@ -87,7 +91,10 @@ impl<A: Allocator> Schedule<A> {
     }
 }
 
-/// Reads a schedule. The error is the first faulty line's, or `Memory` if a growth was refused.
+/// Reads a schedule.
+///
+/// Allocates a vector for the commands. The error is that of the first faulty line, or `Memory` if an allocation
+/// failed.
 pub fn read_schedule<A: Allocator>(alloc: A, text: &[u8]) -> Result<Schedule<A>, ScriptError>
     ensures ok { IfOk result (λ schedule. script_of text.now ≡ Ok schedule) }
     ensures refused { IfErr result (λ error. error ≢ ScriptError.Memory
@@ -100,7 +107,7 @@ pub fn read_schedule<A: Allocator>(alloc: A, text: &[u8]) -> Result<Schedule<A>,
     }
 }
 
-/// Reads a schedule as `read_schedule` does, and tells why a line is refused.
+/// Reads a schedule as `read_schedule` does, and returns the reason if a line is refused.
 pub fn parse_schedule<A: Allocator>(alloc: A, text: &[u8]) -> Result<Schedule<A>, Refusal>
     ensures ok { IfOk result (λ schedule. parsed_schedule text.now ≡ Ok schedule) }
     ensures refused { IfErr result (λ why. why ≢ Refusal.Memory

@@ -5,7 +5,7 @@ ghost use Rattle.qolb_script.specs.Stepped.{word_of, event_of};
 
 use link_core::Event;
 
-/// The kind of an event of a node, by its first word.
+/// The kind of an event that has only a node, as its first word tells.
 #[derive(Clone, Copy)]
 pub enum Step {
     Reset,
@@ -20,7 +20,7 @@ pub enum Step {
     Close,
 }
 
-/// All kinds.
+/// All kinds of such events.
 const STEPS: [Step; 10] = [
     Step::Reset,
     Step::Prepend,
@@ -35,14 +35,14 @@ const STEPS: [Step; 10] = [
 ];
 
 impl Step {
-    /// Returns the kind that a first word names, or `None` if it names none.
+    /// Returns the kind that this first word names, or `None` if it names none.
     pub fn named(word: &[u8]) -> Option<Step>
         ensures { result ≡ find (λ step. bytes_eq word.now (word_of step)) STEPS }
     {
         STEPS.iter().find(|step| word == step.word()).copied()
     }
 
-    /// Returns the first word of its events.
+    /// Returns the first word of the events of this kind.
     fn word(self) -> &'static [u8]
         ensures { result.now ≡ word_of self }
     {
@@ -60,7 +60,7 @@ impl Step {
         }
     }
 
-    /// Returns the event of this kind of a node.
+    /// Returns the event of this kind for a node.
     pub fn event(self, node: u64) -> Event
         ensures { result ≡ event_of self node }
     {

@@ -10,7 +10,7 @@ use link_core::Event;
 use std::alloc::{Allocator, Global};
 use std::marker::Model;
 
-/// A step script that was read: the header's number of nodes, and the events in order. Only `read_steps` makes it.
+/// A step script: the numbers in its header, and the events in order. Only `read_steps` and `parse_steps` create one.
 #[derive(Drop)]
 pub struct Steps<A: Allocator = Global> {
     nodes: u64,
@@ -45,7 +45,9 @@ impl<A: Allocator> Steps<A> {
         self.nodes
     }
 
-    /// Returns the lease of the line: the number of its served turns. Returns `None` if the header has none.
+    /// Returns the lease of the line, which is the number of acquisitions after which the line closes.
+    ///
+    /// Returns `None` if the header has no lease.
     pub fn lease(&self) -> Option<u64>
         ensures lease { result ≡ self.now.lease }
         ensures range { IsLease result }
@@ -63,7 +65,9 @@ impl<A: Allocator> Steps<A> {
     }
 }
 
-/// Reads a step script. The error is the first faulty line's, or `Memory` if a growth was refused.
+/// Reads a step script.
+///
+/// Allocates a vector for the events. The error is that of the first faulty line, or `Memory` if an allocation failed.
 pub fn read_steps<A: Allocator>(alloc: A, text: &[u8]) -> Result<Steps<A>, ScriptError>
     ensures ok { IfOk result (λ steps. steps_of text.now ≡ Ok steps) }
     ensures refused { IfErr result (λ error. error ≢ ScriptError.Memory
@@ -76,7 +80,7 @@ pub fn read_steps<A: Allocator>(alloc: A, text: &[u8]) -> Result<Steps<A>, Scrip
     }
 }
 
-/// Reads a step script as `read_steps` does, and tells why a line is refused.
+/// Reads a step script as `read_steps` does, and returns the reason if a line is refused.
 pub fn parse_steps<A: Allocator>(alloc: A, text: &[u8]) -> Result<Steps<A>, Refusal>
     ensures ok { IfOk result (λ steps. parsed_steps text.now ≡ Ok steps) }
     ensures refused { IfErr result (λ why. why ≢ Refusal.Memory → parsed_steps text.now ≡ Err why) }

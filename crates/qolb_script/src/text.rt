@@ -11,10 +11,10 @@ use crate::schedule::MAX_COMMANDS;
 use std::alloc::Allocator;
 use std::str;
 
-/// The largest number of digits of a number.
+/// The largest number of digits that a number may have.
 const MAX_DIGITS: usize = 20;
 
-/// Returns the bytes before the first separator, and those after it if there is one.
+/// Returns the bytes before the first separator, and the bytes after it if there is a separator.
 pub fn split_once(bytes: &[u8], separator: u8) -> (&[u8], Option<&[u8]>)
     ensures parts { MatchOption result.1 (slice_split (λ b. b == separator) bytes.now
         ≡ result.0.now ∷ []) (λ rest.
@@ -42,12 +42,12 @@ pub fn is_plain_line(line: &[u8]) -> bool
     line.iter().all(|&b| b' ' <= b && b <= b'~')
 }
 
-/// The lines of the rest of a text that have words, with their numbers.
+/// The remaining lines of a text that have at least one word, with their line numbers.
 #[derive(Drop)]
 pub struct NumberedLines<'a> {
     rest: Option<&'a [u8]>,
     number: u64,
-    // So the numbers of the lines fit.
+    // This invariant shows that every line number fits into 64 bits.
     ghost fits: { ForSome rest (λ r. number + length r.now + 1 < 2 ^ 64) },
 }
 
@@ -57,7 +57,7 @@ impl<'a> NumberedLines<'a> {
     ghost use Rattle.qolb_script.specs.Text.{numbered_lines, worded};
     ghost use Rattle.qolb_script.specs.Reading.{lines_left};
 
-    /// Returns the lines of a text that have words.
+    /// Returns the lines of a text that have at least one word.
     pub fn new(text: &'a [u8]) -> NumberedLines<'a>
         ensures { lines_left result ≡ worded (numbered_lines text.now) }
     {
@@ -67,7 +67,10 @@ impl<'a> NumberedLines<'a> {
         }
     }
 
-    /// Reads the items on these lines. Memory is refused only if the first of them has an item.
+    /// Reads the items on these lines.
+    ///
+    /// Allocates a vector for the items. Returns `Memory` only if the first of the lines is an item. Otherwise the
+    /// error is that of the first refused line.
     pub(crate) fn read_items<R: ReadItem, A: Allocator>(
         self,
         alloc: A,
@@ -123,7 +126,7 @@ impl<'a> Iterator for NumberedLines<'a> {
     }
 }
 
-/// The words of the rest of a line.
+/// The remaining words of a line.
 #[derive(Drop)]
 pub struct Words<'a> {
     rest: &'a [u8],
@@ -141,7 +144,7 @@ impl<'a> Words<'a> {
         Words { rest: line }
     }
 
-    /// Returns the words of a line that has no byte but a script's.
+    /// Returns the words of a line if every byte of the line is allowed in a script.
     pub fn of_line(line: &'a [u8]) -> Result<Words<'a>, Reason>
         ensures { MatchResult result
             (λ words. (is_plain line.now ≡ true) × (words_left words ≡ words_of line.now))
@@ -173,7 +176,9 @@ impl<'a> Iterator for Words<'a> {
     }
 }
 
-/// Returns the number that a word of 1 to 20 decimal digits writes, or `None` if it is not below 2^64.
+/// Returns the value of a word of 1 to 20 decimal digits.
+///
+/// Returns `None` for any other word, and if the value is 2^64 or more.
 fn number(word: &[u8]) -> Option<u64>
     ensures { result ≡ spec.number_of word.now }
 {
@@ -183,7 +188,8 @@ fn number(word: &[u8]) -> Option<u64>
     str::from_utf8(word).ok()?.parse().ok()
 }
 
-/// Returns the number that a word writes, if it is from `low` to `high`. The word is at this place of its line.
+/// Returns the number that a word denotes, if this number is from `low` to `high`. The word is number `place` of its
+/// line.
 pub fn number_within(place: u64, low: u64, high: u64, word: &[u8]) -> Result<u64, Reason>
     ensures number { result ≡ spec.number_within place low high word.now }
     ensures range { IfOk result (λ n. (low ≤ n) × (n ≤ high)) }
@@ -194,7 +200,7 @@ pub fn number_within(place: u64, low: u64, high: u64, word: &[u8]) -> Result<u64
     }
 }
 
-/// A reader of the lines below a header, each of which is an item.
+/// A reader of the lines below a header, each of which must be an item.
 pub trait ReadItem {
     ghost use Rattle.std.specs.Prelude.{◌≡◌, ℕ, List, Result, IfOk};
     ghost use Rattle.qolb_script.specs.declared.reason.Reason.{Reason};
@@ -202,13 +208,13 @@ pub trait ReadItem {
 
     type Item: Drop;
 
-    /// The item that these words are.
+    /// The item that a line with these words denotes, or the reason why the line is refused.
     ghost item_of: { Self → List (List ℕ) → Result Self.Item Reason };
 
-    /// The item's numbers are in the ranges that the header gives.
+    /// The numbers in the item lie in the ranges that the header determines.
     ghost in_range: { Self → Self.Item → Type 0 };
 
-    /// Reads the item on a line.
+    /// Reads the item on a line, or returns the reason why the line is refused.
     fn read_item(&self, line: &[u8]) -> Result<Self::Item, Reason>
         ensures item { result ≡ read_line (item_of self.now) line.now }
         ensures range { IfOk result (λ item. in_range self.now item) };

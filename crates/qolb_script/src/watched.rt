@@ -4,14 +4,14 @@ ghost use Rattle.qolb_script.specs.Watched.{inner_of, has_failed};
 
 use std::io::{ErrorKind, Read, Write};
 
-/// A reader or a writer with a flag, which its first fault sets for good.
+/// A reader or a writer with a flag, which its first failure sets for good.
 #[derive(Drop)]
 pub struct Watched<T> {
     inner: T,
     failed: bool,
 }
 
-/// The error of a read or a write that failed, or followed a failure.
+/// The error of a read or a write that failed, or that followed a failure.
 #[derive(Clone, Copy, Debug, PartialEq, Eq)]
 pub struct Fault;
 
@@ -27,7 +27,7 @@ impl<T> Watched<T> {
         }
     }
 
-    /// Returns the reader or writer.
+    /// Returns the reader or writer that is wrapped.
     pub fn into_inner(self) -> T
         ensures { result ≡ inner_of self }
     {
@@ -44,12 +44,14 @@ impl<T> Watched<T> {
 }
 
 impl<R: Read> Watched<R> {
-    /// Fills a part of the buffer. Returns 0 only at the end, or if the buffer has no room. An interrupted read is tried again.
+    /// Fills a part of the buffer, and returns the number of bytes read.
+    ///
+    /// Returns 0 only at the end of the input, or if the buffer has no room. An interrupted read is tried again.
     pub fn read(&mut self, buf: &mut [u8]) -> Result<usize, Fault>
         ensures bound { IfOk result (λ n. n ≤ length buf.new) }
         ensures fault { IsErr result ↔ (has_failed self.new ≡ true) }
 
-        // The bytes read are the next ones of the reader; after a fault no byte is read.
+        // The bytes read are the next bytes of the reader. After a failure no byte is read.
         ensures bytes { IfOk result (λ n.
             Consumes (R.remaining (inner_of self.old)) (R.remaining (inner_of self.new))
             (take n buf.new)) }
@@ -78,7 +80,9 @@ impl<R: Read> Watched<R> {
 }
 
 impl<W: Write> Watched<W> {
-    /// Writes all the bytes. An interrupted write is tried again; a write that takes no byte is a fault.
+    /// Writes all the bytes.
+    ///
+    /// An interrupted write is tried again. A write that takes no byte is a failure.
     pub fn write_all(&mut self, buf: &[u8]) -> Result<(), Fault>
         ensures fault { IsErr result ↔ (has_failed self.new ≡ true) }
         ensures bytes { OnOk result (Appends (W.contents (inner_of self.old))

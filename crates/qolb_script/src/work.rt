@@ -12,7 +12,9 @@ use crate::text::NumberedLines;
 use std::alloc::{Allocator, Global};
 use std::marker::Model;
 
-/// A work script that was read: its kind, the header's numbers, and the jobs in order. Only `read_work` makes it.
+/// A work script: its kind, the numbers in its header, and the jobs in order.
+///
+/// Only `read_work` and `parse_work` create a work script.
 #[derive(Drop)]
 pub struct Work<A: Allocator = Global> {
     kind: WorkKind,
@@ -59,7 +61,7 @@ impl<A: Allocator> Work<A> {
         self.workers
     }
 
-    /// Returns the number of lines: one for a board.
+    /// Returns the number of lines, which is 1 for a board.
     pub fn lines(&self) -> u64
         ensures lines { result ≡ self.now.lines }
         ensures range { (1 ≤ result) × (result ≤ MAX_LINES) }
@@ -78,7 +80,9 @@ impl<A: Allocator> Work<A> {
     }
 }
 
-/// Reads a work script of this kind. The error is the first faulty line's, or `Memory` if a growth was refused.
+/// Reads a work script of this kind.
+///
+/// Allocates a vector for the jobs. The error is that of the first faulty line, or `Memory` if an allocation failed.
 pub fn read_work<A: Allocator>(
     alloc: A,
     text: &[u8],
@@ -96,7 +100,7 @@ pub fn read_work<A: Allocator>(
     }
 }
 
-/// Reads a work script as `read_work` does, and tells why a line is refused.
+/// Reads a work script as `read_work` does, and returns the reason if a line is refused.
 pub fn parse_work<A: Allocator>(alloc: A, text: &[u8], kind: WorkKind) -> Result<Work<A>, Refusal>
     ensures ok { IfOk result (λ work. parsed_work kind text.now ≡ Ok work) }
     ensures refused { IfErr result (λ why. why ≢ Refusal.Memory

@@ -5,7 +5,7 @@ use Rattle.std.proofs.Common.{◌≡◌, ℕ, List, ◌++◌, ap, ◌∙◌, app
 pub record Written (start text now : List ℕ) : Type 0 where
   pub is : now ≡ start ++ text
 
--- a text was written as its first piece, and as one piece more: `begins start a why ▸ piece b why ▸ piece c why`
+-- A text as its first piece, followed by one piece after another: `begins start a why ▸ piece b why ▸ piece c why`.
 pub record Piece (was a now : List ℕ) : Type 0 where
   pub pushed : now ≡ was ++ a
 

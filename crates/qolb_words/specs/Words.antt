@@ -12,12 +12,12 @@ use Rattle.qolb_script.specs.declared.command.Command.TheVariants.{Enq, Poll, Sh
 use Rattle.qolb_script.specs.declared.reply_text.Said.{Said}
 use Rattle.qolb_script.specs.declared.reply_text.Said.TheVariants as said
 
--- a number, or nothing
+-- the digits of a number, or nothing
 abbrev pub number_if : Option ℕ → List ℕ
 number_if None = []
 number_if (Some n) = decimal n
 
--- a piece of a text; and some texts, one behind another
+-- the text of a piece, and the text of several texts one after another
 abbrev pub piece_text : Piece → List ℕ
 piece_text (Words words) = words.now
 piece_text (Number n) = decimal n
@@ -26,11 +26,11 @@ piece_text (Maybe o) = number_if o
 abbrev pub joined : List (List ℕ) → List ℕ
 joined parts = flat_map (λ (part : List ℕ). part) parts
 
--- a text, and a number after it
+-- a text followed by a number
 abbrev pub field : List ℕ → ℕ → List ℕ
 field words n = words ++ decimal n
 
--- the answer is that the command is misuse
+-- the answer says that the command is misuse
 abbrev pub is_misuse : Said → Bool
 is_misuse said.Misuse = true
 is_misuse what = false
@@ -59,12 +59,12 @@ step_verb (event.Freed n) = codes "freed"
 step_verb (event.Write n mask bytes) = codes "write"
 step_verb (event.Close n) = codes "close"
 
--- some words, and a node behind them if there is one
+-- some words, followed by a node if there is one
 abbrev pub named : List ℕ → Option ℕ → List ℕ
 named words None = words
 named words (Some n) = field words n
 
--- the words of a point; the node that it names
+-- the words for a point, and the node that the point names
 abbrev pub point_name : Point → List ℕ
 point_name point.Idle = codes "Idle"
 point_name point.Ready = codes "Ready"

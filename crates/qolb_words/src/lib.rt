@@ -9,18 +9,18 @@ use link_core::{Event, Point};
 use qolb_script::Command;
 use std::alloc::{AllocError, Allocator};
 
-/// A piece of a text.
+/// One piece of a text that is built from pieces.
 #[derive(Clone, Copy)]
 pub enum Piece<'a> {
     /// Some words.
     Words(&'a [u8]),
     /// A number, in decimal digits.
     Number(u64),
-    /// A number, or nothing.
+    /// A number in decimal digits, or nothing.
     Maybe(Option<u64>),
 }
 
-/// Appends a number, in decimal digits.
+/// Appends a number in decimal digits.
 fn push_number<A: Allocator>(text: &mut Vec<u8, A>, number: u64) -> Result<(), AllocError>
     ensures { OnOk result (text.new.items ≡ text.old.items ++ decimal number) }
 {
@@ -30,7 +30,7 @@ fn push_number<A: Allocator>(text: &mut Vec<u8, A>, number: u64) -> Result<(), A
     Ok(())
 }
 
-/// Appends a piece.
+/// Appends a piece to the text.
 fn push_piece<A: Allocator>(text: &mut Vec<u8, A>, piece: &Piece) -> Result<(), AllocError>
     ensures { OnOk result (text.new.items ≡ text.old.items ++ spec.piece_text piece.now) }
 {
@@ -42,7 +42,7 @@ fn push_piece<A: Allocator>(text: &mut Vec<u8, A>, piece: &Piece) -> Result<(), 
     Ok(())
 }
 
-/// Appends some pieces, one behind another.
+/// Appends several pieces, one after another.
 pub fn push_all<A: Allocator>(text: &mut Vec<u8, A>, pieces: &[Piece]) -> Result<(), AllocError>
     ensures { OnOk result (text.new.items ≡ text.old.items
         ++ flat_map spec.piece_text pieces.now) }
@@ -53,7 +53,7 @@ pub fn push_all<A: Allocator>(text: &mut Vec<u8, A>, pieces: &[Piece]) -> Result
     Ok(())
 }
 
-/// Appends some words and a number.
+/// Appends some words and a number after them.
 pub fn push_field<A: Allocator>(
     text: &mut Vec<u8, A>,
     words: &[u8],
@@ -100,7 +100,7 @@ pub fn step_verb(event: &Event) -> &'static [u8]
     }
 }
 
-/// Appends some words, and a node behind them if there is one.
+/// Appends some words, and a node after them if there is one.
 pub fn push_named<A: Allocator>(
     text: &mut Vec<u8, A>,
     words: &[u8],
@@ -115,7 +115,7 @@ pub fn push_named<A: Allocator>(
     Ok(())
 }
 
-/// Returns the words of a point, without the node that it names.
+/// Returns the words for a point, without the node that the point names.
 pub fn point_name(point: Point) -> &'static [u8]
     ensures { result.now ≡ spec.point_name point }
 {
@@ -135,7 +135,7 @@ pub fn point_name(point: Point) -> &'static [u8]
     }
 }
 
-/// Returns the node that a point names, if it names one.
+/// Returns the node that a point names, or `None` if it names none.
 pub fn named_by(point: Point) -> Option<u64>
     ensures { result ≡ spec.named_by point }
 {

@@ -4,7 +4,7 @@ use line_board::{Tasks, decode, encode};
 use line_lanes::Line64;
 use std::process::Abort;
 
-/// The tasks in this order, at most as many as fit on a board.
+/// Returns a board with the tasks in this order, up to the number that fits on a board.
 fn tasks_of(numbers: &[u64]) -> Tasks {
     let mut tasks = Tasks::new();
     for number in numbers {
@@ -15,7 +15,7 @@ fn tasks_of(numbers: &[u64]) -> Tasks {
     tasks
 }
 
-/// Expects that a board of these tasks encodes to this line, and that the line decodes to the tasks.
+/// Expects that a board with these tasks encodes to this line, and that the line decodes to the tasks.
 fn expect_board<R: Abort>(rt: &R, numbers: &[u64], line: Line64) {
     let tasks = tasks_of(numbers);
     expect(rt, "encoded", encode(&tasks), line);
@@ -51,7 +51,7 @@ fn boards_stand_lowest_byte_first(rt: HostRuntime) {
     expect_board(&rt, &[1, 2, 3, 4, 5, 6, 7], full);
 }
 
-/// Lines that are no boards.
+/// Lines that do not encode a board.
 static NO_BOARDS: [(Bytes, &str); 3] = [
     (&[(0, 8)], "eight tasks"),
     (&[(0, 1), (24, 5)], "lane 3 of one task"),

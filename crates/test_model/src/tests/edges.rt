@@ -8,7 +8,7 @@ use std::alloc::Global;
 use std::process::Abort;
 use std::test::Fail;
 
-/// Scripts that are to be of these kinds, with the number of the refused line and what is said of it.
+/// Scripts that should be of these kinds, with the number of the refused line and the complaint about the line.
 static EDGES: [(ScriptKind, &str, (u64, &str)); 13] = [
     (
         ScriptKind::Schedule,
@@ -98,7 +98,8 @@ static EDGES: [(ScriptKind, &str, (u64, &str)); 13] = [
     ),
 ];
 
-/// Returns the number of the refused line of a script that is to be of this kind, and what is said of the line.
+/// Reads a script that should be of this kind, and returns the number of the refused line and the complaint about the
+/// line.
 fn complaint_of(alloc: Global, kind: ScriptKind, script: &[u8]) -> Result<(u64, String), Fail> {
     let why = refusal_of(alloc, kind, script).ok_or("a refusal")?;
     let complaint = complaint_about(script, why).ok_or("a complaint")?;
@@ -109,7 +110,7 @@ fn complaint_of(alloc: Global, kind: ScriptKind, script: &[u8]) -> Result<(u64, 
     }
 }
 
-/// Expects that this line of a script is refused, and that this is said of it.
+/// Expects that this line of a script is refused with this complaint.
 fn expect_said<R: Abort>(
     rt: &R,
     alloc: Global,
@@ -130,19 +131,19 @@ fn says_what_is_just_outside(rt: HostRuntime) -> Result<(), Fail> {
     Ok(())
 }
 
-/// Returns `true` if a terminal shows the byte, and does nothing else for it.
+/// Returns `true` if a terminal only displays the byte and does nothing else with it.
 fn is_seen(byte: u8) -> bool {
     matches!(byte, b' '..=b'~')
 }
 
-/// What is said of a command that has this byte, which no script has, in its first word.
+/// The complaint about a command whose first word contains this byte, which is not allowed in a script.
 fn said_of(alloc: Global, byte: u8) -> Result<String, Fail> {
     Ok(format!(in alloc;
         "    x\\x{byte:02x}y 1 0\nbyte 2, \\x{byte:02x}, is neither a space nor a visible ASCII character"
     )?)
 }
 
-/// A newline is between the refused line and what is said of it, and no other byte of a complaint is one on which a terminal acts.
+/// Checks that a complaint contains no byte on which a terminal acts, except for the newline after the refused line.
 #[test]
 fn no_byte_of_a_word_acts_on_a_terminal(rt: HostRuntime) -> Result<(), Fail> {
     let alloc = rt.alloc();
@@ -191,7 +192,7 @@ fn node_200_is_the_last(rt: HostRuntime) -> Result<(), Fail> {
     expect_said(&rt, alloc, ScriptKind::Schedule, script, (1, wanted))
 }
 
-/// The first 200 bytes of a line are shown, and all are looked at.
+/// Checks that the complaint shows the first 200 bytes of a line, and that the reader checks all of the line.
 #[test]
 fn a_byte_that_is_not_shown_is_told(rt: HostRuntime) -> Result<(), Fail> {
     let alloc = rt.alloc();

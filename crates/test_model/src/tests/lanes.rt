@@ -7,7 +7,7 @@ use line_lanes::{
 /// The bytes of a new line.
 static NEW: [(usize, u8); 5] = [(0, 10), (8, 18), (31, 41), (32, 42), (63, 73)];
 
-/// Masks, each with the bytes of the new line that it puts into the line of sevens.
+/// Masks, each with the line that results if its bytes of the new line replace those of a line of sevens.
 static CHOSEN: [(Mask, Bytes); 2] = [
     (Mask(0), &[]),
     (
@@ -26,8 +26,10 @@ fn a_mask_chooses_bytes(rt: HostRuntime) {
     }
 }
 
-/// Places and bytes, each with the mask and the bytes of the line if they fit: no byte behind the last one, no byte outside, the last byte,
-/// one byte too many, over both halves.
+/// Places and bytes, each with the mask and the line that result, if the bytes fit.
+///
+/// The rows cover no byte after the last place, no byte at a place outside the line, the last byte, one byte too many,
+/// and bytes in both halves of the line.
 static PLACED: [(usize, &[u8], Option<(Mask, Bytes)>); 5] = [
     (64, b"", Some((Mask(0), &[]))),
     (65, b"", None),
@@ -46,7 +48,7 @@ fn bytes_are_placed(rt: HostRuntime) {
     expect(&rt, "the whole line", placed(0, &SEVENS.bytes), whole);
 }
 
-/// Two lines that differ in two bytes, one on each side of the middle.
+/// Two lines that differ in two bytes, one in each half.
 static LEFT: [(usize, u8); 3] = [(5, 5), (31, 1), (40, 9)];
 
 static RIGHT: [(usize, u8); 3] = [(5, 5), (32, 2), (40, 9)];
@@ -73,7 +75,7 @@ static COUNTED: [(usize, u8); 8] = [
     (7, 8),
 ];
 
-/// 258 in the fifth lane, and below in the last.
+/// The number 258 in the fifth lane. The next constant has it in the last lane.
 static IN_FIFTH: [(usize, u8); 2] = [(32, 2), (33, 1)];
 
 static IN_LAST: [(usize, u8); 2] = [(56, 2), (57, 1)];
@@ -101,14 +103,14 @@ fn a_lane_is_set(rt: HostRuntime) {
     expect(&rt, "the others stay", Some(line), wanted);
 }
 
-/// Two lines to add, and below their sum lane by lane.
+/// Two lines to add, followed by their sum in each lane.
 static ADDEND: [(usize, u8); 3] = [(8, 255), (32, 2), (33, 1)];
 
 static OTHER: [(usize, u8); 3] = [(8, 1), (32, 254), (63, 128)];
 
 static SUM: [(usize, u8); 3] = [(9, 1), (33, 2), (63, 128)];
 
-/// 1 in the first lane, and in the last.
+/// A line with 1 in the first lane. The next constant has 1 in the last lane.
 static ONES: [Bytes; 2] = [&[(0, 1)], &[(56, 1)]];
 
 #[test]

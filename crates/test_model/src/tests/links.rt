@@ -5,7 +5,7 @@ use link_core::{Core, Entry, Event, NotEnabled, Place, Point, Told, replay};
 use std::process::Abort;
 use std::test::Fail;
 
-/// Runs the events from an opened line, and expects each answer or error. Returns the core.
+/// Runs the events on a line that was just opened, expects each answer or error, and returns the core.
 fn expect_run(
     rt: &impl Abort,
     nodes: u64,
@@ -17,10 +17,10 @@ fn expect_run(
     Ok(core)
 }
 
-/// The most events of a run that is replayed.
+/// The largest number of events in a run that is replayed.
 const MAX_EVENTS: usize = 26;
 
-/// Expects that a replay of the run reaches this core, or names the first refused event.
+/// Expects that a replay of the run reaches this core, or that it names the first refused event.
 fn expect_replay(rt: &impl Abort, core: &Core, script: &[(Event, Result<Told, NotEnabled>)]) {
     let mut events = [Event::Reset(1); MAX_EVENTS];
     let mut wanted = None;
@@ -50,14 +50,14 @@ fn words_of(core: &Core) -> (u64, Place, u64) {
     (core.home(), core.place(), core.rank())
 }
 
-/// Runs the events from this core on, and expects each answer or error.
+/// Runs the events from this core, and expects each answer or error.
 fn expect_told(rt: &impl Abort, core: &mut Core, script: &[(Event, Result<Told, NotEnabled>)]) {
     for (event, want) in script {
         expect_at(rt, event, core.step(*event), *want);
     }
 }
 
-/// The nodes of a line, and the events of a run with their answers.
+/// The number of nodes of a line, and the events of a run with their answers.
 static RUNS: [(u64, &[(Event, Result<Told, NotEnabled>)]); 9] = [
     // a release finds a successor that has not linked yet
     (
@@ -115,7 +115,7 @@ static RUNS: [(u64, &[(Event, Result<Told, NotEnabled>)]); 9] = [
             (Event::Roll(2), Ok(Told::Granted)),
         ],
     ),
-    // a node asks for a line that it has closed
+    // a node requests a line that it has closed
     (
         2,
         &[
@@ -128,7 +128,7 @@ static RUNS: [(u64, &[(Event, Result<Told, NotEnabled>)]); 9] = [
             (Event::Home(1), Ok(Told::Closed)),
         ],
     ),
-    // events that are not enabled at their node's point
+    // events that are not enabled at the point of their node
     (
         1,
         &[
@@ -138,7 +138,7 @@ static RUNS: [(u64, &[(Event, Result<Told, NotEnabled>)]); 9] = [
             (Event::Home(1), Err(NotEnabled::Point)),
         ],
     ),
-    // a release passes two withdrawn nodes before one that has not linked yet
+    // a release skips two withdrawn nodes before a node that has not linked yet
     (
         4,
         &[
@@ -170,7 +170,7 @@ static RUNS: [(u64, &[(Event, Result<Told, NotEnabled>)]); 9] = [
             (Event::Load(3), Ok(Told::Free)),
         ],
     ),
-    // a closed line passes a withdrawn node, and tells the next one
+    // a closed line skips a withdrawn node, and notifies the next node
     (
         3,
         &[
@@ -196,7 +196,7 @@ static RUNS: [(u64, &[(Event, Result<Told, NotEnabled>)]); 9] = [
             (Event::Load(2), Ok(Told::Free)),
         ],
     ),
-    // a node that is told finds a successor that has not linked yet
+    // a notified node finds a successor that has not linked yet
     (
         2,
         &[
@@ -216,7 +216,7 @@ static RUNS: [(u64, &[(Event, Result<Told, NotEnabled>)]); 9] = [
             (Event::Load(2), Ok(Told::Free)),
         ],
     ),
-    // nodes 0 and 3 of a line for two
+    // nodes 0 and 3 of a line with two nodes
     (
         2,
         &[
@@ -235,9 +235,9 @@ fn runs_are_told_and_replayed(rt: HostRuntime) -> Result<(), Fail> {
     Ok(())
 }
 
-/// The lease of a line, and a run that ends it.
+/// The lease of a line, and a run that uses the lease up.
 static LEASES: [(u64, &[(Event, Result<Told, NotEnabled>)]); 2] = [
-    // a lease of one turn
+    // a lease of one acquisition
     (
         1,
         &[
@@ -249,7 +249,7 @@ static LEASES: [(u64, &[(Event, Result<Told, NotEnabled>)]); 2] = [
             (Event::Home(1), Ok(Told::Closed)),
         ],
     ),
-    // two turns, and a withdrawal between them
+    // a lease of two acquisitions, and a withdrawal between them
     (
         2,
         &[
@@ -280,7 +280,7 @@ fn the_last_turn_of_a_lease_closes_the_line(rt: HostRuntime) -> Result<(), Fail>
     Ok(())
 }
 
-/// A release that has marked its request as done, with a successor.
+/// A release that has marked its request as done, and that has a successor.
 static HANDING_OVER: [(Event, Result<Told, NotEnabled>); 7] = [
     (Event::Reset(1), Ok(Told::Went)),
     (Event::Prepend(1), Ok(Told::Granted)),
@@ -291,7 +291,7 @@ static HANDING_OVER: [(Event, Result<Told, NotEnabled>); 7] = [
     (Event::Done(1), Ok(Told::Went)),
 ];
 
-/// The grant that ends the release, and then the release by the next holder.
+/// The grant that ends the release, and the release by the next holder.
 static GRANTED: [(Event, Result<Told, NotEnabled>); 1] = [(Event::Grant(1), Ok(Told::Released))];
 
 static TAKEN_HOME: [(Event, Result<Told, NotEnabled>); 2] = [
@@ -299,7 +299,7 @@ static TAKEN_HOME: [(Event, Result<Told, NotEnabled>); 2] = [
     (Event::Home(2), Ok(Told::Released)),
 ];
 
-/// An entry without a flag or link.
+/// An entry with neither a flag nor a link.
 const CLEAR: Entry = Entry {
     granted: false,
     rolled: false,
@@ -353,7 +353,7 @@ fn a_hand_over_is_seen_in_the_words(rt: HostRuntime) -> Result<(), Fail> {
     Ok(())
 }
 
-/// Node 2 holds the line, and nodes 1 and 3 have asked and not linked.
+/// The core in which node 2 holds the line, and nodes 1 and 3 have made their requests but have not linked them.
 static THREE_PENDING: [(Event, Result<Told, NotEnabled>); 12] = [
     (Event::Reset(1), Ok(Told::Went)),
     (Event::Prepend(1), Ok(Told::Granted)),
@@ -369,7 +369,8 @@ static THREE_PENDING: [(Event, Result<Told, NotEnabled>); 12] = [
     (Event::Prepend(3), Ok(Told::Went)),
 ];
 
-/// The productive events from `THREE_PENDING` on, with the rank (the ranking function) before each.
+/// The productive events from `THREE_PENDING`, each with the rank before it. The rank is the value of the ranking
+/// function.
 static RANKS: [(u64, Event); 12] = [
     (12, Event::Load(2)),
     (11, Event::Link(1)),

@@ -5,7 +5,7 @@ use qolb_script::{Allowed, Reason};
 use std::alloc::Global;
 use std::test::Fail;
 
-/// Words that may not stand at a place, and the words to write there: those that may, and that do what those say.
+/// Words that are not allowed at a place, each with the allowed word that resembles it or has the same meaning.
 static NEAR: [(Allowed, &[&str], &str); 25] = [
     (
         Allowed::Commands,
@@ -90,7 +90,7 @@ static NEAR: [(Allowed, &[&str], &str); 25] = [
     (Allowed::BankJobs, &["MOVE", "transfer", "send"], "move"),
 ];
 
-/// What is said of a line with this word alone.
+/// Returns the complaint about a line that consists of this word.
 fn said_of(alloc: Global, allowed: Allowed, word: &str) -> Result<String, Fail> {
     let complaint = Complaint {
         line: word.as_bytes(),
@@ -123,7 +123,7 @@ const PLACES: [Allowed; 7] = [
     Allowed::Workers,
 ];
 
-/// Words that are near none.
+/// Words that do not resemble any allowed word.
 const FAR: [&str; 4] = ["x", "withdraws", "loads", "take_out_of_the_bank_today"];
 
 #[test]

@@ -7,26 +7,26 @@ use qolb_model::{Enq, LineConfig, OpenError, Out, PlainLine, Poll, PortState, Wr
 use std::process::Abort;
 use std::test::Fail;
 
-/// A call with its outcome.
+/// A call, together with its outcome.
 #[derive(Clone, Copy, Debug, PartialEq)]
 enum CallOutcome {
     Enq(Enq),
     Poll(Poll),
     Out(Out),
-    /// Whether the node's last request is clear.
+    /// A query whether the node's last request is clear.
     Clear(bool),
     Deq,
     Shut,
-    /// A write to the bytes 0 and 1.
+    /// A write to bytes 0 and 1.
     Wrote(u8, u8),
-    /// The holder reads these bytes 0, 1 and 2.
+    /// A read by the holder, which finds these values in bytes 0, 1 and 2.
     Sees(u8, u8, u8),
     TurnsLeft(Option<u64>),
-    /// No call: the node's state.
+    /// A look at the state of the node, without a call.
     State(PortState),
 }
 
-/// Makes a call of this kind for the node, and returns its outcome.
+/// Makes a call of this kind for the node, and returns the outcome.
 fn done(line: &mut PlainLine, nodes: u64, node: u64, call: CallOutcome) -> CallOutcome
     requires { line.old.nodes ≡ nodes }
     ensures { line.new.nodes ≡ nodes }
@@ -87,9 +87,9 @@ fn expect_run<R: Abort>(
     Ok(())
 }
 
-/// The nodes of a line, its lease, and calls with their outcomes.
+/// The number of nodes of a line, its lease, and calls with their outcomes.
 static RUNS: [(u64, Option<u64>, &[(u64, CallOutcome)]); 6] = [
-    // a node is handed the line that another node wrote to
+    // a node receives the line that another node wrote to
     (
         2,
         None,
@@ -108,7 +108,7 @@ static RUNS: [(u64, Option<u64>, &[(u64, CallOutcome)]); 6] = [
             (2, CallOutcome::Sees(0xa1, 0xb2, 0)),
         ],
     ),
-    // a node withdraws, is not clear and so busy until a release passes it, and asks again
+    // a node withdraws, is therefore busy and not clear until a release skips it, and makes a new request
     (
         3,
         None,
@@ -129,7 +129,7 @@ static RUNS: [(u64, Option<u64>, &[(u64, CallOutcome)]); 6] = [
             (2, CallOutcome::Enq(Enq::Queued)),
         ],
     ),
-    // a node closes the line before another node that waits
+    // a node closes the line while another node waits
     (
         2,
         None,
@@ -144,7 +144,7 @@ static RUNS: [(u64, Option<u64>, &[(u64, CallOutcome)]); 6] = [
             (1, CallOutcome::Enq(Enq::Closed)),
         ],
     ),
-    // two turns, and no third
+    // a lease of two acquisitions allows no third
     (
         2,
         Some(2),
@@ -164,7 +164,7 @@ static RUNS: [(u64, Option<u64>, &[(u64, CallOutcome)]); 6] = [
             (2, CallOutcome::Enq(Enq::Closed)),
         ],
     ),
-    // a withdrawal between two turns of a lease
+    // a withdrawal between the two acquisitions of a lease
     (
         3,
         Some(2),
@@ -178,7 +178,7 @@ static RUNS: [(u64, Option<u64>, &[(u64, CallOutcome)]); 6] = [
             (3, CallOutcome::TurnsLeft(Some(1))),
         ],
     ),
-    // a line without a lease counts no turns
+    // a line without a lease does not count acquisitions
     (
         33,
         None,

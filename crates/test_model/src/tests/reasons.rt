@@ -8,7 +8,7 @@ use std::alloc::Global;
 use std::process::Abort;
 use std::test::Fail;
 
-/// Schedules, with the number of the refused line and the reason.
+/// Schedules, each with the number of the refused line and the reason.
 static SCHEDULES: [(&str, Option<(u64, Reason)>); 37] = [
     ("", Some((1, Reason::Empty(ScriptKind::Schedule)))),
     ("\n  \n", Some((1, Reason::Empty(ScriptKind::Schedule)))),
@@ -271,7 +271,7 @@ static SCHEDULES: [(&str, Option<(u64, Reason)>); 37] = [
     ),
 ];
 
-/// Step scripts, with the number of the refused line and the reason.
+/// Step scripts, each with the number of the refused line and the reason.
 static STEPS: [(&str, Option<(u64, Reason)>); 21] = [
     ("\n", Some((1, Reason::Empty(ScriptKind::Steps)))),
     ("nodes\t2\n", Some((1, Reason::Byte))),
@@ -410,7 +410,7 @@ static STEPS: [(&str, Option<(u64, Reason)>); 21] = [
     ),
 ];
 
-/// Returns why a script of this kind is refused.
+/// Returns the reason why a script of this kind is refused.
 pub(crate) fn refusal_of(alloc: Global, kind: ScriptKind, text: &[u8]) -> Option<Refusal> {
     match kind {
         ScriptKind::Schedule => parse_schedule(alloc, text).err(),
@@ -420,7 +420,7 @@ pub(crate) fn refusal_of(alloc: Global, kind: ScriptKind, text: &[u8]) -> Option
     }
 }
 
-/// Expects that each script of this kind is refused for the line and the reason beside it, or is not refused.
+/// Expects that each script of this kind is refused at the line and for the reason beside it, or that it is accepted.
 pub(crate) fn expect_reasons<R: Abort>(
     rt: &R,
     alloc: Global,
@@ -442,7 +442,7 @@ fn tells_what_is_wrong(rt: HostRuntime) {
     expect_reasons(&rt, rt.alloc(), ScriptKind::Steps, &STEPS);
 }
 
-/// The text of a complaint.
+/// Returns the text of a complaint.
 fn shown(alloc: Global, script: &[u8]) -> Result<String, Fail> {
     let why = refusal_of(alloc, ScriptKind::Schedule, script).ok_or("a refusal")?;
     let complaint = complaint_about(script, why).ok_or("a complaint")?;

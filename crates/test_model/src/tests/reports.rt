@@ -3,7 +3,7 @@ use crate::tests::rows::expect_at;
 use qolb_script::{Report, Watched, write_report};
 use std::test::Fail;
 
-/// Reports, and their texts.
+/// Reports, each with its text.
 static REPORTS: [(Report, &str); 3] = [
     (
         Report::Board {

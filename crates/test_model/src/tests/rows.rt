@@ -7,7 +7,7 @@ use std::fmt::Debug;
 use std::process::Abort;
 use std::test::Fail;
 
-/// Asserts that `found` is `wanted`; a failure prints `row`.
+/// Asserts that `found` equals `wanted`. If it does not, the test prints `row`.
 pub(crate) fn expect<R: Abort, T: PartialEq + Debug + Drop>(
     rt: &R,
     row: &str,
@@ -17,7 +17,7 @@ pub(crate) fn expect<R: Abort, T: PartialEq + Debug + Drop>(
     assert_eq!(rt; found, wanted, "{row}");
 }
 
-/// Asserts that `found` is `wanted`; a failure prints `at`.
+/// Asserts that `found` equals `wanted`. If it does not, the test prints `at`.
 pub(crate) fn expect_at<R: Abort, D: Debug, T: PartialEq + Debug + Drop>(
     rt: &R,
     at: &D,
@@ -27,7 +27,7 @@ pub(crate) fn expect_at<R: Abort, D: Debug, T: PartialEq + Debug + Drop>(
     assert_eq!(rt; found, wanted, "at {at:?}");
 }
 
-/// The line with one byte replaced.
+/// Returns the line with one byte replaced.
 fn with_byte(line: &Line64, place: usize, byte: u8) -> Line64 {
     let mut bytes = line.to_bytes();
     if place < 64 {
@@ -39,7 +39,7 @@ fn with_byte(line: &Line64, place: usize, byte: u8) -> Line64 {
 /// Bytes, each with its place in a line.
 pub(crate) type Bytes = &'static [(usize, u8)];
 
-/// The line with these bytes replaced.
+/// Returns the line with these bytes replaced.
 pub(crate) fn with_bytes(line: &Line64, bytes: &[(usize, u8)]) -> Line64 {
     let mut line = *line;
     for (place, byte) in bytes.iter().copied() {
@@ -48,17 +48,21 @@ pub(crate) fn with_bytes(line: &Line64, bytes: &[(usize, u8)]) -> Line64 {
     line
 }
 
-/// The line of zeros except for these bytes.
+/// Returns a line of zeros, except for these bytes.
 pub(crate) fn line_with(bytes: &[(usize, u8)]) -> Line64 {
     with_bytes(&Line64::zero(), bytes)
 }
 
-/// The line of bytes 7, and below that of bytes 255.
+/// A line in which every byte is 7. The next constant is a line in which every byte is 255.
 pub(crate) static SEVENS: Line64 = Line64 { bytes: [7; 64] };
 
 pub(crate) static FULL: Line64 = Line64 { bytes: [255; 64] };
 
-/// Reads `items` items on heaps that grow by 64 bytes. The reading is refused for want of memory more than `least` times, until a heap
+/// Reads a script of `items` items on heaps of growing size.
+///
+/// Each heap is 64 bytes larger than the one before. The test expects that reading runs out of memory on more than
+/// `least` heaps, and that it succeeds on every larger heap after the first success. Nothing may stay allocated on any
+/// heap.
 /// serves; each larger heap serves, too. Nothing stays allocated on a heap.
 pub(crate) fn expect_refusals<R: Abort, F: Fn(&LocalHeap) -> Result<usize, ScriptError>>(
     rt: &R,

@@ -6,7 +6,7 @@ use qolb_script::{Command, Schedule, ScriptError, read_schedule};
 use std::alloc::{AllocError, Global};
 use std::test::Fail;
 
-/// Refused scripts, each with its error.
+/// Schedules that are refused, each with its error.
 static REFUSED: [(&str, ScriptError); 38] = [
     ("", ScriptError::BadLine(1)),
     ("\n \n\n", ScriptError::BadLine(1)),
@@ -61,7 +61,7 @@ static REFUSED: [(&str, ScriptError); 38] = [
     ),
     ("nodes 2 lines 1\nwrite 1 0 0 zz\n", ScriptError::BadLine(2)),
     ("nodes 2 lines 1\nwrite 3 0 0 zz\n", ScriptError::Number(2)),
-    // the script ends in the middle of a line
+    // The script ends in the middle of a line.
     ("nodes 2 lines", ScriptError::BadLine(1)),
     (
         "nodes 2 lines 1\nenq 1 0\nwrite 1 0 0 a1b",
@@ -73,7 +73,7 @@ static REFUSED: [(&str, ScriptError); 38] = [
     ),
 ];
 
-/// A script of `count` commands.
+/// Returns a script with `count` commands.
 fn many(alloc: Global, count: u64) -> Result<Vec<u8>, AllocError> {
     let mut text = Vec::from_slice(alloc, b"nodes 2 lines 1\n")?;
     for _ in 0..count {
@@ -102,7 +102,7 @@ fn refuses_more_bytes_than_a_line(rt: HostRuntime) -> Result<(), Fail> {
     Ok(())
 }
 
-/// Each kind of command except a write.
+/// One command of each kind, except for a write.
 static COMMANDS: [Command; 6] = [
     Command::Enq { node: 1, line: 7 },
     Command::Poll { node: 1, line: 0 },

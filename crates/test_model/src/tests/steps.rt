@@ -5,7 +5,7 @@ use link_core::Event;
 use qolb_script::{ScriptError, Steps, read_steps};
 use std::test::Fail;
 
-/// Refused step scripts, each with its error.
+/// Step scripts that are refused, each with its error.
 static REFUSED: [(&str, ScriptError); 20] = [
     ("", ScriptError::BadLine(1)),
     ("\n \n", ScriptError::BadLine(1)),
@@ -37,7 +37,7 @@ fn names_the_first_fault(rt: HostRuntime) {
     }
 }
 
-/// Each kind of event except a write, each by a node of its own.
+/// One event of each kind except for a write, each from a different node.
 static EVENTS: [Event; 10] = [
     Event::Reset(1),
     Event::Prepend(2),

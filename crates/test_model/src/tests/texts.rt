@@ -4,7 +4,7 @@ use qolb_explain::Complaint;
 use qolb_script::{Allowed, Form, Reason, ScriptKind};
 use std::test::Fail;
 
-/// Lines, their faults, and what is said of them.
+/// Lines with the reasons why they are refused, each with the complaint.
 static TEXTS: [(&str, Reason, &str); 56] = [
     (
         "",

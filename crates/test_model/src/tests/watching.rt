@@ -5,7 +5,8 @@ use std::io;
 use std::io::{Error, ErrorKind, Read, Write};
 use std::test::Fail;
 
-/// A reader of one byte a read, with `interruptions` interruptions before each read. After `left` reads it fails once with `kind`.
+/// A reader that returns one byte for each read, after `interruptions` interruptions. After `left` reads it fails once
+/// with `kind`.
 #[derive(Drop)]
 struct FailingReader {
     kind: ErrorKind,
@@ -34,7 +35,7 @@ impl Read for FailingReader {
     }
 }
 
-/// A writer of one byte a write, with `interruptions` interruptions before each write.
+/// A writer that takes one byte in each write, after `interruptions` interruptions.
 #[derive(Drop)]
 struct SlowWriter {
     taken: Vec<u8>,
@@ -59,7 +60,7 @@ impl Write for SlowWriter {
     }
 }
 
-/// A writer whose first write fails or takes no byte; later writes take all.
+/// A writer whose first write fails or takes no byte. Later writes take all bytes.
 #[derive(Drop)]
 struct FailingWriter {
     fails: bool,
@@ -87,7 +88,7 @@ impl Write for FailingWriter {
 /// The number of interruptions before each read or write.
 static INTERRUPTIONS: [u64; 5] = [0, 1, 2, 1_000, 100_000];
 
-/// Errors that are not interruptions.
+/// Error kinds other than an interruption.
 static FAULTS: [ErrorKind; 8] = [
     ErrorKind::Other,
     ErrorKind::WouldBlock,
@@ -168,7 +169,7 @@ fn bytes_are_read_and_written(rt: HostRuntime) -> Result<(), Fail> {
     let mut part = [0; 4];
     let (none, some) = part.split_at_mut(0);
     for read in [4, 3, 0] {
-        // without room nothing is read, and that is no fault
+        // With an empty buffer nothing is read, and this is not a failure.
         let found = (reader.read(none), reader.failed(), reader.read(some));
         expect_at(&rt, &read, found, (Ok(0), false, Ok(read)));
     }

@@ -4,7 +4,7 @@ use qolb_script::{Job, ScriptError, WorkKind, read_work};
 use std::alloc::{AllocError, Global};
 use std::test::Fail;
 
-/// Refused board scripts, each with its error.
+/// Work scripts of boards that are refused, each with its error.
 static REFUSED_OF_BOARDS: [(&str, ScriptError); 21] = [
     ("", ScriptError::BadLine(1)),
     ("\n \n", ScriptError::BadLine(1)),
@@ -32,7 +32,7 @@ static REFUSED_OF_BOARDS: [(&str, ScriptError); 21] = [
     ("board workers 1\n1 put -1\n", ScriptError::Number(2)),
 ];
 
-/// Refused bank scripts, each with its error.
+/// Work scripts of banks that are refused, each with its error.
 static REFUSED_OF_BANKS: [(&str, ScriptError); 15] = [
     ("board workers 1\n", ScriptError::BadLine(1)),
     ("bank workers 1\n", ScriptError::BadLine(1)),
@@ -78,7 +78,7 @@ fn names_the_first_fault(rt: HostRuntime) {
     }
 }
 
-/// The jobs of a board, with the least and the largest of each number.
+/// The jobs of a board, with the smallest and the largest value of each number.
 static BOARD_JOBS: [Job; 3] = [
     Job::Put {
         worker: 1,
@@ -100,7 +100,7 @@ fn reads_every_job_of_a_board(rt: HostRuntime) -> Result<(), Fail> {
     Ok(())
 }
 
-/// The jobs of a bank of eight lines.
+/// The jobs of a bank with eight lines.
 static BANK_JOBS: [Job; 3] = [
     Job::PayIn {
         worker: 1,
@@ -131,7 +131,7 @@ fn reads_every_job_of_a_bank(rt: HostRuntime) -> Result<(), Fail> {
     Ok(())
 }
 
-/// A script of this header and `count` times this job.
+/// Returns a script that consists of this header and of this job, repeated `count` times.
 fn many(alloc: Global, header: &str, job: &str, count: u64) -> Result<Vec<u8>, AllocError> {
     let mut text = Vec::from_slice(alloc, header.as_bytes())?;
     for _ in 0..count {

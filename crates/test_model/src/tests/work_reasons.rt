@@ -2,7 +2,7 @@
 use crate::tests::reasons::expect_reasons;
 use qolb_script::{Allowed, Form, Reason, ScriptKind};
 
-/// Work scripts of boards, with the number of the refused line and the reason.
+/// Work scripts of boards, each with the number of the refused line and the reason.
 static BOARDS: [(&str, Option<(u64, Reason)>); 16] = [
     ("", Some((1, Reason::Empty(ScriptKind::Board)))),
     (
@@ -116,7 +116,7 @@ static BOARDS: [(&str, Option<(u64, Reason)>); 16] = [
     ),
 ];
 
-/// Work scripts of banks, with the number of the refused line and the reason.
+/// Work scripts of banks, each with the number of the refused line and the reason.
 static BANKS: [(&str, Option<(u64, Reason)>); 23] = [
     (
         "board workers 1\n",
