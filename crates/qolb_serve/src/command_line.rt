@@ -16,9 +16,9 @@ use std::alloc::{AllocError, Global};
 static REPLAYED: [&str; LOCKS + 1] = lock_names!(array, "plain");
 
 const REPLAYED_HELP: &str =
-    "The plain reference, which has one owner, or the lock of\nlines that nodes share";
+    "The plain reference, which has one owner,\nor the lock of lines that nodes\nshare";
 
-const SHARED_HELP: &str = "The lock of the lines that the workers share";
+const SHARED_HELP: &str = "The lock of the lines that the workers\nshare";
 
 const MISUSE_EXPLAINED: &str = "Explains a refused line, and each answer `misuse`";
 

@@ -42,6 +42,7 @@ static LINES: [(&str, &[&str]); 5] = [
     (
         "replay",
         &[
+            "      --kind <KIND>  The plain reference, which has one owner,\n                     or the lock of lines that nodes\n                     share [possible values: plain, ring, link, ticket]",
             "      --explain      Explains a refused line, and each answer `misuse`",
             "  nodes N lines L             its first line: 1 to 200 nodes and 1 to 8 lines",
             "  nodes N lines L lease C     the same; each line closes at its C-th served turn",
@@ -66,6 +67,7 @@ static LINES: [(&str, &[&str]); 5] = [
     (
         "board",
         &[
+            "      --kind <KIND>  The lock of the lines that the workers\n                     share [default: link] [possible values: ring, link, ticket]",
             "      --sleep        Workers sleep until they are woken, instead of polling",
             "      --progress     Reports on standard error, once a second, how many of all\n                     jobs are done",
             "      --explain      Explains a refused line",
@@ -80,6 +82,7 @@ static LINES: [(&str, &[&str]); 5] = [
     (
         "bank",
         &[
+            "      --kind <KIND>  The lock of the lines that the workers\n                     share [default: link] [possible values: ring, link, ticket]",
             "      --sleep        Workers sleep until they are woken, instead of polling",
             "      --progress     Reports on standard error, once a second, how many of all\n                     jobs are done",
             "      --explain      Explains a refused line",
