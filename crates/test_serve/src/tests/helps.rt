@@ -7,7 +7,7 @@ use std::sync::Wait;
 use std::test::Fail;
 use std::thread::Threads;
 
-/// Returns the help after these words.
+/// Returns the help that `--help` prints after these words.
 fn help_of<T: Threads + Wait + Clock + Eprint + Sync>(
     rt: &T,
     alloc: Global,
@@ -22,7 +22,7 @@ fn help_of<T: Threads + Wait + Clock + Eprint + Sync>(
     Ok(help)
 }
 
-/// The whole text on the statuses.
+/// The whole text about exit statuses.
 const STATUSES: &str = "\n\nExit statuses:
   0  done
   1  the script was refused: `bad line N` or `script too long` on standard error
@@ -127,7 +127,7 @@ fn the_help_tells_options_and_limits(rt: HostRuntime) -> Result<(), Fail> {
     Ok(())
 }
 
-/// The words of the example of each help, what the help says that they print, and what they print.
+/// For the example of each help: the words of the command line, what the help says that it prints, and what it prints.
 static EXAMPLES: [(&[&str], &str, &str); 5] = [
     (
         &["replay", "--kind", "plain"],
@@ -156,7 +156,7 @@ static EXAMPLES: [(&[&str], &str, &str); 5] = [
     ),
 ];
 
-/// Returns the example of a help: its script, and its output by the help.
+/// Returns the example of a help: its script, and its output as the help describes it.
 fn example_of<'a>(help: &'a str, told: &str) -> Result<(&'a str, &'a str), Fail> {
     let (_, example) = help.split_once("\n\nExample: with\n").ok_or("an example")?;
     Ok(example.split_once(told).ok_or("what it prints")?)
