@@ -127,7 +127,7 @@ static STEPS: [(&str, &str, &str); 11] = [
         "went, granted, went, went, queued, went, went, queued, withdrawn, went, went, went, went, went, went, went, shut, went, closed, free",
         "line 0 served 1 withdrawn 1 told 1 left 0",
     ),
-    // a late link leaves a node that was told of the closed line
+    // a told node is busy before the late link of another node, and free after it
     (
         "nodes 2, reset 1, prepend 1, close 1, home 1, reset 2, prepend 2, reset 1, prepend 1, home 2, done 2, load 2, link 1, home 1, load 2",
         "went, granted, went, shut, went, went, went, went, went, closed, busy, went, closed, free",
@@ -139,7 +139,7 @@ static STEPS: [(&str, &str, &str); 11] = [
         "went, granted, shut, went, went, closed",
         "line 0 served 1 withdrawn 0 told 1 left 0",
     ),
-    // a node in the middle of a release is left
+    // the script ends in the middle of a release
     (
         "nodes 2, reset 1, prepend 1, reset 2, prepend 2, link 2, home 1",
         "went, granted, went, went, queued, went",
