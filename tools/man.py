@@ -330,9 +330,7 @@ def faults_of(name, page):
             file.write_text(page)
             told = subprocess.run(["man", "--warnings", "-l", file], env={**os.environ, "MANWIDTH": "80", "MAN_KEEP_FORMATTING": "", "LC_ALL": "C.UTF-8"}, capture_output=True, text=True, check=False)
         yield from told.stderr.splitlines()
-        # The program's own page has its helps as they are printed.
-        most = 120 if name == "qolb.1" else 80
-        yield from (f"a line is wider than {most}: {line}" for line in told.stdout.expandtabs().splitlines() if len(line) > most)
+        yield from (f"a line is wider than 80: {line}" for line in told.stdout.expandtabs().splitlines() if len(line) > 80)
 
 
 def told_by(program, mark, *words):

@@ -34,11 +34,11 @@ bar_over row start end stand.AtTurn n column = own n stand.AtTurn (is_over start
 bar_over row start end stand.Holds n column = own n stand.Holds (is_over start end column)
 bar_over row start end stand.Withdrawn n column = own n stand.Withdrawn (is_over start end column)
 
--- two bars, and those behind them
+-- two bars, and the bars after them
 two : (n column : ℕ) (xs ys : List Shape) (a b : List Stand) → kinds_over n column xs ≡ a → kinds_over n column ys ≡ b → kinds_over n column (xs ++ ys) ≡ a ++ b
 two n column xs ys a b e f = flat_map-append (kind_over n column) xs ys ∙ ap (λ ks. ks ++ kinds_over n column ys) e ∙ ap (λ ks. a ++ ks) f
 
--- bars that begin behind the column
+-- bars that begin after the column
 before : (row n column start now : ℕ) (s : Stand) (rest : List Stand) → column < start → start ≤ now → kinds_over n column (bars_from row n s start now rest) ≡ []
 before row n column start now s [] lt le = bar_over row start now s n column ∙ ap (λ b. cond b (shown_as s) []) (not_yet start now column lt)
 before row n column start now s (next ∷ rest) lt le =
@@ -49,7 +49,7 @@ before row n column start now s (next ∷ rest) lt le =
           (before row n column now (now + 1) next rest (omega arith) (omega arith))
     ]
 
--- the first bar, over a column up to which it reaches
+-- the first bar covers a column before its end
 within : (row n column start now : ℕ) (s : Stand) (rest : List Stand) → start ≤ column → column < now → kinds_over n column (bars_from row n s start now rest) ≡ shown_as s
 within row n column start now s [] from to = bar_over row start now s n column ∙ ap (λ b. cond b (shown_as s) []) (over start now column from to)
 within row n column start now s (next ∷ rest) from to =
@@ -110,7 +110,7 @@ bars_of_other row m n column start now s (next ∷ rest) apart =
       | false ↦ two n column (bar_of row start now s m) (bars_from row m next now (now + 1) rest) [] [] (bar_of_other row start now s m n column apart) (bars_of_other row m n column now (now + 1) next rest apart)
     ]
 
--- names are no bars
+-- names are not bars
 no_names : (n column row m : ℕ) (ks : List ℕ) → kinds_over n column (map (λ k. Name row (NAMED_EVERY * k) m) ks) ≡ []
 no_names n column row m [] = refl
 no_names n column row m (k ∷ ks) = no_names n column row m ks
@@ -130,7 +130,7 @@ rows_kinds n column rows a its others (m ∷ ms) = two n column (rows m) (flat_m
     one true e = ap (λ k. kinds_over n column (rows k)) (eqb-true m n e) ∙ its
     one false e = others m e
 
--- a node is once among those that pass a test
+-- a node that passes a test occurs exactly once among the nodes that pass the test
 later : (p : ℕ → Bool) (n : ℕ) (a : List Stand) (k from : ℕ) → n < from → flat_map (λ m. cond (m == n) a []) (filter p (range_with_len from k)) ≡ []
 later p n a zero from lt = refl
 later p n a (suc k) from lt =
@@ -167,7 +167,7 @@ once p n a (suc k) from passes le lt =
     ] in
     cases (from == n) refl
 
--- the shapes of a command are no bars
+-- the shapes of a command are not bars
 no_arrow : (n column k number : ℕ) (shown : List ℕ) (was is : Option ℕ) → kinds_over n column (arrow_of shown k number was is) ≡ []
 no_arrow n column k number shown None is = refl
 no_arrow n column k number shown (Some from) None = refl

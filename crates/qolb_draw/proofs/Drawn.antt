@@ -41,11 +41,11 @@ pub record Stands (script : Script) (number i done : ℕ) (line : PlainView) (wa
   pub has : HasStates line states closed
   pub grid : IsGrid script.nodes (run_after script number i).steps rows numbers callers events marks
 
--- one command more
+-- the run with one more command
 run_more : (script : Script) (number i : ℕ) (d : Command) → i < length script.commands → run_after script number (i + 1) ≡ run_step number (run_after script number i) (get_or script.commands i d)
 run_more script number i d lt = fold_more (run_step number) (run_start (config_of script)) script.commands i d lt
 
--- the marks after one step more
+-- the marks with one more step
 column_is : (line : PlainView) (s : OwnerState) (change : Change) (nodes : ℕ) → Agrees line s → column_out_of line change nodes ≡ map (λ n. mark_of change (state_of s n) n) (range_with_len 1 nodes)
 column_is line s change nodes a = all_same (range_with_len 1 nodes)
   where

@@ -26,7 +26,7 @@ use Rattle.qolb_draw.specs.Timelines.{columns_of, row_shapes, stands_of, timelin
 use Rattle.qolb_draw.specs.Shapes.{stand_of}
 use Rattle.qolb_draw.proofs.Pushing.{range_more}
 
--- a step for places that have none
+-- the step that stands for a place outside the list
 abbrev pub no_step : Step
 no_step = record { number = 0; command = Enq 0 0; before = no_line }
 
@@ -49,7 +49,7 @@ mark_found nodes n k steps lt first last =
     ∙ get_or-flat_map (λ (step : Step). map (mark_at step) (range_with_len 1 nodes)) steps k (n - 1) no_step symbol.Idle lt in_row
     ∙ get_or-map-range_with_len (mark_at (get_or steps k no_step)) 1 nodes (n - 1) n symbol.Idle below (omega arith)
 
--- a row, by the text of each mark
+-- a row, made from the letter of each mark
 row_found : {X : Type 0} (h : Symbol → X) (nodes n start count : ℕ) (steps : List Step) → 1 ≤ n → n ≤ nodes → count ≤ length steps - start
     → map (λ k. h (mark_out_of nodes (marks_of nodes steps) n k)) (range_with_len start count) ≡ map (λ step. h (mark_at step n)) (take count (drop start steps))
 row_found h nodes n start zero steps first last fits = refl
@@ -73,7 +73,7 @@ rows_text_found nodes start count steps (n ∷ shown) all fits =
     ap (λ row. (label_of n ++ row ++ 10 ∷ []) ++ flat_map (row_out_of nodes (marks_of nodes steps) start count) shown) (row_found letter_of nodes n start count steps here.0 here.1 fits)
     ∙ ap (λ t. row_text (take count (drop start steps)) n ++ t) (rows_text_found nodes start count steps shown rest fits)
 
--- at most as many as there are
+-- a count that is at most the length
 take_within : (n : ℕ) (xs : List Step) → take (min n (length xs)) xs ≡ take n xs
 take_within n xs = by (cases_lt n (length xs))
   where
@@ -157,7 +157,7 @@ timeline_found script line top rows numbers called events marks g =
     ∙ ap (λ t. line_begin top line ++ texts (t ++ columns_of shown (map event_of steps)) ++ codes "</g>\n")
     (row_shapes_found script.nodes steps shown shown (subst (All (λ n. (1 ≤ n) × (n ≤ script.nodes))) (shown_found script.nodes steps) (shown_within script.nodes (nodes_of steps))))
 
--- the number of rows is that of the nodes that call
+-- there are as many rows as nodes that make calls
 pub rows_found : (script : Script) (line rows : ℕ) (numbers called : List ℕ) (events : List Event) (marks : List Symbol) → IsGrid script.nodes (steps_on line script) rows numbers called events marks
     → length (shown_out_of rows called) ≡ rows_on script line
 rows_found script line rows numbers called events marks g =
@@ -167,7 +167,7 @@ pub columns_found : (script : Script) (line rows : ℕ) (numbers called : List �
     → length numbers ≡ columns_on script line
 columns_found script line rows numbers called events marks g = ap length g.numbers_are ∙ length-map (steps_on line script) (λ (step : Step). step.number)
 
--- an event for each number
+-- there is an event for each number
 pub event_count : (nodes : ℕ) (steps : List Step) (rows : ℕ) (numbers called : List ℕ) (events : List Event) (marks : List Symbol) → IsGrid nodes steps rows numbers called events marks → length events ≡ length numbers
 event_count nodes steps rows numbers called events marks g =
     ap length g.events_are ∙ length-map steps event_of ∙ sym (ap length g.numbers_are ∙ length-map steps (λ (step : Step). step.number))
@@ -177,7 +177,7 @@ length-shown nodes called =
     let p : ℕ → Bool = λ n. list_any (λ m. m == n) called in
     omega (arith, length-filter p (range_with_len 1 nodes), count_by-le-length p (range_with_len 1 nodes), length-range_with_len 1 nodes)
 
--- one line more
+-- the widest line and the height with one more line
 pub top_more : (script : Script) (line : ℕ) → top_of script (line + 1) ≡ top_of script line + height_of (rows_on script line)
 top_more script line =
     let more : sum_by (λ k. height_of (rows_on script k)) (range_with_len 0 (line + 1)) ≡ sum_by (λ k. height_of (rows_on script k)) (range_with_len 0 line) + sum_by (λ k. height_of (rows_on script k)) ((0 + line) ∷ []) =

@@ -8,11 +8,11 @@ use Rattle.std.proofs.lemmas.List.FromFn.{map-range_with_len_more}
 use Rattle.std.proofs.lemmas.Grind.{flat_map-append}
 use Rattle.qolb_draw.specs.Heads.{head_text}
 
--- one number more
+-- the text with one more number
 pub range_more : (a n : ℕ) → range_with_len a (n + 1) ≡ range_with_len a n ++ (a + n) ∷ []
 range_more a n = sym (map-id (range_with_len a (n + 1))) ∙ map-range_with_len_more (λ k. k) a n (a + n) refl ∙ ap (λ xs. xs ++ (a + n) ∷ []) (map-id (range_with_len a n))
 
--- a row of digits more, if the last number has that place; else no row
+-- the text with one more row of digits if the last number has a digit at that place, and with no more rows otherwise
 heads_cond : (margin numbers : List ℕ) (b : Bool) (v : ℕ) → flat_map (head_text margin numbers) (cond b (v ∷ []) []) ≡ cond b (head_text margin numbers v) []
 heads_cond margin numbers true v = append-nil (head_text margin numbers v)
 heads_cond margin numbers false v = refl
@@ -46,13 +46,13 @@ head_left_out margin numbers last values before i d text after had lt gt same =
           ∙ ap (λ t. before ++ t) (sym (heads_more margin numbers last values i d lt ∙ ap (λ c. flat_map (head_text margin numbers) (filter (λ value. nat_le value last) (take i values)) ++ cond c (head_text margin numbers (get_or values i d)) []) b ∙ append-nil _));
     }
 
--- one piece more
+-- the text with one more piece
 pub piece_pushed : (f : ℕ → List ℕ) (before : List ℕ) (k : ℕ) (text after piece : List ℕ) → text ≡ before ++ flat_map f (range_with_len 0 k) → piece ≡ f k → after ≡ text ++ piece → after ≡ before ++ flat_map f (range_with_len 0 (k + 1))
 piece_pushed f before k text after piece was is pushed =
     pushed ∙ ap (λ t. t ++ piece) was ∙ ap (λ p. (before ++ flat_map f (range_with_len 0 k)) ++ p) is ∙ append_assoc before (flat_map f (range_with_len 0 k)) (f k)
     ∙ ap (λ t. before ++ t) (sym (ap (flat_map f) (range_more 0 k ∙ ap (λ m. range_with_len 0 k ++ m ∷ []) (zero-add k)) ∙ flat_map-append f (range_with_len 0 k) (k ∷ []) ∙ ap (λ t. flat_map f (range_with_len 0 k) ++ t) (append-nil (f k))))
 
--- one element's text more
+-- the text with the text of one more element
 pub element_pushed : {X : Type 0} (f : X → List ℕ) (before head : List ℕ) (xs : List X) (i : ℕ) (d : X) (text after : List ℕ) → i < length xs
     → text ≡ before ++ (head ++ flat_map f (take i xs)) → after ≡ text ++ f (get_or xs i d) → after ≡ before ++ (head ++ flat_map f (take (i + 1) xs))
 element_pushed f before head xs i d text after lt was pushed =

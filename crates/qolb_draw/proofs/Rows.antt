@@ -7,7 +7,7 @@ use Rattle.std.proofs.lemmas.Grind.{common_steps}
 use Rattle.qolb_draw.specs.Grids.{shown_out_of}
 use Rattle.qolb_draw.proofs.Pushing.{range_more}
 
--- one node more
+-- the rows with one more node
 pub shown_more : (n : ℕ) (called : List ℕ) → shown_out_of (n + 1) called ≡ shown_out_of n called ++ cond (list_any (λ m. m == n + 1) called) ((n + 1) ∷ []) []
 shown_more n called =
     ap (filter (λ k. list_any (λ m. m == k) called)) (range_more 1 n)
@@ -26,7 +26,7 @@ node_left_out n called shown after b was is missed same =
 pub place_within : (k nodes n count : ℕ) → k < count → 1 ≤ n → n ≤ nodes → k * nodes + (n - 1) < count * nodes
 place_within k nodes n count lt first last = let below : n - 1 < nodes = omega arith in grind (arith, common_steps, rows)
 
--- a list by its elements
+-- a list is determined by its elements
 pub row_is : (g : ℕ → ℕ) (start : ℕ) (row : List ℕ) → ((k j : ℕ) → k < length row → start + k ≡ j → get_or row k 0 ≡ g j) → row ≡ map g (range_with_len start (length row))
 row_is g start [] each = refl
 row_is g start (x ∷ row) each =

@@ -16,7 +16,7 @@ opened_at config zero k lt = absurd (omega arith)
 opened_at config (suc n) zero lt = refl
 opened_at config (suc n) (suc k) lt = opened_at config n k (omega (arith, lt))
 
--- a run after a command that is on the line, or is not
+-- a run after a command on the line, and after a command on another line
 abbrev pub run_by : LineRun → Command → Bool → LineRun
 run_by run c true = record { done = run.done + 1; now = after_command run.now c; steps = run.steps ++ record { number = run.done + 1; command = c; before = run.now } ∷ [] }
 run_by run c false = record run { done = run.done + 1 }

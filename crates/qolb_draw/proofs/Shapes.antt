@@ -16,7 +16,7 @@ use Rattle.qolb_draw.specs.Svg.{arrow_text, bytes_text, shape_text, texts}
 use Rattle.qolb_draw.specs.Shapes.{Arrow, Bytes, Shape, is_same, places_in, stand_of}
 use Rattle.qolb_draw.specs.Timelines.{arrow_of, bar_of, bars_from, bytes_of, row_of}
 
--- the texts of shapes one behind another
+-- the texts of shapes one after another
 pub texts-append : (xs ys : List Shape) → texts (xs ++ ys) ≡ texts xs ++ texts ys
 texts-append xs ys = flat_map-append shape_text xs ys
 
@@ -41,7 +41,7 @@ stands_next nodes marks n column end lt =
 pub stands_ended : (nodes : ℕ) (marks : List Symbol) (n column end : ℕ) → end ≤ column → stands_out_of nodes marks n column (end - column) ≡ []
 stands_ended nodes marks n column end le = let none : end - column ≡ 0 = omega arith in ap (stands_out_of nodes marks n column) none
 
--- the text so far with the bars that are not yet written is the text of all bars
+-- the text so far, followed by the bars that are not written yet, is the text of all bars
 pub record HasBars (row node : ℕ) (s : Stand) (start column : ℕ) (rest all : List Stand) (before text : List ℕ) : Type 0 where
   pub ordered : start ≤ column
   pub text_is : text ++ texts (bars_from row node s start column rest) ≡ before ++ texts (bars_from row node stand.Away 0 0 all)

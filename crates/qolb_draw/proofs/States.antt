@@ -39,7 +39,7 @@ use Rattle.qolb_draw.specs.Following.{has_asked, state_ended, is_among, is_shut,
 use Rattle.qolb_draw.specs.Grids.{column_by, column_out_of}
 use Rattle.qolb_draw.proofs.Turns.{Grew, grew, asked_if, open_entry, waits_so, entries}
 
--- a holder is at its turn
+-- it is the holder's turn
 held_first : (s : OwnerState) (n : ℕ) → is_holding (state_of s n) ≡ true → is_first s.queue n ≡ true
 held_first s n e = by (is_open s.queue n) (has s.queue.marked (last_of n s.queue.order)) s.granted (is_first s.queue n) (is_closed s.queue.ends) e
   where
@@ -51,7 +51,7 @@ held_first s n e = by (is_open s.queue n) (has s.queue.marked (last_of n s.queue
     by false k g f true e = absurd (let no : false ≡ true = e in cc no)
     by false k g f false e = absurd (let no : false ≡ true = e in cc no)
 
--- what a poll leaves of the other nodes
+-- a poll does not change the states of other nodes
 leaves_poll : (s : OwnerState) (n : ℕ) → Leaves n s (after_poll (poll_answer s n) s)
 leaves_poll s n = by (is_first s.queue n) (is_closed s.queue.ends) refl
   where
@@ -60,7 +60,7 @@ leaves_poll s n = by (is_first s.queue n) (is_closed s.queue.ends) refl
     by true false e = leaves_grant n s e
     by false c e = leaves_so n s
 
--- what a command leaves of the other nodes
+-- what a command does not change about the other nodes
 leaves_command : (s : OwnerState) (c : Command) → Leaves (node_of c) s (after_command s c)
 leaves_command s (command.Enq n l) = by (may_ask (state_of s n)) (is_rolled s.queue n)
   where
@@ -100,7 +100,8 @@ leaves_command s (command.Write n l mask bytes) = by (is_holding (state_of s n))
     by true e = leaves_write n s mask.0 bytes.bytes (held_first s n e)
     by false e = leaves_so n s
 
--- a node that waits as before, at a line that is closed or not as before, is in the same state if it may make the same calls
+-- a node has the same state as before if it waits exactly if it waited before, the line is closed exactly if it was
+-- closed before, and the node may make the same calls
 same_open : (k h k' h' : Bool) → seen (cond k' port.Rolled (cond h' port.Holding port.Queued)) ≡ seen (cond k port.Rolled (cond h port.Holding port.Queued))
     → cond k' port.Rolled (cond h' port.Holding port.Queued) ≡ cond k port.Rolled (cond h port.Holding port.Queued)
 same_open true h true h' e = refl
@@ -119,7 +120,7 @@ same_state old new n None (Some w) same waits e = absurd (let no : true ≡ fals
 same_state old new n (Some w) None same waits e = absurd (let no : false ≡ true = waits in cc no)
 same_state old new n (Some w) (Some v) same waits e = same_open w.withdrawn (old.granted && is_oldest old n) v.withdrawn (new.granted && is_oldest new n) e
 
--- the state of another node than that of the command
+-- the state of a node other than the one that makes the command
 state_kept : (old new : PlainView) (s t : OwnerState) (m n : ℕ) → Agrees old s → Agrees new t → Leaves m s t → n ≢ m → new.closed ≡ old.closed → is_among n (waiting_nodes t) ≡ is_among n (waiting_nodes s)
     → node_state new n ≡ node_state old n
 state_kept old new s t m n a b leaves ne same among =
@@ -129,7 +130,7 @@ state_kept old new s t m n a b leaves ne same among =
     (sym (open_entry new n is) ∙ waits_so new n ∙ ap (is_among n) (sym (entries new t b)) ∙ among ∙ ap (is_among n) (entries old s a) ∙ sym (waits_so old n) ∙ open_entry old n was)
     (ap seen (node_state-state_of new t b n) ∙ leaves.states n ne ∙ sym (ap seen (node_state-state_of old s a n)))
 
--- a line of which no request ends is closed or not as before
+-- if no request on a line ends, the line is closed exactly if it was closed before
 closed_kept : (old new : PlainView) (s t : OwnerState) (m : ℕ) (asked : List Request) → Agrees old s → Agrees new t → Leaves m s t → Grew s.queue t.queue asked → length (waiting_nodes t) ≡ length (waiting_nodes s) + length asked
     → new.closed ≡ old.closed
 closed_kept old new s t m asked a b leaves g long =
@@ -142,7 +143,7 @@ closed_kept old new s t m asked a b leaves g long =
     let same : s.queue.ends ≡ t.queue.ends = prefix_same s.queue.ends t.queue.ends t.queue.ends leaves.ends (prefix_self t.queue.ends) (omega arith) in
     b.closed ∙ ap is_closed (sym same) ∙ sym a.closed
 
--- a node is among some and another node if it is among the first
+-- a node that is in a list is also in the list with one more node
 among_more : (b : Bool) (n m : ℕ) (xs : List ℕ) → n ≢ m → is_among n (xs ++ cond b (m ∷ []) []) ≡ is_among n xs
 among_more false n m xs ne = ap (is_among n) (append-nil xs)
 among_more true n m xs ne =
@@ -163,7 +164,7 @@ same_if true false h = absurd (let no : true ≡ false = h in cc no)
 same_if false true h = absurd (let no : true ≡ false = h in cc no)
 same_if false false h = refl
 
--- what is kept of a line after a command
+-- the recorded states of a line after a command
 pub states_kept : (old new : PlainView) (s : OwnerState) (c : Command) (waiting pushed after : List ℕ) (states passed last : List PortState) (was closed : Bool) → Follows old waiting s → HasStates old states was → Follows new after (after_command s c) → new.nodes ≡ old.nodes
     → pushed ≡ waiting ++ cond (has_asked (said_of s c)) (node_of c ∷ []) [] → ArePassed new pushed after states passed → (closed ≡ new.closed) ⊎ ((closed ≡ was) × (after ≡ pushed)) → AreLookedAt new (node_of c) (differs was closed) passed last → HasStates new last closed
 states_kept old new s c waiting pushed after states passed last was closed f r g nodes push passes answer looks =
@@ -193,7 +194,7 @@ states_kept old new s c waiting pushed after states passed last was closed f r g
       ];
     }
 
--- the states of the nodes of a line that was just opened
+-- the states of the nodes of a newly opened line
 idle : (n k : ℕ) → get_or (replicate n port.Idle) k port.Idle ≡ port.Idle
 idle zero k = refl
 idle (suc n) zero = refl
@@ -246,7 +247,7 @@ one_passed line waited (y ∷ ys) left x state old now new ended is rest kept ha
       ap (following.after_ended line) rest ∙ sym (ap (λ b. cond b (y ∷ ys) (following.after_ended line ys)) gone_y),
     )
 
--- the marks after a command, by the states that are kept
+-- the marks after a command, made from the recorded states
 marks_are : (line : PlainView) (change : Change) (states : List PortState) (a n : ℕ) → ((k : ℕ) → k < a + n → get_or states k port.Idle ≡ node_state line k)
     → map (λ k. mark_of change (get_or states k port.Idle) k) (range_with_len a n) ≡ map (λ k. mark_of change (node_state line k) k) (range_with_len a n)
 marks_are line change states a zero are = refl

@@ -21,7 +21,7 @@ use Rattle.qolb_draw.proofs.Bars.{and_false, is_over, no_more, not_yet, over}
 use Rattle.qolb_draw.proofs.Bars.{or_none}
 use Rattle.qolb_draw.proofs.Watching.{seen_by}
 
--- an event leaves the points of other nodes
+-- an event does not change the points of other nodes
 points_kept : (c : State) {e : Event} {t : Told} {d : State} → Step c e t d → (m : ℕ) → m ≢ node_of e → point d m ≡ point c m
 points_kept c (row.load_waiting n a at un) m other = refl
 points_kept c (row.load_busy n a at un) m other = refl
@@ -30,7 +30,8 @@ points_kept c (row.home_last n a at l e) m other = ap (λ (s : NodeCall). s.poin
 points_kept c (row.home_last_failed n a at l ne) m other = ap (λ (s : NodeCall). s.point) (get_or-set_other (closed_by n c).seats _ m _ unused other ∙ get_or-set_other c.seats _ m _ unused other)
 points_kept c _ m other = ap (λ (s : NodeCall). s.point) (get_or-set_other c.seats _ m _ unused other)
 
--- these were seen of these events from this core on: each leaves the points of all nodes but its own
+-- this is the record of these events, which begin with this core; no event changes the point of a node other than its
+-- own
 abbrev pub Chained : State → List Event → List Seen → Type 0
 Chained from [] [] = Unit {0}
 Chained from [] (s ∷ all) = ⊥
@@ -102,7 +103,7 @@ stays n (suc k) from (e ∷ events) (s ∷ all) seen h is none =
 two : (n column : ℕ) (xs ys : List StepShape) (a b : List Point) → points_over n column xs ≡ a → points_over n column ys ≡ b → points_over n column (xs ++ ys) ≡ a ++ b
 two n column xs ys a b e f = flat_map-append (point_over n column) xs ys ∙ ap (λ ps. ps ++ points_over n column ys) e ∙ ap (λ ps. a ++ ps) f
 
--- words are no bars
+-- words are not bars
 no_home : (n column k was is : ℕ) → points_over n column (home_shapes k was is) ≡ []
 no_home n column k was is = by (is == was)
   where
@@ -151,7 +152,7 @@ bar_elsewhere m n start end column p e = ap (λ b. cond ((m == n) && b) (p ∷ [
 bar_here : (m n start end column : ℕ) (p : Point) → (m == n) ≡ true → is_over start end column ≡ true → bar_from m n start end column p ≡ p ∷ []
 bar_here m n start end column p e o = ap (λ b. cond (b && is_over start end column) (p ∷ []) []) e ∙ ap (λ b. cond b (p ∷ []) []) o
 
--- bars of later events begin behind the column
+-- bars of later events begin after the column
 later : (n column k : ℕ) (events : List Event) (all : List Seen) → column < k → points_over n column (seen_shapes k events all) ≡ []
 later n column k events [] lt = refl
 later n column k events (s ∷ all) lt =
@@ -160,7 +161,7 @@ later n column k events (s ∷ all) lt =
     (its_bar n column k s (drop 1 events) ∙ bar_elsewhere m n k (k + (until m (drop 1 events) + 1)) column (point s.after m) (not_yet k (k + (until m (drop 1 events) + 1)) column lt))
     (later n column (k + 1) (drop 1 events) all (omega arith))
 
--- over a column k further on, by whether this event is the node's, and one of the next k
+-- the bar over the column k further on, by whether this event and one of the next k events are events of the node
 covered : (n column from_column : ℕ) (from : State) (k : ℕ) (e : Event) (events : List Event) (s : Seen) (all : List Seen) (seen : Seen) (mine acts : Bool) → column ≡ from_column + suc k → Chained from (e ∷ events) (s ∷ all) → slice_get all k ≡ Some seen
     → (node_of e == n) ≡ mine → has_acted n (suc k) events ≡ acts
     → points_over n column (seen_shapes (from_column + 1) events all) ≡ cond acts (point seen.after n ∷ []) []
@@ -184,7 +185,7 @@ covered n column from_column from k e events s all seen true false at h is same 
     ∙ ap (λ p. p ∷ []) (ap (point s.after) its ∙ sym (stays n k s.after events all seen h.2 is acts_is)))
     rest ∙ append-nil (point seen.after n ∷ [])
 
--- over the column of an event
+-- the bar over the column of an event
 here : (n column : ℕ) (e : Event) (events : List Event) (s : Seen) (all : List Seen) (mine : Bool) → s.event ≡ e → (node_of e == n) ≡ mine
     → points_over n column (seen_shapes column (e ∷ events) (s ∷ all)) ≡ cond (mine || false) (point s.after n ∷ []) []
 here n column e events s all true is same =
@@ -210,7 +211,7 @@ at n (suc k) column from_column from (e ∷ events) (s ∷ all) seen eq h is =
     covered n column from_column from k e events s all seen (node_of e == n) (has_acted n (suc k) events) eq h is refl refl
     (at n k column (from_column + 1) s.after events all seen (omega arith) h.2 is)
 
--- rows are no bars
+-- rows are not bars
 no_names : (n column line : ℕ) (ks : List ℕ) → points_over n column (map (λ k. Name line (NAMED_EVERY * k)) ks) ≡ []
 no_names n column line [] = refl
 no_names n column line (k ∷ ks) = no_names n column line ks

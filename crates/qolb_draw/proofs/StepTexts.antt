@@ -17,13 +17,13 @@ pub step_texts-flat_map : (f : ℕ → List StepShape) (xs : List ℕ) → step_
 step_texts-flat_map f [] = refl
 step_texts-flat_map f (x ∷ xs) = step_texts-append (f x) (flat_map f xs) ∙ ap (λ t. step_texts (f x) ++ t) (step_texts-flat_map f xs)
 
--- one more of a list that a function gives
+-- a list made by a function, with one more element
 pub listed : {X : Type 0} (f : ℕ → X) (before : List X) (k : ℕ) (now after : List X) (x : X) → now ≡ before ++ map f (range_with_len 0 k) → x ≡ f k → after ≡ now ++ x ∷ [] → after ≡ before ++ map f (range_with_len 0 (k + 1))
 listed f before k now after x was is pushed =
     pushed ∙ ap (λ xs. xs ++ x ∷ []) was ∙ ap (λ y. (before ++ map f (range_with_len 0 k)) ++ y ∷ []) is ∙ append_assoc before (map f (range_with_len 0 k)) (f k ∷ [])
     ∙ ap (λ xs. before ++ xs) (sym (map-range_with_len_more f 0 k k (zero-add k)))
 
--- the shapes of an event, one behind another
+-- the shapes of an event, one after another
 seven : (p n a l h w t : List ℕ) → (((((p ++ n) ++ a) ++ l) ++ h) ++ w) ++ t ≡ p ++ ((((n ++ (a ++ (l ++ []))) ++ h) ++ w) ++ (t ++ []))
 seven p n a l h w t = simp (append_assoc, append-nil)
 

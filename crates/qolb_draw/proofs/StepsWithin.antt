@@ -40,7 +40,7 @@ place_row c w = by w.shows.matches.lies
         let named : IsNode c q = subst (Names c) links (names w.shows.matches t node) in
         at _ is (let few = named.1 in omega arith)
 
--- so it is after each event of a run
+-- the line lies there after each event of a run
 record Placed (nodes : ℕ) (s : Seen) : Type 0 where
   nodes_are : s.after.nodes ≡ nodes
   row : row_of_place s.after.place ≤ nodes

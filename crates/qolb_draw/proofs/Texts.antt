@@ -14,7 +14,7 @@ use Rattle.qolb_draw.specs.Shapes.{place_if, places_in}
 use Rattle.qolb_words.proofs.Pieces.{begins, piece, ◌▸◌}
 use Rattle.qolb_draw.proofs.Pushing.{piece_pushed}
 
--- one place of a mask more, or not
+-- the places of a mask up to the next place, which the mask selects or not
 pub place_kept : (mask k : ℕ) (places after : List ℕ) → places ≡ flat_map (place_if mask) (range_with_len 0 k) → is_masked mask k ≡ true → after ≡ places ++ k ∷ [] → after ≡ flat_map (place_if mask) (range_with_len 0 (k + 1))
 place_kept mask k places after was here pushed =
     piece_pushed (place_if mask) [] k places after (k ∷ []) was (ap (λ b. cond b (k ∷ []) []) (sym here)) pushed
@@ -32,7 +32,7 @@ pub last_taken : (text words pushed after : List ℕ) (n : ℕ) → pushed ≡ t
 last_taken text words pushed after n is count taken =
     taken ∙ ap (take n) (is ∙ sym (append_assoc text words (10 ∷ []))) ∙ ap (λ k. take k ((text ++ words) ++ 10 ∷ [])) count ∙ take-append_seam (text ++ words) (10 ∷ [])
 
--- the words of a write behind its line
+-- the words of a write that follow its line
 pub written_pushed : (node line : ℕ) (mask : Mask) (bytes : Line64) (c : Command) (places text a b after : List ℕ) (first : ℕ) → c ≡ Write node line mask bytes → places ≡ places_in mask.0 → first ≡ get_or places 0 0
     → a ≡ text ++ field (codes " ") first → b ≡ a ++ codes " " → after ≡ b ++ hex_of bytes.bytes places → after ≡ text ++ written_words c
 written_pushed node line mask bytes c places text a b after first is all at begun then last =

@@ -39,7 +39,7 @@ use Rattle.qolb_draw.specs.Following as following
 use Rattle.qolb_draw.specs.Following.{has_asked, after_ended, Follows}
 use Rattle.qolb_draw.proofs.Bars.{or_none}
 
--- these requests were made, and some more have ended
+-- these requests were made, and some further requests have ended
 pub record Grew (old new : Queue) (asked : List Request) : Type 0 where
   pub order_is : new.order ≡ old.order ++ asked
   pub more : ℕ
@@ -48,7 +48,7 @@ pub record Grew (old new : Queue) (asked : List Request) : Type 0 where
 same_queue : (q : Queue) → Grew q q []
 same_queue q = record { order_is = sym (append-nil q.order); more = 0; ends_are = omega arith }
 
--- passing and ending make no request
+-- passing a request and ending a request make no new request
 passes : (q : Queue) (xs : List Request) → Grew q (moved_by q (map (λ (_ : Request). finish Gone) xs)) []
 passes q [] = record { order_is = sym (append-nil q.order); more = 0; ends_are = omega arith }
 passes q (x ∷ xs) =
@@ -153,7 +153,7 @@ any_request p (r ∷ rs) = ap (λ b. p r.node || b) (any_request p rs)
 same_number : (m n : ℕ) → (m == n) ≡ true → m ≡ n
 same_number m n h = grind (arith, nat_tests)
 
--- no two of these are of one node
+-- no two of these requests belong to the same node
 abbrev OneEach : List Request → Type 0
 OneEach rs = (i j : ℕ) (r t : Request) → slice_get rs i ≡ Some r → slice_get rs j ≡ Some t → r.node ≡ t.node → i ≡ j
 
@@ -219,11 +219,11 @@ passed line (x ∷ xs) (suc j) d e =
     let gone : following.is_open (node_state line x) ≡ false = waits_so line x ∙ ap (list_any (λ m. m == x)) (sym e) ∙ any_drop (λ m. m == x) j xs d.0 in
     ap (λ b. cond b (x ∷ xs) (after_ended line xs)) gone ∙ passed line xs j d.1 e
 
--- a line that agrees has an entry for each open request
+-- a line that agrees with a state has an entry for each open request of the state
 pub entries : (line : PlainView) (s : OwnerState) → Agrees line s → waiting_nodes s ≡ map (λ w. w.node) line.waiting
 entries line s a = sym (ap (map (λ (w : Waiter). w.node)) a.waiting ∙ map-map (λ (w : Waiter). w.node) (waiter_of s.queue.marked) (open_of s.queue.order s.queue.ends))
 
--- a node that has asked had no open request
+-- a node that has just made a request had no open request before
 asks_by : (may stands marked : Bool) (answer : Enq) → (may ≡ true → stands ≡ true → marked ≡ true) → has_asked (cond may (said.Enq (cond (stands && marked) enq.Busy answer)) said.Misuse) ≡ true → stands ≡ false
 asks_by false stands marked answer rolled h = absurd (let not_so : false ≡ true = h in cc not_so)
 asks_by true false marked answer rolled h = refl
@@ -245,7 +245,7 @@ stood_apart line s (command.Out n l) a h = absurd (never (is_queued (state_of s 
 stood_apart line s (command.Shut n l) a h = absurd (never (is_holding (state_of s n)) said.Shut refl h)
 stood_apart line s (command.Write n l mask bytes) a h = absurd (never (is_holding (state_of s n)) said.Written refl h)
 
--- the nodes with open requests, and then the node that has asked
+-- the nodes with open requests, followed by the node that has just made a request
 all_distinct : (line : PlainView) (s : OwnerState) (c : Command) (b : Bool) → Agrees line s → has_asked (said_of s c) ≡ b → AreDistinct (waiting_nodes s ++ cond b (node_of c ∷ []) [])
 all_distinct line s c false a e =
     subst AreDistinct (sym (append-nil (waiting_nodes s))) (distinct_requests (open_of s.queue.order s.queue.ends) (one_each s a.reached))
@@ -253,7 +253,7 @@ all_distinct line s c true a e =
     distinct_push (waiting_nodes s) (node_of c) (distinct_requests (open_of s.queue.order s.queue.ends) (one_each s a.reached))
     (ap (list_any (λ m. m == node_of c)) (entries line s a) ∙ any_map (λ m. m == node_of c) line.waiting ∙ waits-is_open line s a (node_of c) ∙ stood_apart line s c a e)
 
--- a command, and what is kept of it
+-- a command, and what is recorded about it
 pub command_followed : (old new : PlainView) (s : OwnerState) (c : Command) (waiting pushed after : List ℕ) → Follows old waiting s → Agrees new (after_command s c)
     → pushed ≡ waiting ++ cond (has_asked (said_of s c)) (node_of c ∷ []) [] → after ≡ after_ended new pushed → Follows new after (after_command s c)
 command_followed old new s c waiting pushed after f a push pass = record {
@@ -267,7 +267,7 @@ command_followed old new s c waiting pushed after f a push pass = record {
       pass ∙ ap (after_ended new) known ∙ passed new all g.more (all_distinct old s c (has_asked (said_of s c)) f.agrees refl) (sym left ∙ entries new (after_command s c) a) ∙ sym left;
 }
 
--- the node that has asked is behind the others
+-- the node that has just made a request is behind the others
 pub asked_behind : (b : Bool) (xs ys : List ℕ) (n m : ℕ) → b ≡ true → n ≡ m → ys ≡ xs ++ n ∷ [] → ys ≡ xs ++ cond b (m ∷ []) []
 asked_behind b xs ys n m e same push = push ∙ ap (λ k. xs ++ k ∷ []) same ∙ ap (λ v. xs ++ cond v (m ∷ []) []) (sym e)
 

@@ -18,7 +18,7 @@ use Rattle.qolb_draw.specs.StepShapes.{Seen, StepShape, Watches, nothing, made, 
 use Rattle.qolb_draw.specs.StepSvg.{step_texts}
 use Rattle.qolb_draw.proofs.StepTexts.{step_texts-append}
 
--- the text or the shapes of one event more
+-- the text or the shapes with one more event
 lines_more : (column : ℕ) (all : List Seen) (s : Seen) → event_lines column (all ++ s ∷ []) ≡ event_lines column all ++ event_line (column + length all) s
 lines_more column [] s = let same : column ≡ column + 0 = omega arith in append-nil (event_line column s) ∙ ap (λ k. event_line k s) same
 lines_more column (x ∷ all) s =
@@ -38,19 +38,19 @@ shapes_more column events (x ∷ all) s =
     ∙ ap (λ t. seen_shapes column events (x ∷ all) ++ t) (ap (λ k. event_shapes k s (drop (length all + 1) (drop 1 events))) place
     ∙ ap (event_shapes (column + length (x ∷ all)) s) (drop-drop (length all + 1) 1 events ∙ ap (λ n. drop n events) count))
 
--- the core after the first i events, of which this was seen
+-- the core after the first i events, with the record of these events
 pub record Sees (script : StepScript) (i : ℕ) (core : State) (all : List Seen) : Type 0 where
   pub runs : Watches (first (line_of script)) (take i script.events) all core
   pub one_each : length all ≡ i
   pub nodes_are : core.nodes ≡ script.nodes
 
--- with the text of their lines
+-- the same, with the text of the lines of these events
 pub record SeesLines (script : StepScript) (i : ℕ) (core : State) (before text : List ℕ) : Type 0 where
   pub all : List Seen
   pub sees : Sees script i core all
   pub text_is : text ≡ before ++ event_lines 0 all
 
--- with the text of their shapes, and the words of the core
+-- the same, with the text of the shapes of these events, and with the words of the core
 pub record SeesShapes (script : StepScript) (i : ℕ) (core : State) (home : ℕ) (entries : List Entry) (before svg : List ℕ) : Type 0 where
   pub all : List Seen
   pub sees : Sees script i core all
@@ -71,7 +71,7 @@ lines_start script core text is = record { all = []; sees = none_seen script cor
 pub shapes_start : (script : StepScript) (core : State) (home : ℕ) (entries : List Entry) (svg : List ℕ) → core ≡ first (line_of script) → home ≡ core.home → entries ≡ entries_of core → SeesShapes script 0 core home entries svg svg
 shapes_start script core home entries svg is h e = record { all = []; sees = none_seen script core is; svg_is = sym (append-nil svg); home_is = h; entries_are = e }
 
--- an event keeps how many nodes there are
+-- an event does not change the number of nodes
 pub nodes_kept : (before after : State) (event : Event) (r : Result Told NotEnabled) → IfOk r (λ t. Step before event t after) → OnErr r (after ≡ before) → after.nodes ≡ before.nodes
 nodes_kept before after event (Ok t) step same = (step_sizes before step).0
 nodes_kept before after event (Err e) step same = ap (λ (c : State). c.nodes) same

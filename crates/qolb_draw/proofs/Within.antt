@@ -36,7 +36,7 @@ use Rattle.qolb_draw.proofs.Outs.{no_step, top_more, widest_more}
 use Rattle.qolb_draw.proofs.SameRuns.{run_by, stepped}
 use Rattle.qolb_draw.proofs.Turns.{asked_if, grew}
 
--- one of these steps is the node's
+-- one of these steps is a call of the node
 abbrev called : List Step → ℕ → Bool
 called steps n = list_any (λ (s : Step). node_of s.command == n) steps
 
@@ -51,7 +51,7 @@ called_last steps step =
     list_any-append (λ (s : Step). node_of s.command == node_of step.command) steps (step ∷ [])
     ∙ or_right (called steps (node_of step.command)) (called (step ∷ []) (node_of step.command)) (ap (λ b. b || false) (eq-eqb (node_of step.command) (node_of step.command) refl))
 
--- the node at its turn before the step has called, and so has the node at its turn after it
+-- the node whose turn it is before the step has made a call, and so has the node whose turn it is after the step
 record Known (steps : List Step) (step : Step) : Type 0 where
   its : Called steps (node_of step.command)
   before : (n : ℕ) → turn_node step.before ≡ Some n → Called steps n
@@ -64,7 +64,7 @@ known_more steps step last k = record {
   after = λ n e. called_more steps last n (k.after n e);
 }
 
--- all requests are of nodes that have called
+-- all requests were made by nodes that have made calls
 abbrev AreCalled : List Step → OwnerState → Type 0
 AreCalled steps s = All (λ (r : Request). Called steps r.node) s.queue.order
 
@@ -131,7 +131,7 @@ called_ours nodes n (s ∷ steps) all h =
     by true e behind = subst (λ m. (1 ≤ m) × (m ≤ nodes)) (eqb-true (node_of s.command) n e) (All-head (λ (s : Step). IsOurs nodes s.command) s steps all)
     by false e behind = behind (sym (ap (λ b. b || called steps n) e) ∙ h)
 
--- a node that has called has a row
+-- a node that has made calls has a row
 abbrev passing : (ℕ → Bool) → ℕ → ℕ → List ℕ
 passing p from k = filter p (range_with_len from k)
 
@@ -280,7 +280,7 @@ rows_fit nodes steps ours =
     all_flat (Fits (length shown) (length steps)) (λ n. row_shapes shown (length steps) (stands_of steps n) n) shown
     (λ k d lt. row_fits shown (length steps) (stands_of steps (get_or shown k d)) (get_or shown k d) (has_row nodes (get_or shown k d) steps ours (filter_passes (called steps) (range_with_len 1 nodes) k d lt)) (length-map steps _))
 
--- the widest line, and the lines above one another
+-- no line is wider than the widest one, and each line ends above the next
 wider_lines : (script : Script) (line k : ℕ) → widest script line ≤ widest script (line + k)
 wider_lines script line zero = let same : line + 0 ≡ line = omega arith in omega (arith, ap (widest script) same)
 wider_lines script line (suc k) =

@@ -4,7 +4,7 @@ use Rattle.qolb_script.specs.declared.error.ScriptError.TheVariants.{BadLine}
 use Rattle.qolb_draw.specs.declared.form.Form.TheVariants.{Text}
 use Rattle.qolb_draw.specs.Pictures.{picture_to, legend}
 
--- three nodes, of which each hands the line over to the next
+-- three nodes, each of which hands the line over to the next
 handed_over : picture_to Text (codes "nodes 3 lines 1\nenq 1 0\nenq 2 0\nenq 3 0\nshow 1 0\ndeq 1 0\npoll 3 0\npoll 2 0\nshow 2 0\ndeq 2 0\npoll 3 0\nshow 3 0\ndeq 3 0\n")
     ≡ Ok (codes "line 0\n\n                  111\n         123456789012\nnode   1 HHHH>.......\nnode   2 .www<tHH>...\nnode   3 ..wwwwww<HH.\n\n" ++ legend)
 handed_over = refl
@@ -14,17 +14,17 @@ closed : picture_to Text (codes "nodes 3 lines 1\nenq 1 0\nenq 2 0\nenq 3 0\nout
     ≡ Ok (codes "line 0\n\n         123456789\nnode   1 HHHHH>--w\nnode   2 .wwxx-w<t\nnode   3 ..www<tc-\n\n" ++ legend)
 closed = refl
 
--- commands on two lines, of which each node calls on one
+-- commands on two lines, where each node makes calls on one of the lines
 two_lines : picture_to Text (codes "nodes 3 lines 2\nenq 1 0\nenq 3 1\n\ndeq 3 1\ndeq 1 0\n")
     ≡ Ok (codes "line 0\n\n         14\nnode   1 H.\n\nline 1\n\n         23\nnode   3 H.\n\n" ++ legend)
 two_lines = refl
 
--- commands that are misuse of a node that has no request, holds, waits, and is at its turn
+-- commands that are misuse, of a node without a request, a holder, a waiting node, and a node whose turn has come
 misused : picture_to Text (codes "nodes 2 lines 1\npoll 1 0\nenq 1 0\nenq 1 0\nenq 2 0\ndeq 2 0\ndeq 1 0\nshow 2 0\npoll 2 0\n")
     ≡ Ok (codes "line 0\n\n         12345678\nnode   1 !H!HH>..\nnode   2 ...w!<!H\n\n" ++ legend)
 misused = refl
 
--- a node that withdraws at its turn holds the line
+-- a node that withdraws when its turn has come holds the line
 held : picture_to Text (codes "nodes 2 lines 1\nenq 1 0\nenq 2 0\ndeq 1 0\nout 2 0\ndeq 2 0\n") ≡ Ok (codes "line 0\n\n         12345\nnode   1 HH>..\nnode   2 .w<H.\n\n" ++ legend)
 held = refl
 

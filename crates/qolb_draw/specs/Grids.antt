@@ -31,7 +31,7 @@ numbers_of steps = map (λ step. step.number) steps
 abbrev pub nodes_of : List Step → List ℕ
 nodes_of steps = map (λ step. node_of step.command) steps
 
--- the numbers, nodes, events and marks that are kept of some steps
+-- these are the numbers, nodes, events and marks that a grid records for some steps
 pub record IsGrid (nodes : ℕ) (steps : List Step) (rows : ℕ) (numbers callers : List ℕ) (events : List Event) (marks : List Symbol) : Type 0 where
   pub rows_are : rows ≡ nodes
   pub numbers_are : numbers ≡ numbers_of steps
@@ -39,19 +39,20 @@ pub record IsGrid (nodes : ℕ) (steps : List Step) (rows : ℕ) (numbers caller
   pub events_are : events ≡ map event_of steps
   pub marks_are : marks ≡ marks_of nodes steps
 
--- the marks of all nodes after a command with this change and this line
+-- the marks of all nodes after a command with this change, which left the line in this state
 abbrev pub column_out_of : PlainView → Change → ℕ → List Symbol
 column_out_of line change nodes = map (λ n. mark_of change (node_state line n) n) (range_with_len 1 nodes)
 
--- the marks of all nodes after a command with this change, by their states: the first of these is no node's
+-- the marks of all nodes after a command with this change; the states are indexed by the nodes' numbers, and the first
+-- belongs to no node
 abbrev pub column_by : Change → List PortState → List Symbol
 column_by change states = map (λ n. mark_of change (slice_index_or states n port.Idle) n) (range_with_len 1 (length states - 1))
 
--- the mark of a node after command k of these
+-- the mark of node n after command k
 abbrev pub mark_out_of : ℕ → List Symbol → ℕ → ℕ → Symbol
 mark_out_of nodes marks n k = slice_index_or marks (k * nodes + (n - 1)) symbol.Idle
 
--- the row of a node over some commands; the block of some nodes; all blocks
+-- the row of a node for some commands; the block of some nodes; all blocks
 abbrev pub row_out_of : ℕ → List Symbol → ℕ → ℕ → ℕ → List ℕ
 row_out_of nodes marks start count n = label_of n ++ map (λ k. letter_of (mark_out_of nodes marks n k)) (range_with_len start count) ++ 10 ∷ []
 
@@ -62,7 +63,7 @@ abbrev pub blocks_out_of : ℕ → List Symbol → List ℕ → List ℕ → Lis
 blocks_out_of nodes marks numbers shown =
     flat_map (λ k. block_out_of nodes marks numbers shown (COLUMNS * k) (min COLUMNS (length numbers - COLUMNS * k))) (range_with_len 0 (block_count (length numbers)))
 
--- the nodes among some that called
+-- the nodes that made calls, in ascending order
 abbrev pub shown_out_of : ℕ → List ℕ → List ℕ
 shown_out_of nodes called = filter (λ n. list_any (λ m. m == n) called) (range_with_len 1 nodes)
 
@@ -70,7 +71,7 @@ shown_out_of nodes called = filter (λ n. list_any (λ m. m == n) called) (range
 abbrev pub line_out_of : ℕ → ℕ → List ℕ → List ℕ → List Symbol → List ℕ
 line_out_of line nodes numbers callers marks = codes "line " ++ (48 + line) ∷ 10 ∷ [] ++ blocks_out_of nodes marks numbers (shown_out_of nodes callers) ++ 10 ∷ []
 
--- the states of a node after each of some commands, from one on
+-- the states of a node after each of `count` commands, beginning with command `start`
 abbrev pub stands_out_of : ℕ → List Symbol → ℕ → ℕ → ℕ → List Stand
 stands_out_of nodes marks n start count = map (λ k. stand_of (mark_out_of nodes marks n k)) (range_with_len start count)
 

@@ -13,11 +13,12 @@ use Rattle.qolb_draw.specs.Timelines.{top_of, widest}
 use Rattle.qolb_draw.specs.Shapes.{Shape, Lane, Bar, Name, Number, Arrow, Bytes, Call, stand_of}
 use Rattle.qolb_draw.specs.Timelines.{timeline_of}
 
--- the commands on a line leave it as all commands of the script do; so after each command the line is drawn in its state in the replay
+-- executing only the commands on a line leaves the line in the same state as executing all commands of the script;
+-- therefore, each command is drawn with the line in the state that it has in the replay
 abbrev pub DrawnAsReplayed : Type 0
 DrawnAsReplayed = (script : Script) (line : ℕ) → line < script.lines → (run_of line script).now ≡ line_at (replay_of script).lines line
 
--- the kinds of a node's bars over a column
+-- the kinds of the bars that a node has over a column
 abbrev pub kind_over : ℕ → ℕ → Shape → List Stand
 kind_over node column (Bar row start end s n) = if (n == node) && (nat_le start column && nat_lt column end) then s ∷ [] else []
 kind_over node column shape = []
@@ -25,18 +26,19 @@ kind_over node column shape = []
 abbrev pub kinds_over : ℕ → ℕ → List Shape → List Stand
 kinds_over node column shapes = flat_map (kind_over node column) shapes
 
--- the bars of a node in this state: one, or none if the node is away
+-- the kinds of the bars of a node in this state: one kind, or none if the node is away
 abbrev pub shown_as : Stand → List Stand
 shown_as stand.Away = []
 shown_as s = s ∷ []
 
--- Over each command a node that calls has one bar, of its mark's kind. The mark is the one after that command; if it has no bar, the
--- node has none.
+-- Over each command, a node that makes calls has one bar, whose kind is that of the node's mark after the command. If
+-- the mark has no bar, the node has no bar over the command.
 abbrev pub BarsCoverMarks : Type 0
 BarsCoverMarks = (script : Script) (line n column : ℕ) (step : Step) → 1 ≤ n → n ≤ script.nodes → list_any (λ (s : Step). node_of s.command == n) (steps_on line script) ≡ true → slice_get (steps_on line script) column ≡ Some step → kinds_over n column (timeline_of script line) ≡ shown_as (stand_of (mark_at step n))
 
--- the end of a shape, from the left and from the top of its line: a sign is 8 pixels wide on each side of its middle and 12 high, half
--- a word above a row or a column 24 wide, and letters go 3 below their line
+-- the right end of a shape, and its lower end relative to the top of its line, in pixels: a sign extends 8 to each side
+-- of its middle and 12 downwards, a word above a row or a column extends 24 to each side, and letters extend 3 below
+-- their baseline
 abbrev pub right_of : Shape → ℕ
 right_of (Lane row columns) = x_of columns
 right_of (Bar row start end s node) = x_of start + 32 * (end - start)

@@ -14,15 +14,15 @@ use Rattle.qolb_draw.specs.declared.symbol.Change.{Change}
 use Rattle.qolb_draw.specs.declared.symbol.Symbol.{Symbol}
 use Rattle.qolb_draw.specs.Marks.{mark_of}
 
--- the nodes whose requests have no end yet, oldest first; and the first of these, which is at its turn
+-- the nodes whose requests have not ended yet, oldest request first; and the first of these nodes, whose turn has come
 abbrev pub waiting_nodes : OwnerState → List ℕ
 waiting_nodes s = map (λ r. r.node) (open_of s.queue.order s.queue.ends)
 
 abbrev pub turn_node : OwnerState → Option ℕ
 turn_node s = slice_get (waiting_nodes s) 0
 
--- the change of a command: the answer to its node, whether the node is told that the line is closed, and the node at its turn before
--- and after
+-- the change that a command makes: the answer to its node, whether the node is told that the line is closed, and whose
+-- turn it is before and after the command
 abbrev pub change_of : OwnerState → Command → Change
 change_of s c = record {
   node = node_of c;
@@ -32,7 +32,7 @@ change_of s c = record {
   after = turn_node (after_command s c);
 }
 
--- a command on the line, with its number and the line's state before it. Numbers count from 1 in the script
+-- a command on the line, with its number in the script, counted from 1, and with the line's state before the command
 pub record Step : Type 0 where
   pub number : ℕ
   pub command : Command
@@ -46,7 +46,7 @@ mark_at step n = mark_of (change_of step.before step.command) (state_of (after_c
 abbrev pub event_of : Step → Event
 event_of step = record { number = step.number; command = step.command; change = change_of step.before step.command }
 
--- the number of commands done, the state of the line, and the commands on it
+-- the number of executed commands of the script, the state of the line, and the commands on the line
 pub record LineRun : Type 0 where
   pub done : ℕ
   pub now : OwnerState
@@ -55,7 +55,7 @@ pub record LineRun : Type 0 where
 abbrev pub run_start : LineConfig → LineRun
 run_start config = record { done = 0; now = opened config; steps = [] }
 
--- a command on the line is done; a command on another line only counts
+-- a command on the line is executed; a command on another line only increases the number of commands
 abbrev pub run_step : ℕ → LineRun → Command → LineRun
 run_step line run c =
     if line_of c == line

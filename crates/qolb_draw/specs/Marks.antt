@@ -12,7 +12,7 @@ use Rattle.qolb_draw.specs.Shapes.{stand_of}
 use Rattle.qolb_script.specs.declared.reply_text.Said.{Said}
 use Rattle.qolb_script.specs.declared.reply_text.Said.TheVariants as said
 
--- there is a node, and it is this one
+-- the first argument is this node
 abbrev pub is_node : Option ℕ → ℕ → Bool
 is_node o n = option_map_or (λ m. m == n) o false
 
@@ -22,7 +22,8 @@ is_handed_on None after n = false
 is_handed_on (Some from) None n = false
 is_handed_on (Some from) (Some to) n = (from == n) && not (to == n)
 
--- the mark of a node by its state, without an effect of the command. A waiting node may be at its turn
+-- the mark of a node in this state if the command had no effect on the node; the second argument says whether the
+-- node's turn has come
 abbrev pub mark_of_state : PortState → Bool → Symbol
 mark_of_state port.Idle turn = symbol.Idle
 mark_of_state port.Linking turn = symbol.Waits
@@ -32,12 +33,12 @@ mark_of_state port.Left turn = symbol.Idle
 mark_of_state port.Rolled turn = symbol.Withdrawn
 mark_of_state port.Shut turn = symbol.Shut
 
--- the mark of node n, which would have this one if the command were no misuse
+-- the mark of node n; `mark` is the mark that the node has if the command is no misuse
 abbrev pub unless_misuse : Change → Symbol → ℕ → Symbol
 unless_misuse change mark n = if (change.node == n) && is_misuse change.said then symbol.Misuse (stand_of mark) else mark
 
--- the mark of node n, which is in this state after the command: told, if it made the command and was told; else given or taken, if the
--- turn passed from it to another node, or to it from another; else by its state
+-- the mark of node n, which is in this state after the command: `Told` if it made the command and was told that the
+-- line is closed; otherwise `Gives` or `Takes` if the turn passed from it or to it; otherwise the mark of its state
 abbrev pub effect_of : Change → PortState → ℕ → Symbol
 effect_of change state n =
     if (change.node == n) && change.told then symbol.Told
@@ -45,6 +46,6 @@ effect_of change state n =
     else if is_handed_on change.after change.before n then symbol.Takes
     else mark_of_state state (is_node change.after n)
 
--- the same; or misuse, if it made the command, and that is misuse
+-- the same mark, or `Misuse` if node n made the command and the command was misuse
 abbrev pub mark_of : Change → PortState → ℕ → Symbol
 mark_of change state n = unless_misuse change (effect_of change state n) n

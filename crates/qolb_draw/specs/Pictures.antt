@@ -28,11 +28,12 @@ letter_of symbol.Gives = 62
 letter_of symbol.Takes = 60
 letter_of (symbol.Misuse stand) = 33
 
--- a node's row: its number, in three places, and its mark after each command
+-- a node's row: the node's number, in three places, and a letter for each command, which shows the node's mark after
+-- the command
 abbrev pub label_of : ℕ → List ℕ
 label_of n = codes "node " ++ map (λ value. digit_at value n) (100 ∷ 10 ∷ 1 ∷ []) ++ 32 ∷ []
 
--- as many spaces as the label has characters
+-- a margin as wide as the label
 abbrev pub label_room : List ℕ
 label_room = replicate 9 32
 
@@ -61,7 +62,7 @@ line_text script line = codes "line " ++ (48 + line) ∷ 10 ∷ [] ++ blocks_tex
 abbrev pub legend : List ℕ
 legend = codes ". idle   w waits   t its turn has come   H holds   > hands over to <\nx withdrawn   c told that the line is closed   - closed   ! misuse\n"
 
--- the picture of a schedule: that of each line, and the legend
+-- the picture of a schedule: the pictures of all its lines, and the legend
 abbrev pub picture_of : Script → List ℕ
 picture_of script = flat_map (line_text script) (range_with_len 0 script.lines) ++ legend
 
@@ -70,7 +71,7 @@ abbrev pub in_form : Form → Script → List ℕ
 in_form form.Text script = picture_of script
 in_form form.Svg script = svg_of script
 
--- the picture of some bytes, or the first fault in them
+-- the picture of the schedule that the bytes are, or the first fault in the bytes
 abbrev pub drawn : Form → Result Script ScriptError → Result (List ℕ) ScriptError
 drawn form (Ok script) = Ok (in_form form script)
 drawn form (Err error) = Err error

@@ -20,14 +20,14 @@ pub data Shape : Type 0 where
   Name : (row column node : ℕ) → Shape
   -- the number of a command
   Number : (column number : ℕ) → Shape
-  -- a command passes the line on, from a row and its node to others
+  -- a command passes the turn from a node (`from`, in row `giver`) to another node (`to`, in row `taker`)
   Arrow : (column number giver from taker to : ℕ) → Shape
   -- the bytes of these places of a line that were written
   Bytes : (row column : ℕ) → List ℕ → (places : List ℕ) → Shape
   -- a command, with its answer
   Call : (row column : ℕ) → Event → Shape
 
--- the kind of bar for a mark
+-- the kind of bar that shows a mark
 abbrev pub stand_of : Symbol → Stand
 stand_of symbol.Idle = stand.Away
 stand_of symbol.Waits = stand.Waits
@@ -48,11 +48,11 @@ is_same stand.Holds stand.Holds = true
 is_same stand.Withdrawn stand.Withdrawn = true
 is_same a b = false
 
--- a node's name, repeated
+-- how many times a node's name occurs in a row
 abbrev pub name_count : ℕ → ℕ
 name_count columns = (columns + (NAMED_EVERY - 1)) / NAMED_EVERY
 
--- the places of a line that a mask has
+-- the places of a line that a mask selects
 abbrev pub place_if : ℕ → ℕ → List ℕ
 place_if mask k = if is_masked mask k then k ∷ [] else []
 

@@ -14,7 +14,7 @@ use Rattle.qolb_draw.specs.StepPictures.{step_height, step_width}
 use Rattle.qolb_draw.specs.StepShapes.{StepShape, Lane, Name, Number, At, Lies, Home, Word, Act, Seen, Watches, step_timeline}
 use Rattle.qolb_draw.specs.StepSvg.{row_name_y, row_of_place, step_x, step_y}
 
--- the points of a node's bars over a column
+-- the points that the node's bars over a column show
 abbrev pub point_over : ℕ → ℕ → StepShape → List Point
 point_over node column (At n start end p) = if (n == node) && (nat_le start column && nat_lt column end) then p ∷ [] else []
 point_over node column shape = []
@@ -26,12 +26,14 @@ points_over node column shapes = flat_map (point_over node column) shapes
 abbrev pub has_acted : ℕ → ℕ → List Event → Bool
 has_acted n count events = list_any (λ e. node_of e == n) (take count events)
 
--- Over each event a node has one bar, of its point after that event. A node that has made no event by then has no bar.
+-- Over each event, a node has one bar, which shows its point after the event. A node that has made no event up to then
+-- has no bar.
 abbrev pub BarsCoverPoints : Type 0
 BarsCoverPoints = (script : StepScript) (all : List Seen) (last : State) (n column : ℕ) (seen : Seen) → Watches (first (line_of script)) script.events all last → slice_get all column ≡ Some seen → points_over n column (step_timeline script all) ≡ (if has_acted n (column + 1) script.events then point seen.after n ∷ [] else [])
 
--- the end of a shape, from the left and from the top of the rows: a sign is 8 pixels wide on each side of its middle and 12 high, half
--- a word above a row or a column 24 wide, a point's name at most 16 wider than a short bar, and letters go 3 below their line
+-- the right end of a shape, and its lower end relative to the top of the rows, in pixels: a sign extends 8 to each side
+-- of its middle and 12 downwards, a word above a row or a column extends 24 to each side, a point's name is at most 16
+-- wider than a short bar, and letters extend 3 below their baseline
 abbrev pub step_right_of : StepShape → ℕ
 step_right_of (Lane row columns) = step_x columns
 step_right_of (Name row column) = step_x column

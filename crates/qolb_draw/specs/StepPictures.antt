@@ -42,7 +42,8 @@ letters_of c = map (λ k. letter_at (point c (k + 1))) (range_with_len 0 c.nodes
 abbrev pub number_text : ℕ → List ℕ
 number_text n = map (λ value. digit_at value n) (100000 ∷ 10000 ∷ 1000 ∷ 100 ∷ 10 ∷ 1 ∷ [])
 
--- a line of plain text: the letter of each node after the event, the event and what it told, and the place of the line
+-- the line of plain text for an event: the letter of each node after the event, the event, what the event told, and the
+-- place of the line
 abbrev pub event_line : ℕ → Seen → List ℕ
 event_line column seen =
     letters_of seen.after ++ codes " " ++ number_text (column + 1) ++ codes ": " ++ heard_words seen.event seen.told ++ codes "; " ++ place_words seen.after.place ++ codes "\n"
@@ -52,7 +53,7 @@ abbrev pub event_lines : ℕ → List Seen → List ℕ
 event_lines column [] = []
 event_lines column (seen ∷ all) = event_line column seen ++ event_lines (column + 1) all
 
--- the numbers of all nodes, digit below digit, over their letters
+-- the heads of the columns of letters: the numbers of all nodes, with the digits of each number below each other
 abbrev pub node_heads : ℕ → List ℕ
 node_heads nodes = heads_text [] (range_with_len 1 nodes)
 
@@ -63,7 +64,7 @@ step_width columns = max 800 (step_x columns + 32)
 abbrev pub step_height : ℕ → ℕ
 step_height nodes = 64 + step_y nodes + 36
 
--- the picture of a script by what was seen of its run
+-- the picture of a script, made from the recorded run of the script
 abbrev pub steps_in : Form → StepScript → List Seen → List ℕ
 steps_in form.Text script all = node_heads script.nodes ++ event_lines 0 all ++ LETTERS.now
 steps_in form.Svg script all =

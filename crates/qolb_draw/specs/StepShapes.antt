@@ -17,7 +17,7 @@ use Rattle.qolb_script.specs.StepScript.{StepScript}
 use Rattle.qolb_draw.specs.declared.svg.TheConstants.{NAMED_EVERY}
 use Rattle.qolb_draw.specs.Shapes.{name_count}
 
--- an event, what it told if it was enabled, and the core before and after
+-- an event, what it told (`None` if it was not enabled), and the core before and after the event
 pub record Seen : Type 0 where
   pub event : Event
   pub told : Option Told
@@ -49,11 +49,11 @@ pub data StepShape : Type 0 where
   -- an event, with what it told
   Act : (column : ℕ) → Event → Option Told → StepShape
 
--- the row with its name repeated
+-- a row, with its name repeated
 abbrev pub lane_shapes : ℕ → ℕ → List StepShape
 lane_shapes columns row = Lane row columns ∷ map (λ k. Name row (NAMED_EVERY * k)) (range_with_len 0 (name_count columns))
 
--- how many of these events precede the next one of a node
+-- the number of these events before the node's next event, or of all of them if the node makes none
 abbrev pub until : ℕ → List Event → ℕ
 until n [] = 0
 until n (event ∷ rest) = if node_of event == n then 0 else until n rest + 1
@@ -76,8 +76,8 @@ word_shapes column node was is = if is_same_entry is was then [] else Word colum
 abbrev pub words_shapes : ℕ → List Entry → State → List StepShape
 words_shapes column were c = flat_map (λ k. word_shapes column (k + 1) (slice_index_or were k empty) (entry c (k + 1))) (range_with_len 0 c.nodes)
 
--- the shapes of an event, which `rest` follows: the node's point until its next event, the place of the line, the words that have
--- changed, and what the event told
+-- the shapes of an event; `rest` are the events after it. The shapes show the node's point until the node's next event,
+-- the place of the line, the words that have changed, and what the event told
 abbrev pub event_shapes : ℕ → Seen → List Event → List StepShape
 event_shapes column seen rest =
     Number column ∷ At (node_of seen.event) column (column + (until (node_of seen.event) rest + 1)) (point seen.after (node_of seen.event)) ∷ Lies column seen.after.place ∷ []
@@ -92,6 +92,6 @@ seen_shapes column events (seen ∷ all) = event_shapes column seen (drop 1 even
 abbrev pub rows_shapes : ℕ → ℕ → List StepShape
 rows_shapes nodes columns = flat_map (lane_shapes columns) (range_with_len 0 (nodes + 1))
 
--- the shapes of a script by what was seen of its run
+-- the shapes of a script, made from the recorded run of the script
 abbrev pub step_timeline : StepScript → List Seen → List StepShape
 step_timeline script all = rows_shapes script.nodes (length script.events) ++ seen_shapes 0 script.events all

@@ -20,7 +20,7 @@ use Rattle.qolb_words.specs.Words.{joined, named_by, number_if, point_name, step
 use Rattle.qolb_draw.specs.Svg.{lane_text, name_text, name_y_at, number_text, sign_begin, sign_end, span_text, written_words, x_at, y_at}
 use Rattle.qolb_draw.specs.StepShapes.{StepShape, Lane, Name, Number, At, Lies, Home, Word, Act}
 
--- the place of an event, from the left; the middle of a row, from the top; the height of a row's name
+-- the x coordinate of an event; the y coordinates of a row's middle and of its name
 abbrev pub step_x : ℕ → ℕ
 step_x column = x_at scale.Steps column
 
@@ -30,7 +30,8 @@ step_y row = y_at scale.Steps row
 abbrev pub row_name_y : ℕ → ℕ → ℕ
 row_name_y row column = name_y_at scale.Steps row column
 
--- the class of a point's bar: the node asks or waits, holds, releases, has withdrawn, or is in no call
+-- the class of a point's bar, which tells whether the node asks or waits, holds, releases, has withdrawn, or is in no
+-- call
 abbrev pub class_at : Point → List ℕ
 class_at point.Idle = codes "rests"
 class_at point.Ready = codes "waits"
@@ -45,7 +46,7 @@ class_at point.Left = codes "rests"
 class_at point.Rolled = codes "withdrawn"
 class_at point.Shut = codes "rests"
 
--- the words of a place; its node; and the row that shows it
+-- the words that describe a place; the node that it belongs to; and the row that shows it
 abbrev pub place_name : Place → List ℕ
 place_name place.Home = codes "the line lies at home"
 place_name (place.Mailbox n) = codes "the line lies in the mailbox of node "
@@ -76,7 +77,7 @@ letter_if flag letter = if flag then letter else []
 abbrev pub entry_words : Entry → List ℕ
 entry_words e = joined (letter_if e.granted (codes "g") ∷ letter_if e.rolled (codes "r") ∷ letter_if e.done (codes "d") ∷ letter_if e.freed (codes "f") ∷ decimal e.link ∷ [])
 
--- the words of a write behind its node; the whole event as a script has it
+-- the words of a write that follow its node; the whole event in the notation of a step script
 abbrev pub placed_words : Event → List ℕ
 placed_words (event.Write n mask bytes) = written_words (Write n 0 mask bytes)
 placed_words e = []
@@ -84,14 +85,14 @@ placed_words e = []
 abbrev pub event_words : Event → List ℕ
 event_words e = joined (step_verb e ∷ codes " " ∷ decimal (node_of e) ∷ []) ++ placed_words e
 
--- the words of an event and of what it told; the same with the number of its column before them
+-- the words of an event and of its answer; the same, with the number of the event before them
 abbrev pub heard_words : Event → Option Told → List ℕ
 heard_words e what = event_words e ++ codes ": " ++ said_words (step_said what)
 
 abbrev pub told_words : ℕ → Event → Option Told → List ℕ
 told_words column e what = joined (decimal (column + 1) ∷ codes ": " ∷ []) ++ heard_words e what
 
--- the sign of an event that told this
+-- the sign of an event with this answer
 abbrev pub sign_at : Option Told → List ℕ
 sign_at (Some told.Withdrawn) = codes "out"
 sign_at (Some told.Closed) = codes "told"

@@ -20,7 +20,8 @@ use Rattle.qolb_draw.specs.declared.svg.Scale.TheVariants as scale
 use Rattle.qolb_draw.specs.Shapes.{Shape, Lane, Bar, Name, Number, Arrow, Bytes, Call, name_count, places_in}
 use Rattle.qolb_words.specs.Words.{field, joined, number_if, verb_of}
 
--- the place of a column's command or event, from the left; the middle of a row, from the top of its line
+-- the x coordinate of the command or event in a column; the y coordinate of a row's middle, relative to the top of its
+-- line
 abbrev pub x_at : Scale → ℕ → ℕ
 x_at scale.Schedule column = 96 + 32 * column
 x_at scale.Steps column = 96 + 72 * column
@@ -29,12 +30,12 @@ abbrev pub y_at : Scale → ℕ → ℕ
 y_at scale.Schedule row = 68 + 40 * row
 y_at scale.Steps row = 68 + 48 * row
 
--- the width of some columns
+-- the width of this number of columns
 abbrev pub width_at : Scale → ℕ → ℕ
 width_at scale.Schedule columns = 32 * columns
 width_at scale.Steps columns = 72 * columns
 
--- the height of a row's name: beside its row at the beginning, and below its bars further on
+-- the y coordinate of a row's name, which is beside the row in column 0 and below the bars in later columns
 abbrev pub below : Scale → ℕ
 below scale.Schedule = 19
 below scale.Steps = 26
@@ -42,7 +43,7 @@ below scale.Steps = 26
 abbrev pub name_y_at : Scale → ℕ → ℕ → ℕ
 name_y_at s row column = if column == 0 then y_at s row + 4 else y_at s row + below s
 
--- the same in a schedule
+-- the same coordinates in the picture of a schedule
 abbrev pub x_of : ℕ → ℕ
 x_of column = x_at scale.Schedule column
 
@@ -52,7 +53,7 @@ y_of row = y_at scale.Schedule row
 abbrev pub name_y : ℕ → ℕ → ℕ
 name_y row column = name_y_at scale.Schedule row column
 
--- the class of a bar, by which it has its colour
+-- the class of a bar, which determines the bar's colour
 abbrev pub class_of : Stand → List ℕ
 class_of stand.Away = codes "away"
 class_of stand.Waits = codes "waits"
@@ -81,16 +82,16 @@ digit_of n = slice_index (codes "0123456789abcdef") n
 abbrev pub hex_of : List ℕ → List ℕ → List ℕ
 hex_of bytes places = flat_map (λ k. digit_of (slice_index bytes k / 16) ∷ digit_of (slice_index bytes k % 16) ∷ []) places
 
--- the first two of them, and dots if there are more
+-- the first two of these bytes, and an ellipsis if there are more
 abbrev pub shortened : List ℕ → List ℕ → List ℕ
 shortened bytes places = hex_of bytes (take 2 places) ++ (if nat_lt 2 (length places) then codes "&#8230;" else [])
 
--- the words of a write behind its line
+-- the words of a write that follow its line
 abbrev pub written_words : Command → List ℕ
 written_words (Write node line mask bytes) = field (codes " ") (slice_index (places_in mask.0) 0) ++ codes " " ++ hex_of bytes.bytes (places_in mask.0)
 written_words c = []
 
--- a command as a script has it
+-- a command in the notation of a schedule
 abbrev pub command_words : Command → List ℕ
 command_words c = verb_of c ++ field (codes " ") (node_of c) ++ field (codes " ") (line_of c) ++ written_words c
 
@@ -107,14 +108,14 @@ span_text s row start end class node says =
 abbrev pub bar_text : ℕ → ℕ → ℕ → Stand → ℕ → List ℕ
 bar_text row start end s node = span_text scale.Schedule row start end (class_of s) node (joined (words_of s ∷ []))
 
--- the name of a row, and the number behind it: of a node, or of the home word, which is 0
+-- the name of a row, and the number that follows the name; 0 stands for the row of the home word
 abbrev pub row_words : ℕ → List ℕ
 row_words node = if node == 0 then codes "home" else codes "node "
 
 abbrev pub row_number : ℕ → Option ℕ
 row_number node = if node == 0 then None else Some node
 
--- a name, and all names of a row
+-- one occurrence of a row's name, and all of them
 abbrev pub name_text : Scale → ℕ → ℕ → ℕ → List ℕ
 name_text s row column node =
     joined (codes "<text class='name' x='" ∷ decimal (x_at s column - 88) ∷ codes "' y='" ∷ decimal (name_y_at s row column) ∷ codes "'>" ∷ row_words node ∷ number_if (row_number node) ∷ codes "</text>\n" ∷ [])
@@ -133,7 +134,8 @@ abbrev pub bytes_text : ℕ → ℕ → List ℕ → List ℕ → List ℕ
 bytes_text row column bytes places =
     field (codes "<text class='small' x='") (x_of column) ++ field (codes "' y='") (y_of row - 11) ++ codes "'>" ++ shortened bytes places ++ codes "</text>\n"
 
--- a sign: before its words, and behind them, with the first word of its command or event above the column
+-- the text of a sign before the words of its title, and after them; the latter has the first word of the command or
+-- event, which is above the column
 abbrev pub sign_begin : Scale → ℕ → ℕ → List ℕ → List ℕ
 sign_begin s row column sign = joined (codes "<use href='#" ∷ sign ∷ codes "' x='" ∷ decimal (x_at s column) ∷ codes "' y='" ∷ decimal (y_at s row) ∷ codes "'><title>" ∷ [])
 

@@ -24,7 +24,8 @@ abbrev pub bar_of : ℕ → ℕ → ℕ → Stand → ℕ → List Shape
 bar_of row start end stand.Away node = []
 bar_of row start end s node = Bar row start end s node ∷ []
 
--- the bars of a row from a column on: one for each run of equal states. Its node has been in a state since another column
+-- the bars of a row from `column` on: one for each run of equal states; the node has been in state `s` since column
+-- `start`
 abbrev pub bars_from : ℕ → ℕ → Stand → ℕ → ℕ → List Stand → List Shape
 bars_from row node s start column [] = bar_of row start column s node
 bars_from row node s start column (next ∷ rest) =
@@ -35,19 +36,19 @@ bars_from row node s start column (next ∷ rest) =
 abbrev pub names_of : ℕ → ℕ → ℕ → List Shape
 names_of row columns node = map (λ k. Name row (NAMED_EVERY * k) node) (range_with_len 0 (name_count columns))
 
--- the row of a node, by its state after each command
+-- the row of a node, made from the node's state after each command
 abbrev pub row_shapes : List ℕ → ℕ → List Stand → ℕ → List Shape
 row_shapes shown columns stands node =
     Lane (row_of shown node) columns ∷ bars_from (row_of shown node) node stand.Away 0 0 stands ++ names_of (row_of shown node) columns node
 
--- the arrow, if the turn passed from one node to another
+-- the arrow of a command, if the turn passed from one node to another
 abbrev pub arrow_of : List ℕ → ℕ → ℕ → Option ℕ → Option ℕ → List Shape
 arrow_of shown column number None after = []
 arrow_of shown column number (Some from) None = []
 arrow_of shown column number (Some from) (Some to) =
     if from == to then [] else Arrow column number (row_of shown from) from (row_of shown to) to ∷ []
 
--- the bytes that a command wrote, if this is its answer
+-- the bytes that a command with this answer wrote, if it wrote any
 abbrev pub bytes_of : List ℕ → ℕ → Command → Said → List Shape
 bytes_of shown column (Write node line mask bytes) said.Written = Bytes (row_of shown node) column bytes.bytes (places_in mask.0) ∷ []
 bytes_of shown column c what = []
@@ -58,7 +59,7 @@ column_shapes shown column event =
     Number column event.number ∷ arrow_of shown column event.number event.change.before event.change.after
     ++ bytes_of shown column event.command event.change.said ++ Call (row_of shown event.change.node) column event ∷ []
 
--- an event for places that have none
+-- the event that stands for a place outside the list
 abbrev pub no_event : Event
 no_event = record { number = 0; command = Enq 0 0; change = record { node = 0; said = said.Misuse; told = false; before = None; after = None } }
 
@@ -80,18 +81,18 @@ shapes_of nodes steps =
 abbrev pub timeline_of : Script → ℕ → List Shape
 timeline_of script line = shapes_of script.nodes (steps_on line script)
 
--- how many nodes call on a line; how many commands are on it
+-- the number of nodes that make calls on a line; the number of commands on the line
 abbrev pub rows_on : Script → ℕ → ℕ
 rows_on script line = length (callers script.nodes (steps_on line script))
 
 abbrev pub columns_on : Script → ℕ → ℕ
 columns_on script line = length (steps_on line script)
 
--- the top of a line: the lines are one below another, under the legend
+-- the y coordinate of a line's top; the lines are below each other, under the legend
 abbrev pub top_of : Script → ℕ → ℕ
 top_of script line = 64 + sum_by (λ k. height_of (rows_on script k)) (range_with_len 0 line)
 
--- the width of the widest of these lines, or of the legend
+-- the width of the widest of these lines, and at least the width of the legend
 abbrev pub widest : Script → ℕ → ℕ
 widest script lines = fold (λ width k. max width (width_of (columns_on script k))) 640 (range_with_len 0 lines)
 

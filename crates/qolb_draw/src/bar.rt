@@ -5,18 +5,18 @@ ghost use Rattle.qolb_draw.specs.Shapes as spec;
 
 use crate::symbol::Symbol;
 
-/// The state of a node at a line, as the kind of its bar.
+/// The state of a node at a line, which determines the kind of its bar.
 #[derive(Clone, Copy, Debug, PartialEq, Eq)]
 pub enum Stand {
     /// The node has no open request.
     Away,
     /// The node's request waits behind another.
     Waits,
-    /// The node is at its turn, and has not looked yet.
+    /// The node's turn has come, but the node has not looked yet.
     AtTurn,
     /// The node holds the line.
     Holds,
-    /// The node has withdrawn its request, which was not passed yet.
+    /// The node has withdrawn its request, and the request has not been passed yet.
     Withdrawn,
 }
 
@@ -35,7 +35,7 @@ impl Stand {
         }
     }
 
-    /// Returns `true` if a node in this state is no longer in it with this mark.
+    /// Returns `true` if this mark shows that a node in this state has left the state.
     pub fn ends_at(self, mark: Symbol) -> bool
         ensures { result ≡ not (spec.is_same (spec.stand_of mark) self) }
     {

@@ -30,7 +30,7 @@ pub fn sign(said: &Said) -> &'static [u8]
     }
 }
 
-/// Returns the places of a line that a mask has.
+/// Returns the places of a line that a mask selects, in ascending order.
 pub fn places<A: Allocator>(alloc: A, mask: Mask) -> Result<Vec<u8, A>, AllocError>
     ensures { IfOk result (λ places. places.items ≡ places_in mask.0) }
 {
@@ -95,7 +95,7 @@ pub fn push_shortened<A: Allocator>(
     Ok(())
 }
 
-/// Appends a command, as a script has it.
+/// Appends a command in the notation of a schedule.
 pub fn push_command<A: Allocator>(
     alloc: A,
     text: &mut Vec<u8, A>,
@@ -110,7 +110,7 @@ pub fn push_command<A: Allocator>(
     Ok(())
 }
 
-/// Appends the words of a write behind its line.
+/// Appends the words of a write that follow its line: the offset and the bytes. Appends nothing for other commands.
 pub fn push_written<A: Allocator>(
     alloc: A,
     text: &mut Vec<u8, A>,
@@ -132,7 +132,7 @@ pub fn push_answer<A: Allocator>(text: &mut Vec<u8, A>, said: &Said) -> Result<(
     ensures { OnOk result (text.new.items ≡ text.old.items ++ said_words said.now) }
 {
     push_said(text, said)?;
-    // the newline
+    // Removes the newline that `push_said` appends.
     text.pop();
     Ok(())
 }

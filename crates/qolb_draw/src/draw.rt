@@ -13,11 +13,13 @@ use qolb_replay::ReplayError;
 use qolb_script::{Schedule, read_schedule};
 use std::alloc::{AllocError, Allocator};
 
-/// Returns the picture of a schedule in this form. The states are those of a replay by plain lines.
+/// Returns the picture of a schedule in this form.
+///
+/// The picture shows the states of the nodes in a replay of the schedule by plain lines.
 ///
 /// # Errors
 ///
-/// `Memory`, or `Script` with the first fault of the schedule.
+/// `Memory` if memory runs out, or `Script` with the first fault of the schedule.
 pub fn draw_schedule<A: Allocator + Copy>(
     alloc: A,
     script: &[u8],

@@ -10,14 +10,17 @@ use qolb_replay::ReplayLine;
 use qolb_script::{Command, Said};
 use std::alloc::{AllocError, Allocator};
 
-/// A plain line, with the order of its open requests, which a plain line does not show, and with the state of each node: to ask the line
-/// for each state after each command would take long, because the line searches its waiting nodes for each.
+/// A plain line, together with the order of its open requests and the state of each node.
+///
+/// A plain line does not show the order of its requests. The states are stored here because a plain line searches its
+/// waiting nodes each time it is asked for the state of a node. Asking for each state after each command would take
+/// long.
 #[derive(Drop)]
 pub struct TracedLine<A: Allocator> {
     pub line: PlainLine,
-    /// The nodes whose requests have no end yet, oldest first.
+    /// The nodes whose requests have not ended yet, oldest request first.
     pub waiting: Vec<u64, A>,
-    /// The state of each node, by the node's number.
+    /// The state of each node, indexed by the node's number. The first element belongs to no node.
     pub states: Vec<PortState, A>,
     /// `true` if the line is closed.
     pub closed: bool,
@@ -32,7 +35,7 @@ impl<A: Allocator + Copy> TracedLine<A> {
     ghost use Rattle.qolb_draw.specs.LineRuns.{change_of};
     ghost use Rattle.qolb_draw.specs.Following.{Follows, HasStates};
 
-    /// Wraps a line that was just opened for this number of nodes.
+    /// Wraps a newly opened line for this number of nodes, which are all idle.
     pub fn new(alloc: A, line: PlainLine, nodes: u64) -> Result<TracedLine<A>, AllocError>
         requires { nodes ≤ MAX_NODES }
         ensures line { IfOk result (λ traced. traced.line ≡ line) }
@@ -49,7 +52,7 @@ impl<A: Allocator + Copy> TracedLine<A> {
         })
     }
 
-    /// Does a command, and returns what it changed.
+    /// Executes a command on the line, and returns what the command changed.
     pub fn take(&mut self, command: &Command) -> Result<Change, AllocError>
         requires first { 1 ≤ node_of command.now }
         requires last { node_of command.now ≤ self.old.line.nodes }
@@ -87,7 +90,7 @@ impl<A: Allocator + Copy> TracedLine<A> {
     }
 }
 
-/// Returns `true` if this answer is one to a node that has made a request.
+/// Returns `true` if a command with this answer has made a request.
 fn has_asked(said: &Said) -> bool
     ensures { result ≡ spec.has_asked said.now }
 {
@@ -110,7 +113,9 @@ fn is_told(said: &Said) -> bool
     )
 }
 
-/// Removes the nodes at the front whose requests have ended, and keeps their states. Returns whether the line is closed now.
+/// Removes the nodes at the front of `waiting` whose requests have ended, and stores their new states.
+///
+/// Returns whether the line is closed now, or `was_closed` if no node was removed.
 fn pass<A: Allocator>(
     waiting: &mut Vec<u64, A>,
     states: &mut Vec<PortState, A>,
@@ -132,7 +137,7 @@ fn pass<A: Allocator>(
     closed
 }
 
-/// Keeps the state of this node, which made a command; and those of all nodes, if the line was closed by that.
+/// Stores the new state of the node that made a command, or of all nodes if the command closed the line.
 fn look<A: Allocator>(states: &mut Vec<PortState, A>, line: &PlainLine, node: u64, all: bool)
     ensures { spec.AreLookedAt line.now node all states.old.items states.new.items }
 {
@@ -143,7 +148,7 @@ fn look<A: Allocator>(states: &mut Vec<PortState, A>, line: &PlainLine, node: u6
     }
 }
 
-/// Keeps the states of all nodes.
+/// Stores the new states of all nodes.
 fn look_at_all<A: Allocator>(states: &mut Vec<PortState, A>, line: &PlainLine)
     ensures size { length states.new.items ≡ length states.old.items }
     ensures states { spec.AreStates line.now states.new.items }
@@ -153,7 +158,7 @@ fn look_at_all<A: Allocator>(states: &mut Vec<PortState, A>, line: &PlainLine)
     }
 }
 
-/// Keeps the state of a node.
+/// Stores the new state of a node.
 fn keep<A: Allocator>(states: &mut Vec<PortState, A>, node: u64, state: PortState)
     ensures { spec.IsKept node state states.old.items states.new.items }
 {
@@ -163,7 +168,7 @@ fn keep<A: Allocator>(states: &mut Vec<PortState, A>, node: u64, state: PortStat
     }
 }
 
-/// Returns the state of this node, if there is one, and it has no open request.
+/// Returns the state of this node, or `None` if there is no node or the node has an open request.
 fn state_ended(node: Option<&u64>, line: &PlainLine) -> Option<PortState>
     ensures { result ≡ spec.state_ended line.now (option_copied node.entry) }
 {
@@ -171,21 +176,21 @@ fn state_ended(node: Option<&u64>, line: &PlainLine) -> Option<PortState>
     if is_open(state) { None } else { Some(state) }
 }
 
-/// Returns `true` if one of these holds, and not the other.
+/// Returns `true` if exactly one of the two is `true`.
 fn differs(was: bool, is: bool) -> bool
     ensures { result ≡ spec.differs was is }
 {
     if was { !is } else { is }
 }
 
-/// Returns `true` if this is the state of a node without a request at a closed line.
+/// Returns `true` if a node in this state has no open request and the line is closed.
 fn is_shut(state: PortState) -> bool
     ensures { result ≡ spec.is_shut state }
 {
     matches!(state, PortState::Shut)
 }
 
-/// Returns `true` if a node in this state has a request without an end.
+/// Returns `true` if a node in this state has a request that has not ended yet.
 fn is_open(state: PortState) -> bool
     ensures { result ≡ spec.is_open state }
 {

@@ -23,7 +23,8 @@ pub struct Grid<A: Allocator> {
     pub callers: Vec<u64, A>,
     /// Each command, with its change.
     pub events: Vec<Event, A>,
-    /// The marks of all nodes after each command, one command after another.
+    /// The marks of all nodes after each command: `nodes` marks for the first command, then `nodes` marks for the next
+    /// one, and so on.
     pub marks: Vec<Symbol, A>,
 }
 
@@ -65,7 +66,9 @@ impl<A: Allocator + Copy> Grid<A> {
     }
 }
 
-/// Appends the marks of all nodes after a command with this change, by their states, of which the first is no node's.
+/// Appends the marks of all nodes after a command with this change.
+///
+/// `states` holds the nodes' states, indexed by the nodes' numbers. Its first element belongs to no node.
 fn push_column<A: Allocator>(
     marks: &mut Vec<Symbol, A>,
     change: &Change,
@@ -79,7 +82,7 @@ fn push_column<A: Allocator>(
     Ok(())
 }
 
-/// Does the commands on this line, and keeps the marks of its nodes after each.
+/// Executes the commands on this line, and returns the marks of its nodes after each command.
 pub fn draw_line<A: Allocator + Copy>(
     alloc: A,
     schedule: &Schedule<A>,

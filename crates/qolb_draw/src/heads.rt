@@ -4,10 +4,10 @@ ghost use Rattle.qolb_draw.specs.Heads as spec;
 
 use std::alloc::{AllocError, Allocator};
 
-/// The values of the places of a number.
+/// The place values of a decimal number with at most six digits.
 const PLACES: [u64; 6] = [100_000, 10_000, 1000, 100, 10, 1];
 
-/// Returns the digit of a number at a place of this value, or a space.
+/// Returns the digit of a number at the place with this value, or a space if the number has no digit there.
 pub fn digit_at(value: u64, number: u64) -> u8
     requires { 1 ≤ value }
     ensures { result ≡ spec.digit_at value number }
@@ -19,7 +19,7 @@ pub fn digit_at(value: u64, number: u64) -> u8
     }
 }
 
-/// Appends a row of digits, at one place of each number, behind a margin.
+/// Appends a row of digits: a margin, and then the digit of each number at the place with this value.
 fn push_head<A: Allocator>(
     text: &mut Vec<u8, A>,
     margin: &[u8],
@@ -38,7 +38,10 @@ fn push_head<A: Allocator>(
     Ok(())
 }
 
-/// Appends some numbers, digit below digit, behind a margin. The last is the greatest.
+/// Appends some numbers as the heads of columns, with the digits of each number below each other.
+///
+/// Each row of digits begins with the margin. The last number determines how many rows there are, so it should be the
+/// greatest.
 pub fn push_heads<A: Allocator>(
     text: &mut Vec<u8, A>,
     margin: &[u8],

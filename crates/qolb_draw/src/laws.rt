@@ -7,7 +7,8 @@ pub fn drawn_as_replayed()
     ensures { DrawnAsReplayed }
 {}
 
-/// States that bars cover marks: over each command a node has one bar, of its mark's kind, or none if the mark has none.
+/// States that the bars cover the marks: over each command, a node has one bar of the kind of its mark, or no bar if
+/// the mark has none.
 pub fn bars_cover_marks()
     ensures { BarsCoverMarks }
 {}
@@ -17,8 +18,8 @@ pub fn shapes_lie_within()
     ensures { ShapesLieWithin }
 {}
 
-/// States that bars cover points: over each event of a step script a node has one bar, of its point after the event, from its own first
-/// event on.
+/// States that the bars cover the points: over each event of a step script, from the node's own first event on, a node
+/// has one bar, which shows the node's point after the event.
 pub fn bars_cover_points()
     ensures { BarsCoverPoints }
 {}

@@ -44,7 +44,8 @@ fn entries_of<A: Allocator>(alloc: A, core: &Core) -> Result<Vec<Entry, A>, Allo
     Ok(entries)
 }
 
-/// Returns how many of these events precede the next one of the node.
+/// Returns the number of these events before the node's next event, or the number of all of them if the node makes
+/// none.
 fn until(node: u64, rest: &[Event]) -> u32
     requires { length rest.now ≤ MAX_COMMANDS }
     ensures matches { result ≡ spec.until node rest.now }
@@ -92,7 +93,7 @@ fn push_other_word<A: Allocator>(
     Ok(())
 }
 
-/// Appends the new entries that have changed, and keeps them in the place of those that were.
+/// Appends the entries that have changed, and replaces `entries` with the entries of the core.
 fn push_other_words<A: Allocator>(
     svg: &mut Vec<u8, A>,
     column: u32,
@@ -113,8 +114,10 @@ fn push_other_words<A: Allocator>(
     Ok(())
 }
 
-/// Appends the shapes of an event: made in this column at these words, it left this core, and `rest` follows it. Keeps the words of that
-/// core.
+/// Appends the shapes of an event in this column, and replaces `words` with the words of the core after the event.
+///
+/// `words` holds the words of the core before the event, `core` is the core after the event, and `rest` are the events
+/// that follow.
 pub fn push_event_shapes<A: Allocator>(
     alloc: A,
     svg: &mut Vec<u8, A>,

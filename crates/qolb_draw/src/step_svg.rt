@@ -91,7 +91,7 @@ pub fn push_lanes<A: Allocator>(
     Ok(())
 }
 
-/// Appends the bar of a node that is at a point from one column to another.
+/// Appends the bar of a node that stays at a point from one column to another.
 fn push_at_bar<A: Allocator>(
     svg: &mut Vec<u8, A>,
     node: u64,
@@ -164,7 +164,7 @@ pub fn push_at<A: Allocator>(
     Ok(())
 }
 
-/// Appends the place of the line, for a column.
+/// Appends the place of the line in a column.
 pub fn push_lies<A: Allocator>(
     svg: &mut Vec<u8, A>,
     column: u32,

@@ -15,7 +15,7 @@ use std::alloc::{AllocError, Allocator};
 pub const LETTERS: &[u8] =
     b"\n. Idle   r Ready   l Linking   w Queued   H Holding   h Leaving   m Marking\ng Granting   f Freeing   L Left   x Rolled   - Shut\n";
 
-/// Returns the letter of a point.
+/// Returns the letter that shows a node at this point.
 fn letter_at(point: Point) -> u8
     ensures { result ≡ spec.letter_at point }
 {
@@ -35,7 +35,8 @@ fn letter_at(point: Point) -> u8
     }
 }
 
-/// Appends the numbers of all nodes, digit below digit, over their letters.
+/// Appends the heads of the columns of letters: the numbers of all nodes, with the digits of each number below each
+/// other.
 pub fn push_node_heads<A: Allocator>(
     alloc: A,
     text: &mut Vec<u8, A>,
@@ -71,7 +72,7 @@ fn push_letters<A: Allocator>(text: &mut Vec<u8, A>, core: &Core) -> Result<(), 
     Ok(())
 }
 
-/// Appends a number in six places, so that the columns behind it are the same in each line.
+/// Appends a number in six places, so that the text after the number is aligned in all lines.
 fn push_number<A: Allocator>(text: &mut Vec<u8, A>, number: u64) -> Result<(), AllocError>
     ensures { OnOk result (text.new.items ≡ text.old.items ++ spec.number_text number) }
 {
@@ -86,7 +87,7 @@ fn push_number<A: Allocator>(text: &mut Vec<u8, A>, number: u64) -> Result<(), A
     Ok(())
 }
 
-/// Appends the line of an event that told this and left this core.
+/// Appends the line of an event. `told` is what the event told, and `core` is the core after the event.
 pub fn push_event_line<A: Allocator>(
     alloc: A,
     text: &mut Vec<u8, A>,

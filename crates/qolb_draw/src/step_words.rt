@@ -23,7 +23,7 @@ pub fn class_at(point: Point) -> &'static [u8]
     }
 }
 
-/// Returns the words of a place, without its node.
+/// Returns the words that describe a place, without the number of its node.
 pub fn place_name(place: Place) -> &'static [u8]
     ensures { result.now ≡ spec.place_name place }
 {
@@ -34,7 +34,7 @@ pub fn place_name(place: Place) -> &'static [u8]
     }
 }
 
-/// Returns the node whose place it is, if it is a node's.
+/// Returns the node that a place belongs to, or `None` if the place belongs to no node.
 pub fn whose(place: Place) -> Option<u64>
     ensures { result ≡ spec.whose place }
 {
@@ -78,7 +78,7 @@ pub fn class_of_place(place: Place) -> &'static [u8]
     }
 }
 
-/// Returns the letter if the flag is set, and else nothing.
+/// Returns the letter if the flag is set, and nothing otherwise.
 fn letter_if(flag: bool, letter: &'static [u8]) -> &'static [u8]
     ensures { result.now ≡ spec.letter_if flag letter.now }
 {
@@ -102,7 +102,7 @@ pub fn push_entry<A: Allocator>(text: &mut Vec<u8, A>, entry: &Entry) -> Result<
     Ok(())
 }
 
-/// Appends the words of a write behind its node.
+/// Appends the words of a write that follow its node.
 fn push_placed<A: Allocator>(
     alloc: A,
     text: &mut Vec<u8, A>,
@@ -122,7 +122,7 @@ fn push_placed<A: Allocator>(
     Ok(())
 }
 
-/// Appends an event, as a script has it.
+/// Appends an event in the notation of a step script.
 fn push_event_words<A: Allocator>(
     alloc: A,
     text: &mut Vec<u8, A>,
@@ -186,7 +186,7 @@ pub fn push_told<A: Allocator>(
     Ok(())
 }
 
-/// Returns the sign of an event that told this.
+/// Returns the sign of an event with this answer.
 pub fn sign_at(told: Option<Told>) -> &'static [u8]
     ensures { result.now ≡ spec.sign_at told }
 {

@@ -23,12 +23,14 @@ use qolb_replay::ReplayError;
 use qolb_script::{Steps, read_steps};
 use std::alloc::{AllocError, Allocator};
 
-/// Returns the picture of a step script in this form. The states are those of a run of the list's core. For each event the picture shows the
-/// point of its node, the words that changed, and the place of the line.
+/// Returns the picture of a step script in this form.
+///
+/// The picture shows a run of the script on the core of the link line. For each event, it shows the point of the
+/// event's node, the words that changed, and the place of the line.
 ///
 /// # Errors
 ///
-/// `Memory`, or `Script` with the first fault of the step script.
+/// `Memory` if memory runs out, or `Script` with the first fault of the step script.
 pub fn draw_steps<A: Allocator + Copy>(
     alloc: A,
     script: &[u8],
@@ -98,7 +100,7 @@ fn opened<A: Allocator>(steps: &Steps<A>) -> Core
     core
 }
 
-/// Appends a line for each event, made on the core that the events before it left.
+/// Executes the events one after another, and appends a line for each event.
 fn push_lines<A: Allocator + Copy>(
     alloc: A,
     text: &mut Vec<u8, A>,
@@ -118,7 +120,7 @@ fn push_lines<A: Allocator + Copy>(
     Ok(())
 }
 
-/// Appends the shapes of each event, made on the core that the events before it left.
+/// Executes the events one after another, and appends the shapes of each event.
 fn push_shapes<A: Allocator + Copy>(
     alloc: A,
     svg: &mut Vec<u8, A>,

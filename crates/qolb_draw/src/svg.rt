@@ -10,8 +10,8 @@ use crate::event::Event;
 use qolb_words::{Piece, push_all, push_field, verb};
 use std::alloc::{AllocError, Allocator};
 
-/// The text between the picture's height and its legend: the colours on a light page, those that differ on a dark one, and the signs of
-/// commands.
+/// The text between the picture's height and its legend: the colours for a light page, the colours that differ on a
+/// dark page, and the signs of the commands.
 pub const STYLE: &[u8] = b"' font-family='monospace' font-size='12'>
 <style>
 svg{background:#fff}
@@ -64,7 +64,7 @@ pub const LEGEND: &[u8] =
 <use href='#misuse' x='508' y='42'/><text x='520' y='46'>not allowed</text>
 ";
 
-/// The text behind the last line.
+/// The text after the last line.
 pub const TAIL: &[u8] = b"</svg>\n";
 
 /// The number of columns after which the name of a node is repeated.
@@ -80,7 +80,7 @@ pub enum Scale {
 }
 
 impl Scale {
-    /// Returns the place of a column's command or event, from the left.
+    /// Returns the x coordinate of the command or event in this column.
     pub fn x(self, column: u32) -> u64
         ensures place { result ≡ spec.x_at self column }
         ensures low { 96 ≤ result }
@@ -91,7 +91,7 @@ impl Scale {
         }
     }
 
-    /// Returns the middle of a row, from the top of its line.
+    /// Returns the y coordinate of a row's middle, relative to the top of its line.
     pub fn y(self, row: u8) -> u64
         ensures place { result ≡ spec.y_at self row }
         ensures low { 68 ≤ result }
@@ -103,7 +103,8 @@ impl Scale {
         }
     }
 
-    /// Returns the height of a row's name: beside the row at the beginning, and below its bars further on.
+    /// Returns the y coordinate of a row's name, which is beside the row in column 0 and below the bars in later
+    /// columns.
     fn name_y(self, row: u8, column: u32) -> u64
         ensures { result ≡ spec.name_y_at self row column }
     {
@@ -114,7 +115,7 @@ impl Scale {
         }
     }
 
-    /// Returns the width of these columns.
+    /// Returns the width of this number of columns in pixels.
     fn width(self, columns: u32) -> u64
         ensures { result ≡ spec.width_at self columns }
     {
@@ -147,7 +148,7 @@ pub fn push_lane<A: Allocator>(
     Ok(())
 }
 
-/// Appends a bar of this class, from one column to another, with the words that say its node's state.
+/// Appends a bar with this class, from one column to another, with a title that names the node and its state.
 pub fn push_span<A: Allocator>(
     svg: &mut Vec<u8, A>,
     scale: Scale,
@@ -182,7 +183,7 @@ pub fn push_span<A: Allocator>(
     Ok(())
 }
 
-/// Appends the bar of a node in this state, from one column to another.
+/// Appends the bar that shows a node in this state, from one column to another.
 pub fn push_bar<A: Allocator>(
     svg: &mut Vec<u8, A>,
     row: u8,
@@ -209,21 +210,22 @@ pub fn push_bar<A: Allocator>(
     Ok(())
 }
 
-/// Returns the name of a row: that of a node, whose number follows it, or of the home word, which is 0.
+/// Returns the name of a row. The number 0 stands for the row of the home word; for a node, its number follows the
+/// name.
 fn row_words(node: u64) -> &'static [u8]
     ensures { result.now ≡ spec.row_words node }
 {
     if node == 0 { b"home" } else { b"node " }
 }
 
-/// Returns the number that follows the name of a row, if one does.
+/// Returns the number that follows the name of a row, or `None` for the home word.
 fn row_number(node: u64) -> Option<u64>
     ensures { result ≡ spec.row_number node }
 {
     if node == 0 { None } else { Some(node) }
 }
 
-/// Appends the name of a row, at a column.
+/// Appends the name of a row at one column.
 fn push_name<A: Allocator>(
     svg: &mut Vec<u8, A>,
     scale: Scale,
@@ -250,7 +252,7 @@ fn push_name<A: Allocator>(
     Ok(())
 }
 
-/// Appends the name of a row, repeated.
+/// Appends the name of a row, repeated every `NAMED_EVERY` columns.
 pub fn push_names<A: Allocator>(
     svg: &mut Vec<u8, A>,
     scale: Scale,
@@ -291,7 +293,8 @@ pub fn push_number<A: Allocator>(
     Ok(())
 }
 
-/// Appends the arrow of a handoff, from the row of one node to another's. The arrow bears the number of its command.
+/// Appends the arrow of a handoff, from the row of the node whose turn ended to the row of the node whose turn began.
+/// The arrow's title has the number of the command.
 pub fn push_arrow<A: Allocator>(
     svg: &mut Vec<u8, A>,
     column: u32,
@@ -326,7 +329,8 @@ pub fn push_arrow<A: Allocator>(
     Ok(())
 }
 
-/// Appends these bytes of a line, shortened, above the row at a column.
+/// Appends the bytes of a line at these places above the row at a column: the first two bytes, and an ellipsis if there
+/// are more.
 pub fn push_bytes<A: Allocator>(
     svg: &mut Vec<u8, A>,
     row: u8,
@@ -345,7 +349,7 @@ pub fn push_bytes<A: Allocator>(
     Ok(())
 }
 
-/// Appends the beginning of a sign, in a row at a column: all before its words.
+/// Appends the first part of a sign in a row and a column: everything before the words of its title.
 pub fn push_sign_begin<A: Allocator>(
     svg: &mut Vec<u8, A>,
     scale: Scale,
@@ -371,7 +375,8 @@ pub fn push_sign_begin<A: Allocator>(
     Ok(())
 }
 
-/// Appends the end of a sign, and the first word of its command or event: above the column, below its number.
+/// Appends the last part of a sign, and the first word of its command or event, which is above the column and below the
+/// number.
 pub fn push_sign_end<A: Allocator>(
     svg: &mut Vec<u8, A>,
     scale: Scale,
@@ -393,7 +398,7 @@ pub fn push_sign_end<A: Allocator>(
     Ok(())
 }
 
-/// Appends the sign of a command, in a row at a column, and its first word above the column.
+/// Appends the sign of a command in a row and a column, and the first word of the command above the column.
 pub fn push_call<A: Allocator + Copy>(
     alloc: A,
     svg: &mut Vec<u8, A>,
@@ -412,7 +417,7 @@ pub fn push_call<A: Allocator + Copy>(
     Ok(())
 }
 
-/// Appends the text before the shapes of a line, which begins at this height.
+/// Appends the text before the shapes of a line whose top is at this height.
 pub fn push_line_begin<A: Allocator>(
     svg: &mut Vec<u8, A>,
     top: u64,
@@ -426,7 +431,7 @@ pub fn push_line_begin<A: Allocator>(
     Ok(())
 }
 
-/// Returns the whole picture, of this size and with this legend, of these lines.
+/// Returns the whole SVG with this size, this legend and these lines.
 pub fn svg_of<A: Allocator>(
     alloc: A,
     width: u64,

@@ -13,26 +13,28 @@ pub enum Symbol {
     Idle,
     /// The node's request waits behind another.
     Waits,
-    /// The node is at its turn, and has not looked yet.
+    /// The node's turn has come, but the node has not looked yet.
     AtTurn,
     /// The node holds the line.
     Holds,
-    /// The node has withdrawn its request, which was not passed yet.
+    /// The node has withdrawn its request, and the request has not been passed yet.
     Withdrawn,
     /// The node has no open request, and the line is closed.
     Shut,
-    /// By this command the node was told that the line is closed.
+    /// With this command, the node was told that the line is closed.
     Told,
-    /// By this command the node's turn ended, and another node's began.
+    /// This command ended the node's turn and began the turn of another node.
     Gives,
-    /// By this command the node's turn began, and another node's ended.
+    /// This command began the node's turn and ended the turn of another node.
     Takes,
-    /// The node's command was misuse, and it is as before in this state.
+    /// The node's command was misuse, so the node is still in this state.
     Misuse(Stand),
 }
 
 impl Symbol {
-    /// Returns the mark of a node in this state that no command has just changed. The node may be at its turn.
+    /// Returns the mark of a node in this state if the last command had no effect on the node.
+    ///
+    /// `at_turn` says whether the node's turn has come.
     fn of(state: PortState, at_turn: bool) -> Symbol
         ensures { result ≡ spec.mark_of_state state at_turn }
     {
@@ -52,13 +54,13 @@ impl Symbol {
 pub struct Change {
     /// The node that made the command.
     pub node: u64,
-    /// The answer.
+    /// The answer to the command.
     pub said: Said,
     /// `true` if the node was told that the line is closed.
     pub told: bool,
-    /// The node at its turn before the command.
+    /// The node whose turn it was before the command.
     pub before: Option<u64>,
-    /// The node at its turn after the command.
+    /// The node whose turn it is after the command.
     pub after: Option<u64>,
 }
 
@@ -75,7 +77,7 @@ impl Change {
         }
     }
 
-    /// Returns the mark of a node in this state, as if the command were no misuse.
+    /// Returns the mark of a node that is in this state after the command, ignoring whether the command was misuse.
     fn effect(&self, state: PortState, node: u64) -> Symbol
         ensures { result ≡ spec.effect_of self.now state node }
     {
@@ -101,7 +103,7 @@ fn is_handed_on(before: Option<u64>, after: Option<u64>, node: u64) -> bool
     }
 }
 
-/// Returns `true` if there is a node, and it is this one.
+/// Returns `true` if `at` is this node.
 fn is_node(at: Option<u64>, node: u64) -> bool
     ensures { result ≡ spec.is_node at node }
 {

@@ -13,17 +13,17 @@ use crate::symbol::Symbol;
 use qolb_model::MAX_NODES;
 use std::alloc::{AllocError, Allocator};
 
-/// The largest number of commands of a block.
+/// The maximum number of commands in one block.
 pub const COLUMNS: usize = 70;
 
-/// As many spaces as the label of a row has characters.
+/// A margin as wide as the label of a row.
 const MARGIN: &[u8] = b"         ";
 
 /// The legend of the letters.
 pub const LEGEND: &[u8] =
     b". idle   w waits   t its turn has come   H holds   > hands over to <\nx withdrawn   c told that the line is closed   - closed   ! misuse\n";
 
-/// Returns the letter of a mark.
+/// Returns the letter that shows a mark.
 fn letter(mark: Symbol) -> u8
     ensures { result ≡ spec.letter_of mark }
 {
@@ -52,7 +52,7 @@ fn push_label<A: Allocator>(text: &mut Vec<u8, A>, node: u64) -> Result<(), Allo
     Ok(())
 }
 
-/// Appends a node's row over some of the commands.
+/// Appends a node's row for some of the commands: its label, a letter for each command, and a newline.
 fn push_row<A: Allocator>(
     text: &mut Vec<u8, A>,
     grid: &Grid<A>,
@@ -78,7 +78,7 @@ fn push_row<A: Allocator>(
     Ok(())
 }
 
-/// Writes the letters of a node after the commands from one on.
+/// Writes the letters of a node for the commands from `start` on, one for each byte of `row`.
 fn fill_row<A: Allocator>(row: &mut [u8], grid: &Grid<A>, node: u64, start: usize)
     requires first { 1 ≤ node }
     requires last { node ≤ grid.now.nodes }
@@ -95,7 +95,7 @@ fn fill_row<A: Allocator>(row: &mut [u8], grid: &Grid<A>, node: u64, start: usiz
     }
 }
 
-/// Appends a block: the rows of these nodes over some of the commands, below the commands' numbers.
+/// Appends a block: the numbers of some commands, and below them a row for each of these nodes.
 fn push_block<A: Allocator>(
     text: &mut Vec<u8, A>,
     grid: &Grid<A>,
@@ -120,7 +120,7 @@ fn push_block<A: Allocator>(
     Ok(())
 }
 
-/// Appends all blocks, each of the rows of these nodes.
+/// Appends all blocks of a line, each with a row for each of these nodes.
 fn push_blocks<A: Allocator>(
     text: &mut Vec<u8, A>,
     grid: &Grid<A>,
@@ -140,7 +140,7 @@ fn push_blocks<A: Allocator>(
     Ok(())
 }
 
-/// Returns the nodes that called, in order.
+/// Returns the nodes that made calls, in ascending order.
 pub fn shown<A: Allocator + Copy>(alloc: A, grid: &Grid<A>) -> Result<Vec<u64, A>, AllocError>
     requires { grid.now.nodes ≤ MAX_NODES }
     ensures { IfOk result (λ nodes.

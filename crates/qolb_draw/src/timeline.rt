@@ -33,7 +33,7 @@ fn row_of(shown: &[u64], node: u64) -> u8
     row
 }
 
-/// Appends the bar of a node in this state, if the state has one.
+/// Appends the bar of a node in this state, or nothing if the state has no bar.
 fn push_stand<A: Allocator>(
     svg: &mut Vec<u8, A>,
     row: u8,
@@ -107,7 +107,7 @@ fn push_row<A: Allocator>(
     Ok(())
 }
 
-/// Appends the arrow of a command by which the turn passed from one node to another.
+/// Appends the arrow of a command that passed the turn from one node to another.
 fn push_handoff<A: Allocator>(
     svg: &mut Vec<u8, A>,
     shown: &[u64],
@@ -130,7 +130,7 @@ fn push_handoff<A: Allocator>(
     Ok(())
 }
 
-/// Appends the bytes that a command wrote.
+/// Appends the bytes that a command wrote, if it wrote any.
 fn push_written<A: Allocator + Copy>(
     alloc: A,
     svg: &mut Vec<u8, A>,
@@ -217,7 +217,7 @@ fn push_columns<A: Allocator + Copy>(
     Ok(())
 }
 
-/// Appends the timeline of a line that begins at this height. Returns how many rows it has.
+/// Appends the timeline of a line whose top is at this height. Returns the number of rows.
 pub fn push_timeline<A: Allocator + Copy>(
     alloc: A,
     svg: &mut Vec<u8, A>,

@@ -33,7 +33,7 @@ denied (Answer task) e input h one = fault task e input h one
 denied (Draw form) e input h one = fault (Replay None) e input h one
 denied (DrawSteps form) e input h one = fault (Steps Words) e input h one
 
--- what holds of a script that was read holds of the reader's bytes, if they are known
+-- a property of a script that was read is also a property of the reader's bytes, if these are known
 known : (P : List ℕ → Type 0) (script slice : List ℕ) (bytes : Option (List ℕ)) → IfSome bytes (λ rest. script ≡ rest) → slice ≡ script → P slice → IfSome bytes P
 known P script slice None is same h = tt
 known P script slice (Some rest) is same h = subst P (same ∙ is) h
@@ -49,7 +49,7 @@ pub known_answered : (KindSpec : Lock → WorkScript → Report → Type 0) (sub
     → IfSome bytes (λ rest. script ≡ rest) → slice ≡ script → IsAnswered KindSpec subcommand explain before after slice → IfSome bytes (IsAnswered KindSpec subcommand explain before after)
 known_answered KindSpec subcommand explain before after script slice bytes is same h = known (IsAnswered KindSpec subcommand explain before after) script slice bytes is same h
 
--- a script that was answered has begun
+-- if a script has an answer, neither its header nor its first line is refused
 replied_begun : (input text : List ℕ) (script : Result Script ScriptError) → script_of input ≡ script → replied script ≡ Ok text → IsBegun input
 replied_begun input text (Ok script) same e = schedule_begun input script same
 replied_begun input text (Err why) same e = cc
@@ -61,7 +61,7 @@ answered_begun KindSpec (Answer (Work kind lock waits)) input text h = work_begu
 answered_begun KindSpec (Draw form) input text h = tt
 answered_begun KindSpec (DrawSteps form) input text h = tt
 
--- the status 3 without a stalled worker is that of a refused growth
+-- if no worker stalled, the exit status 3 means that an allocation was refused
 pub replay_memory : (e : ReplayError) → status_of (replay_ending e) ≡ 3 → e ≡ replay.Memory
 replay_memory replay.Memory three = refl
 replay_memory replay.Read three = absurd (omega arith)

@@ -9,13 +9,13 @@ not_taken : (names : KindNames) (words : List Text) → (t : Bool) → takes (th
 not_taken names words true e ne = absurd (ne refl)
 not_taken names words false e ne = record { names = names; refused = e }
 
--- if the error is not want of memory, the command does not take the words
+-- if the error is not that memory ran out, the command does not accept the words
 pub refused_words : {T : Type 0} (names : KindNames) (app : App) → app ≡ the_command names → (words : List Text) (e : Error) → (takes app words ≡ true → kind_of e ≡ OutOfMemory)
     → (r : Result T Error) → IsErrAnd r (λ x. x ≡ e) → IfErr r (λ x. kind_of x ≢ OutOfMemory → IsNotTaken words)
 refused_words names app is words e passes (Ok x) h = tt
 refused_words names app is words e passes (Err x) h = λ other. not_taken names words (takes (the_command names) words) refl (λ taken. other (ap kind_of h ∙ passes (ap (λ a. takes a words) is ∙ taken)))
 
--- a plain command has no argument that its subcommands share
+-- a command of this shape has no global argument, which its subcommands would share
 pub no_globals : (grouped external global rest : Bool) → (grouped && (not external && (not global && rest))) ≡ true → global ≡ false
 no_globals false external global rest e = absurd (cc e)
 no_globals true true global rest e = absurd (cc e)

@@ -25,11 +25,11 @@ use Rattle.qolb_run.specs.declared.task.Task.TheVariants as task
 abbrev pub Names : Type 0
 Names = Bor (List (Bor Text))
 
--- these are the names
+-- the borrowed names have these texts
 abbrev pub AreNames : Names → List Text → Type 0
 AreNames names texts = map (λ (name : Bor Text). name.now) names.now ≡ texts
 
--- the names of the kinds of lines for a replay, and for workers
+-- the names of the kinds of lines: those that can replay a schedule, and those that workers can share
 pub record KindNames : Type 0 where
   pub replayed : Names
   pub shared : Names
@@ -61,7 +61,7 @@ replay_command names = explaining (with_rule (new_app (codes "replay")) (record 
 abbrev pub steps_command : App
 steps_command = explaining (with_rule (new_app (codes "steps")) (flag_rule (codes "rank")))
 
--- work by this name, over lists if no kind is given
+-- the subcommand for work with this name, on link lines if no kind is given
 abbrev pub work_over : Text → Names → App
 work_over name names = with_rule (new_app name) (record (kind_rule names) { defaults = codes "link" ∷ [] })
 
@@ -78,7 +78,7 @@ work_command name names = explaining (work_or_progress name names)
 abbrev pub draw_command : App
 draw_command = explaining (with_rule (with_rule (new_app (codes "draw")) (flag_rule (codes "svg"))) (flag_rule (codes "steps")))
 
--- the program's command without its subcommands: it needs one, and has a version
+-- the program's command without its subcommands: it requires a subcommand, and has a version
 abbrev pub bare_command : App
 bare_command = let app = new_app (codes "qolb") in record app { top = record app.top { subcommand_required = true; has_version = true } }
 
@@ -96,27 +96,27 @@ any_answer names = with_workers (replay_or_steps names.replayed) names.shared
 abbrev pub the_command : KindNames → App
 the_command names = with_subcommand (any_answer names) draw_command.top
 
--- the lock of the lines that replay a schedule, by the name of their kind; the plain reference has none
+-- the lock of the lines with this kind, which replay a schedule; the plain reference has no lock
 abbrev pub replayed_by : Option Text → Option Lock
 replayed_by None = None
 replayed_by (Some name) = lock_named name
 
--- the lock of this name
+-- the lock with this name, or the link line's lock if no name is given or no lock has the name
 abbrev pub lock_of_name : Option Text → Lock
 lock_of_name None = lock.Link
 lock_of_name (Some name) = unwrap_or (lock_named name) lock.Link
 
--- what is written of each event, by the value of `--rank`
+-- what is printed about each event, as the value of `--rank` selects it
 abbrev pub detail_of : Option Text → Detail
 detail_of None = detail.Words
 detail_of (Some value) = if bytes_eq value (codes "true") then detail.Ranks else detail.Words
 
--- how workers wait, by the value of `--sleep`
+-- how workers wait, as the value of `--sleep` selects it
 abbrev pub waits_of : Option Text → WaitMode
 waits_of None = waits.Awake
 waits_of (Some value) = if bytes_eq value (codes "true") then waits.Asleep else waits.Awake
 
--- a flag is given, by its value
+-- whether a flag is given, as its value says
 abbrev pub is_given : Option Text → Bool
 is_given None = false
 is_given (Some value) = bytes_eq value (codes "true")
@@ -135,7 +135,7 @@ task_by name kind detail waits =
 abbrev pub task_at : Text × List Row → Task
 task_at entered = task_by entered.0 (first_of (codes "kind") entered.1) (detail_of (first_of (codes "rank") entered.1)) (waits_of (first_of (codes "sleep") entered.1))
 
--- the form of a picture, by the value of `--svg`
+-- the form of a picture, as the value of `--svg` selects it
 abbrev pub form_of : Option Text → Form
 form_of None = form.Text
 form_of (Some value) = if bytes_eq value (codes "true") then form.Svg else form.Text
@@ -143,23 +143,23 @@ form_of (Some value) = if bytes_eq value (codes "true") then form.Svg else form.
 abbrev pub form_at : List Row → Form
 form_at rows = form_of (first_of (codes "svg") rows)
 
--- the drawing: of a schedule, or with `--steps` of a step script
+-- the drawing of a step script if `--steps` is given, and of a schedule otherwise
 abbrev pub drawing_of : Bool → Form → Subcommand
 drawing_of steps form = if steps then DrawSteps form else Draw form
 
 abbrev pub drawing_at : List Row → Subcommand
 drawing_at rows = drawing_of (is_given_at (codes "steps") rows) (form_at rows)
 
--- the meaning of a subcommand with these arguments
+-- what a subcommand with these arguments requests
 abbrev pub wish_at : Text × List Row → Subcommand
 wish_at entered = if bytes_eq entered.0 (codes "draw") then drawing_at entered.1 else Answer (task_at entered)
 
--- the words ask for this
+-- the words request this subcommand
 pub record NamesWish (words : List Text) (wanted : Subcommand) : Type 0 where
   pub names : KindNames
   pub named : option_map wish_at (subcommand_of (the_command names) words) ≡ Some wanted
 
--- the words have this flag, or not
+-- whether the words have this flag
 pub record NamesFlag (flag : Text) (words : List Text) (wanted : Bool) : Type 0 where
   pub names : KindNames
   pub named : option_map (λ (entered : Text × List Row). is_given_at flag entered.1) (subcommand_of (the_command names) words) ≡ Some wanted

@@ -18,7 +18,8 @@ use Rattle.qolb_draw.specs.StepPictures.{IsStepPicture}
 use Rattle.qolb_serve.specs.declared.command_line.Subcommand.{Subcommand}
 use Rattle.qolb_serve.specs.declared.command_line.Subcommand.TheVariants.{Answer, Draw, DrawSteps}
 
--- the text is the answer to the bytes, or their picture. Work was done over lines with this property of work and report
+-- the text is the answer to the bytes, or their picture; `KindSpec` is the property that relates work on lines with a
+-- lock to its report
 abbrev pub Performs : (Lock → WorkScript → Report → Type 0) → Subcommand → List ℕ → List ℕ → Type 0
 Performs KindSpec (Answer task) input text = Answers KindSpec task input text
 Performs KindSpec (Draw form) input text = IsPicture form input text
@@ -29,7 +30,8 @@ pub record HasAnswer (KindSpec : Lock → WorkScript → Report → Type 0) (sub
   pub text : List ℕ
   pub performs : Performs KindSpec subcommand input text
 
--- the text is the notes behind the answer: of a replay, the note on each misuse; of a step script, on each refused event; else there are none
+-- the text consists of the notes that follow the answer: for a replay, a note on each misuse; for a step script, a note
+-- on each refused event; for all other subcommands, nothing
 abbrev pub AreNotesOn : Subcommand → List ℕ → List ℕ → Type 0
 AreNotesOn (Answer (Replay kind)) input text = text ≡ schedule_notes input
 AreNotesOn (Answer (Steps detail)) input text = AreStepNotes input text
@@ -37,11 +39,11 @@ AreNotesOn (Answer (Work kind lock waits)) input text = text ≡ []
 AreNotesOn (Draw form) input text = text ≡ []
 AreNotesOn (DrawSteps form) input text = text ≡ []
 
--- they are there if they are asked for
+-- the text consists of the notes if they are requested, and is empty otherwise
 abbrev pub AreNotesIf : Bool → Subcommand → List ℕ → List ℕ → Type 0
 AreNotesIf asked subcommand input text = (asked ≡ true → AreNotesOn subcommand input text) × (asked ≡ false → text ≡ [])
 
--- the answer to the bytes was written behind what a writer had, and behind the answer the notes, if they are asked for
+-- the answer to the bytes, followed by the notes if they are requested, was appended to what a writer had
 pub record IsAnswered (KindSpec : Lock → WorkScript → Report → Type 0) (subcommand : Subcommand) (explain : Bool) (before after : Option (List ℕ)) (input : List ℕ) : Type 0 where
   pub text : List ℕ
   pub notes : List ℕ
@@ -49,25 +51,26 @@ pub record IsAnswered (KindSpec : Lock → WorkScript → Report → Type 0) (su
   pub noted : AreNotesIf explain subcommand input notes
   pub written : Appends before after (text ++ notes)
 
--- the bytes are too many, or have a first fault; for a drawing the faults are those of a replay
+-- the bytes are too many, or have a first fault; a drawing has the same faults as a run of its script
 abbrev pub IsDenied : Subcommand → List ℕ → Type 0
 IsDenied (Answer task) input = IsRefused task input
 IsDenied (Draw form) input = IsRefused (Replay None) input
 IsDenied (DrawSteps form) input = IsRefused (Steps Words) input
 
--- when a subcommand may end with each error: as its task, and a drawing as the replay of the script
+-- when a subcommand may end with each error: for an answer, when its task may; for a drawing, when the run of its
+-- script may
 abbrev pub MayDeny : Subcommand → List ℕ → TaskError → Type 0
 MayDeny (Answer task) input error = MayEnd task input error
 MayDeny (Draw form) input error = MayEnd (Replay None) input error
 MayDeny (DrawSteps form) input error = MayEnd (Steps Words) input error
 
--- neither the header of the bytes nor the first line below it is refused, as in a script of the subcommand's task
+-- neither the header of the bytes nor the first line below the header is refused; nothing is said about drawings
 abbrev pub HasBegun : Subcommand → List ℕ → Type 0
 HasBegun (Answer task) input = HasBegunFor task input
 HasBegun (Draw form) input = Unit {0}
 HasBegun (DrawSteps form) input = Unit {0}
 
--- the reader of the subcommand's scripts refuses the bytes for this
+-- the reader of the task's scripts refuses the bytes for this reason
 abbrev pub IsRefusedTask : Task → List ℕ → Refusal → Type 0
 IsRefusedTask (Replay lock) input why = parsed_schedule input ≡ Err why
 IsRefusedTask (Steps detail) input why = parsed_steps input ≡ Err why

@@ -16,9 +16,9 @@ use std::alloc::{AllocError, Global};
 static REPLAYED: [&str; LOCKS + 1] = lock_names!(array, "plain");
 
 const REPLAYED_HELP: &str =
-    "The plain reference, which has one owner, or the lock of\nlines that nodes share";
+    "The plain reference, which has one owner,\nor the lock of lines that nodes\nshare";
 
-const SHARED_HELP: &str = "The lock of the lines that the workers share";
+const SHARED_HELP: &str = "The lock of the lines that the workers\nshare";
 
 const MISUSE_EXPLAINED: &str = "Explains a refused line, and each answer `misuse`";
 
@@ -29,8 +29,10 @@ const LINE_EXPLAINED: &str = "Explains a refused line";
 const ABOUT: &str =
     "Queued line locks: nodes queue for a line of 64 bytes, and a release hands the\nlock and the line to the next node";
 
-/// What `--version` says after the name: the version, which `tools/sources` compares, and the kinds of lines. A program can't know which kit
-/// built it, nor whether it was proved: the script `qolb` adds that.
+/// What `--version` prints after the name: the version, which `tools/sources` compares, and the kinds of lines.
+///
+/// The program cannot know which version of the Rattle toolchain built it, nor whether it was proved. The script `qolb`
+/// prints both.
 const VERSION: &str = lock_names!(text, "3.0.0\nkinds of lines: plain, ");
 
 const STATUSES: &str = "Exit statuses:
@@ -127,15 +129,15 @@ it prints, and then what the letters mean:
 /// What the program is asked to do.
 #[derive(Clone, Copy, Debug, PartialEq, Eq)]
 pub enum Subcommand {
-    /// To answer a script.
+    /// Answer a script.
     Answer(Task),
-    /// To draw a schedule.
+    /// Draw a schedule.
     Draw(Form),
-    /// To draw a step script.
+    /// Draw a step script.
     DrawSteps(Form),
 }
 
-/// What the words of a command line ask for: the subcommand, and two flags.
+/// What the words of a command line request: a subcommand and two flags.
 #[derive(Clone, Copy, Debug, PartialEq, Eq)]
 pub struct Args {
     pub subcommand: Subcommand,
@@ -165,7 +167,7 @@ pub fn parse_args(alloc: Global, words: &[String]) -> Result<Args, Error>
     }
 }
 
-/// Returns the meaning of a subcommand with these arguments.
+/// Returns what a subcommand with these arguments requests.
 fn wish_at(name: &str, arguments: &ArgMatches<'_>) -> Subcommand
     ensures { result ≡ spec.wish_at (name.now, rows_of (found_of arguments.now)) }
 {
@@ -176,7 +178,7 @@ fn wish_at(name: &str, arguments: &ArgMatches<'_>) -> Subcommand
     }
 }
 
-/// Returns the drawing that these arguments ask for.
+/// Returns the drawing that these arguments request.
 fn drawing_at(arguments: &ArgMatches<'_>) -> Subcommand
     ensures { result ≡ spec.drawing_at (rows_of (found_of arguments.now)) }
 {
@@ -201,7 +203,7 @@ fn is_given_at(flag: &str, arguments: &ArgMatches<'_>) -> bool
     is_given(arguments.get_str(flag))
 }
 
-/// Returns `true` if a flag with this value is given.
+/// Returns `true` if this value of a flag says that the flag is given.
 fn is_given(value: Option<&str>) -> bool
     ensures { result ≡ spec.is_given (option_map (λ n. n.now) value.entry) }
 {
@@ -211,14 +213,14 @@ fn is_given(value: Option<&str>) -> bool
     }
 }
 
-/// Returns the form of a picture, by these arguments.
+/// Returns the form of a picture that these arguments request.
 fn form_at(arguments: &ArgMatches<'_>) -> Form
     ensures { result ≡ spec.form_at (rows_of (found_of arguments.now)) }
 {
     form_of(arguments.get_str("svg"))
 }
 
-/// Returns the form of a picture, by the value of `--svg`.
+/// Returns the form of a picture that the value of `--svg` selects.
 fn form_of(svg: Option<&str>) -> Form
     ensures { result ≡ spec.form_of (option_map (λ n. n.now) svg.entry) }
 {
@@ -240,7 +242,7 @@ fn task_at(name: &str, arguments: &ArgMatches<'_>) -> Task
     )
 }
 
-/// Returns what is written of each event, by the value of `--rank`.
+/// Returns what is printed about each event, as the value of `--rank` selects it.
 fn detail_of(rank: Option<&str>) -> Detail
     ensures { result ≡ spec.detail_of (option_map (λ n. n.now) rank.entry) }
 {
@@ -250,7 +252,7 @@ fn detail_of(rank: Option<&str>) -> Detail
     }
 }
 
-/// Returns how workers wait, by the value of `--sleep`.
+/// Returns how workers wait, as the value of `--sleep` selects it.
 fn waits_of(sleep: Option<&str>) -> WaitMode
     ensures { result ≡ spec.waits_of (option_map (λ n. n.now) sleep.entry) }
 {
@@ -260,7 +262,9 @@ fn waits_of(sleep: Option<&str>) -> WaitMode
     }
 }
 
-/// Returns the task of this name, on lines of this kind, with this detail, or by workers that wait in this way.
+/// Returns the task with this name.
+///
+/// `kind` is the name of the kind of lines. `detail` matters only for step scripts, and `waits` only for work.
 fn task_of(name: &str, kind: Option<&str>, detail: Detail, waits: WaitMode) -> Task
     ensures { result ≡ spec.task_by name.now (option_map (λ n. n.now) kind.entry) detail waits }
 {
@@ -275,14 +279,14 @@ fn task_of(name: &str, kind: Option<&str>, detail: Detail, waits: WaitMode) -> T
     }
 }
 
-/// Returns the lock of the lines that replay a schedule, by the name of their kind, or `None` for the plain reference.
+/// Returns the lock of the lines with this kind, which replay a schedule, or `None` for the plain reference.
 fn replayed_by(kind: Option<&str>) -> Option<Lock>
     ensures { result ≡ spec.replayed_by (option_map (λ n. n.now) kind.entry) }
 {
     kind.and_then(Lock::named)
 }
 
-/// Returns the lock of this name.
+/// Returns the lock with this name, or `Lock::Link` if no name is given or no lock has it.
 fn lock_named(name: Option<&str>) -> Lock
     ensures { result ≡ spec.lock_of_name (option_map (λ n. n.now) name.entry) }
 {
@@ -298,7 +302,8 @@ fn command<'a>(alloc: Global) -> Result<Command<'a>, AllocError>
     with_work(alloc, scripts(alloc, replayed)?, shared)?.subcommand(draw(alloc)?)
 }
 
-/// Builds the command with the subcommands that answer a schedule, on lines of one of these kinds, or a step script.
+/// Builds the command with two subcommands: one replays a schedule on lines of one of these kinds, and the other runs a
+/// step script.
 fn scripts<'a>(alloc: Global, kinds: &'a [&'a str]) -> Result<Command<'a>, AllocError>
     ensures { IfOk result (λ r. app_of r ≡ replay_or_steps kinds.entry) }
 {
@@ -420,7 +425,7 @@ fn explain<'a>(alloc: Global, help: &'a str) -> Arg<'a>
     flag(alloc, "explain", help)
 }
 
-/// Builds `--kind`, with one of these names.
+/// Builds `--kind`, whose value must be one of these names.
 fn kind_argument<'a>(alloc: Global, kinds: &'a [&'a str], help: &'a str) -> Arg<'a>
     ensures rule { rule_of result ≡ kind_rule kinds.entry }
     ensures local { result.global ≡ false }

@@ -8,9 +8,10 @@ use std::rt::{Clock, Env};
 use std::sync::Wait;
 use std::thread::Threads;
 
-/// Does what the words of the process ask for, with these standard streams. Returns the exit status.
+/// Executes the command line of the process with these standard streams, and returns the exit status.
 ///
-/// The `main` of a program is this call alone, so the stored run of each such program is a test of them all.
+/// The `main` function of each such program consists of this call alone, so a stored run of one program tests all of
+/// them.
 pub fn run<
     T: Threads + Wait + Clock + Eprint + Env + AllocGlobal + Sync,
     R: Read,
@@ -26,7 +27,7 @@ pub fn run<
 
 /// Returns the words of the command line, of which the first is the program's name.
 ///
-/// A refused growth is an error, where `collect` would ask again for less.
+/// This function reports an error if an allocation is refused, whereas `collect` would try again with a smaller one.
 fn words<T: Env + AllocGlobal>(rt: &T) -> io::Result<Vec<String>> {
     let mut all = Vec::new(rt.alloc());
     for word in env::args(rt)? {

@@ -26,10 +26,12 @@ use std::rt::Clock;
 use std::sync::Wait;
 use std::thread::Threads;
 
-/// Does what the words ask for, of which the first is the program's name. Reads all of `reader` first, and then writes the answer to `out`.
-/// Complains to `err`.
+/// Executes a command line, and returns the exit status.
 ///
-/// Returns the exit status. A failed write to `err` does not change it.
+/// The first word is the program's name. This function reads all of `reader` before it writes the answer to `out`. It
+/// writes complaints to `err`.
+///
+/// A failed write to `err` does not change the exit status.
 pub fn serve<T: Threads + Wait + Clock + Eprint + Sync, R: Read, W: Write, E: Write>(
     rt: &T,
     alloc: Global,
@@ -74,7 +76,7 @@ pub fn serve<T: Threads + Wait + Clock + Eprint + Sync, R: Read, W: Write, E: Wr
     respond(rt, alloc, request, &script, out, err)
 }
 
-/// Writes the answer to a request, or complains that there is none. Returns the exit status.
+/// Writes the answer to a request, or a complaint if there is no answer. Returns the exit status.
 fn respond<T: Threads + Wait + Clock + Eprint + Sync, W: Write, E: Write>(
     rt: &T,
     alloc: Global,
@@ -133,7 +135,7 @@ fn answer<T: Threads + Wait + Clock + Eprint + Sync>(
     }
 }
 
-/// Returns the answer to a request, and behind it the notes on its misuses and refusals, if these are to be explained.
+/// Returns the answer to a request, followed by the notes on misuses and refusals if the request asks for explanations.
 fn with_notes(
     alloc: Global,
     request: Args,
@@ -149,7 +151,7 @@ fn with_notes(
     Ok(text)
 }
 
-/// Returns the notes on an answer if they are asked for, else none.
+/// Returns the notes on an answer if they are requested, and no notes otherwise.
 fn notes_if(
     alloc: Global,
     asked: bool,
@@ -178,7 +180,8 @@ fn notes_on(alloc: Global, subcommand: Subcommand, script: &[u8]) -> Result<Vec<
     }
 }
 
-/// Does the work of a work script, and returns its report as text. It reports its progress, if `progress` is set and there is a clock.
+/// Does the jobs of a work script, and returns the report as text. Reports the progress if `progress` is set and there
+/// is a clock.
 fn work<T: Threads + Wait + Clock + Eprint + Sync>(
     rt: &T,
     alloc: Global,
@@ -202,7 +205,9 @@ fn work<T: Threads + Wait + Clock + Eprint + Sync>(
     answer_work(rt, alloc, &AlwaysOpen, script, kind, lock, waits)
 }
 
-/// Writes why the script could not be read and, if that is asked for and it is too long, how long it may be. Returns the exit status.
+/// Writes why the script could not be read, and returns the exit status.
+///
+/// If the script is too long and `explain` is set, this function also writes how long a script may be.
 fn refuse_input<E: Write>(err: &mut E, explain: bool, error: TaskError) -> u8
     ensures { result ≡ status_of error }
 {
@@ -214,7 +219,10 @@ fn refuse_input<E: Write>(err: &mut E, explain: bool, error: TaskError) -> u8
     status
 }
 
-/// Writes the error and, if that is asked for and the script is refused, what may stand there. Returns the exit status.
+/// Writes the error, and returns the exit status.
+///
+/// If the script is refused and the request asks for explanations, this function also tries to write what the refused
+/// line may contain.
 fn refuse<E: Write>(
     alloc: Global,
     err: &mut E,
@@ -235,7 +243,7 @@ fn refuse<E: Write>(
     status
 }
 
-/// Returns why the script of a subcommand is refused, by its reader; `None` if it is not.
+/// Returns why the reader of a subcommand's scripts refuses this script, or `None` if it does not.
 fn refusal_of(alloc: Global, subcommand: Subcommand, script: &[u8]) -> Option<Refusal>
     ensures { IfSome result (λ why. why ≢ Refusal.Memory → IsRefusedFor subcommand script.now why) }
 {
@@ -250,7 +258,8 @@ fn refusal_of(alloc: Global, subcommand: Subcommand, script: &[u8]) -> Option<Re
     }
 }
 
-/// Reports why the words of the command line could not be read. Returns the exit status: 3 for want of memory, else 2.
+/// Reports why the words of the command line could not be read. Returns the exit status: 3 if memory ran out, and 2
+/// otherwise.
 pub fn refuse_words<E: Write>(err: &mut E, error: &io::Error) -> u8
     ensures memory { error_kind error.now ≡ io_kind.OutOfMemory → result ≡ 3 }
     ensures other { error_kind error.now ≢ io_kind.OutOfMemory → result ≡ 2 }

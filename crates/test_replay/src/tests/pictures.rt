@@ -6,7 +6,7 @@ use std::alloc::Global;
 use std::str;
 use std::test::Fail;
 
-/// The picture of the script.
+/// Returns the picture of the script.
 fn drawn(alloc: Global, script: &str, form: Form) -> Result<String, Fail> {
     Ok(String::from_utf8(draw_schedule(alloc, script.as_bytes(), form)?)?)
 }
@@ -21,12 +21,12 @@ const MISUSED: &str =
 
 /// Scripts and their pictures, without the legend.
 static PICTURES: [(&str, &str); 3] = [
-    // a withdrawn node is passed, and asks again
+    // a withdrawn node is passed, and makes a new request
     (
         "nodes 3 lines 1\nenq 1 0\nenq 2 0\nenq 3 0\nout 2 0\nenq 2 0\ndeq 1 0\nenq 2 0\npoll 3 0\ndeq 3 0\npoll 2 0\n",
         "line 0\n\n                  1\n         1234567890\nnode   1 HHHHH>....\nnode   2 .wwxx.ww<H\nnode   3 ..www<tH>.\n\n",
     ),
-    // each waiter is told of a closed line in turn, and a told node passes the withdrawn node behind it
+    // the waiters are told in turn that the line is closed, and a told node passes the withdrawn node behind it
     (
         "nodes 4 lines 1\nenq 1 0\nenq 2 0\nenq 3 0\nenq 4 0\nout 3 0\nshut 1 0\nenq 3 0\npoll 2 0\nenq 3 0\npoll 4 0\n",
         "line 0\n\n                  1\n         1234567890\nnode   1 HHHHH>----\nnode   2 .wwww<tc--\nnode   3 ..wwxxx-w<\nnode   4 ...wwww<tc\n\n",
@@ -60,13 +60,15 @@ fn largest_script(alloc: Global) -> Result<String, Fail> {
     Ok(script)
 }
 
-/// The size of the largest picture, without the legend: eight lines take eight letters each. The blocks of the last line have a row for each
-/// of the 200 nodes, and as many above as the largest number has digits; such a row has a letter for each command of the block, a label of
-/// nine and a newline, and a newline is above each block. 1,428 blocks have 70 commands: the first has two digits, 13 have three, 128 four
-/// and 1,286 five. The last has 40 commands, and six digits.
+/// The size of the largest picture, without the legend. The heads of the eight lines take eight letters each. A block
+/// of the last line has a row for each of the 200 nodes and, above these, a row for each digit of its largest number.
+/// Each row has a label of nine letters, a letter for each command of the block, and a newline; another newline is
+/// above each block. 1,428 blocks have 70 commands: the largest number of the first block has two digits, those of 13
+/// blocks have three, those of 128 blocks four, and those of 1,286 blocks five. The last block has 40 commands, and its
+/// largest number has six digits.
 const LARGEST: usize = 8 * 8 + 1_429 + 80 * (202 + 13 * 203 + 128 * 204 + 1_286 * 205) + 50 * 206;
 
-/// How the last line begins, after seven without rows.
+/// How the picture of the last line begins, after seven lines without rows.
 const FIRST_ROWS: &str =
     "line 0\n\nline 1\n\nline 2\n\nline 3\n\nline 4\n\nline 5\n\nline 6\n\nline 7\n
                   1111111111222222222233333333334444444444555555555566666666667
@@ -75,7 +77,7 @@ node   1 HHHHHHHHHHHHHHHHHHHHHHHHHHHHHHHHHHHHHHHHHHHHHHHHHHHHHHHHHHHHHHHHHHHHHH
 node   2 .wwwwwwwwwwwwwwwwwwwwwwwwwwwwwwwwwwwwwwwwwwwwwwwwwwwwwwwwwwwwwwwwwwwww
 ";
 
-/// How it ends.
+/// How the picture of the last line ends.
 const LAST_ROWS: &str =
     "node 199 wwwwwwwwwwwwwwwwwwwwwwwwwwwwwwwwwwwwwwww\nnode 200 wwwwwwwwwwwwwwwwwwwwwwwwwwwwwwwwwwwwwwww\n\n";
 
@@ -105,8 +107,8 @@ fn draws_as_many_marks_as_there_may_be(rt: HostRuntime) -> Result<(), Fail> {
     Ok(())
 }
 
-/// How many bytes are behind the bar of the last node: its name above each twentieth command, and then the shapes of 100,000 commands. To look
-/// for the bar from the front would take long.
+/// The number of bytes after the bar of the last node: its name, repeated every 20 commands, and then the shapes of
+/// 100,000 commands. Searching for the bar from the front would take long.
 const BEHIND_THE_LAST_BAR: usize = 19_151_203;
 
 #[test]
@@ -125,7 +127,7 @@ fn draws_as_many_marks_as_an_svg(rt: HostRuntime) -> Result<(), Fail> {
         ),
         true,
     );
-    // from the last node's request to the end
+    // the bar from the last node's request to the end
     let last =
         "<rect class='waits' x='6464' y='8020' width='3193632' height='16'><title>node 200 waits</title></rect>\n";
     let to_last = svg
@@ -152,7 +154,7 @@ fn each_allocation_is_refused(rt: HostRuntime) -> Result<(), Fail> {
     })
 }
 
-/// The part of a timeline after its legend.
+/// Returns the part of a timeline after its legend.
 fn body_of(svg: &str) -> Option<&str> {
     svg.split_once("not allowed</text>\n").map(|parts| parts.1)
 }
@@ -161,7 +163,8 @@ fn body_of(svg: &str) -> Option<&str> {
 fn draws_a_timeline(rt: HostRuntime) -> Result<(), Fail> {
     let script = "nodes 2 lines 1\nenq 1 0\nenq 2 0\ndeq 1 0\n";
     let svg = drawn(rt.alloc(), script, Form::Svg)?;
-    // At least as wide as the legend. A line takes 60 pixels and each of its rows 40, below the legend of 64.
+    // The picture is at least as wide as the legend, which is 64 pixels high. Below it, a line takes 60 pixels, and
+    // each of its rows takes 40.
     expect(
         &rt,
         "the size",
@@ -195,7 +198,7 @@ fn draws_a_timeline(rt: HostRuntime) -> Result<(), Fail> {
 
 /// Scripts, each with a part of its timeline.
 static SHAPES: [(&str, &str); 13] = [
-    // two bytes up to place 63, as they were written, and the first two of three
+    // two bytes up to place 63, in full, and the first two of three bytes
     (
         "nodes 1 lines 1\nenq 1 0\nwrite 1 0 62 0aF0\n",
         "<text class='small' x='128' y='57'>0af0</text>\n<use href='#call' x='128' y='68'><title>2: write 1 0 62 0af0: ok</title></use>\n",
@@ -214,7 +217,7 @@ static SHAPES: [(&str, &str); 13] = [
         "nodes 1 lines 1\nwrite 1 0 0 01\n",
         "<text class='small' x='96' y='36'>1</text>\n<use href='#misuse' x='96' y='68'><title>1: write 1 0 0 01: misuse</title></use>\n",
     ),
-    // a bar goes on through a misuse
+    // a bar continues over a command that is misuse
     (
         MISUSED,
         "<rect class='waits' x='192' y='100' width='64' height='16'><title>node 2 waits</title></rect>\n",

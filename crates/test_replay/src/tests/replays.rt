@@ -49,7 +49,7 @@ fn the_longest_reply_is_whole(rt: HostRuntime) -> Result<(), Fail> {
     Ok(())
 }
 
-/// The text `first`, then `same` `times` times, then `last`.
+/// Returns the text `first`, then `same` repeated `times` times, then `last`.
 pub(crate) fn repeated(
     alloc: Global,
     first: &str,
@@ -87,12 +87,12 @@ static REPLIES: [(&str, &str); 14] = [
         "nodes 1 lines 1\n",
         "line 0 served 0 withdrawn 0 told 0 left 0\n",
     ),
-    // states that do not allow a command
+    // commands that a node's state does not allow
     (
         "nodes 1 lines 1\npoll 1 0\ndeq 1 0\nenq 1 0\nenq 1 0\ndeq 1 0\n",
         "misuse\nmisuse\ngranted\nmisuse\nreleased\nline 0 served 1 withdrawn 0 told 0 left 0\n",
     ),
-    // the oldest request is served first, whatever its node
+    // the oldest request is served first, whichever node made it
     (
         "nodes 4 lines 1\nenq 4 0\nenq 3 0\nenq 1 0\nenq 2 0\ndeq 4 0\npoll 1 0\npoll 3 0\ndeq 3 0\npoll 2 0\npoll 1 0\ndeq 1 0\npoll 2 0\n",
         "granted\nqueued\nqueued\nqueued\nreleased\nwaiting\ngranted\nreleased\nwaiting\ngranted\nreleased\ngranted\nline 0 served 3 withdrawn 0 told 0 left 1\n",
@@ -102,22 +102,22 @@ static REPLIES: [(&str, &str); 14] = [
         "nodes 3 lines 1\nenq 1 0\nenq 2 0\nenq 3 0\nout 2 0\nenq 2 0\ndeq 1 0\nenq 2 0\npoll 3 0\ndeq 3 0\npoll 2 0\n",
         "granted\nqueued\nqueued\nwithdrawn\nbusy\nreleased\nqueued\ngranted\nreleased\ngranted\nline 0 served 2 withdrawn 1 told 0 left 1\n",
     ),
-    // a release passes all that have withdrawn
+    // a release passes all nodes that have withdrawn
     (
         "nodes 3 lines 1\nenq 1 0\nenq 2 0\nenq 3 0\nout 2 0\nout 3 0\ndeq 1 0\nenq 3 0\n",
         "granted\nqueued\nqueued\nwithdrawn\nwithdrawn\nreleased\ngranted\nline 0 served 1 withdrawn 2 told 0 left 1\n",
     ),
-    // a node that withdraws at its turn holds the line
+    // a node that withdraws when its turn has come holds the line
     (
         "nodes 2 lines 1\nenq 1 0\nenq 2 0\ndeq 1 0\nout 2 0\ndeq 2 0\n",
         "granted\nqueued\nreleased\ngranted\nreleased\nline 0 served 2 withdrawn 0 told 0 left 0\n",
     ),
-    // each waiter is told of a closed line in turn
+    // the waiters are told in turn that the line is closed
     (
         "nodes 3 lines 1\nenq 1 0\nenq 2 0\nenq 3 0\nshut 1 0\npoll 3 0\npoll 2 0\npoll 3 0\nenq 1 0\nenq 2 0\n",
         "granted\nqueued\nqueued\nshut\nwaiting\nclosed\nclosed\nclosed\nclosed\nline 0 served 1 withdrawn 0 told 4 left 0\n",
     ),
-    // and so is a node that withdraws at its turn
+    // a node that withdraws when its turn has come is told that the line is closed
     (
         "nodes 2 lines 1\nenq 1 0\nenq 2 0\nshut 1 0\nout 2 0\n",
         "granted\nqueued\nshut\nclosed\nline 0 served 1 withdrawn 0 told 1 left 0\n",
@@ -127,7 +127,7 @@ static REPLIES: [(&str, &str); 14] = [
         "nodes 2 lines 2\nenq 1 0\nenq 2 1\nenq 1 1\ndeq 2 1\npoll 1 1\nshut 1 1\nenq 2 1\nenq 2 0\nout 2 0\n",
         "granted\ngranted\nqueued\nreleased\ngranted\nshut\nclosed\nqueued\nwithdrawn\nline 0 served 0 withdrawn 1 told 0 left 1\nline 1 served 2 withdrawn 0 told 1 left 0\n",
     ),
-    // a told node passes the withdrawn nodes behind it, so that they may ask again
+    // a told node passes the withdrawn nodes behind it, so that they may make new requests
     (
         "nodes 4 lines 1\nenq 1 0\nenq 2 0\nenq 3 0\nenq 4 0\nout 3 0\nshut 1 0\nenq 3 0\npoll 2 0\nenq 3 0\npoll 4 0\n",
         "granted\nqueued\nqueued\nqueued\nwithdrawn\nshut\nbusy\nclosed\nqueued\nclosed\nline 0 served 1 withdrawn 1 told 2 left 1\n",
@@ -169,7 +169,8 @@ fn answers_scripts(rt: HostRuntime) -> Result<(), Fail> {
     Ok(())
 }
 
-/// Pushes a line of text for each node from `first` to before `end`: a word, the node and the rest.
+/// Pushes a line of text for each node from `first` up to, but not including, `end`: a word, the node's number and the
+/// rest.
 fn push_each(
     alloc: Global,
     text: &mut String,
@@ -278,8 +279,10 @@ fn shows_what_holders_wrote(rt: HostRuntime) -> Result<(), Fail> {
     Ok(())
 }
 
-/// A reader of `left` bytes, at most `part` at a read, that then ends. The first byte of each read is an `x`, and the others are
-/// newlines. So the first line of such a script is bad, and no time is spent on those behind it.
+/// A reader that returns `left` bytes in total, at most `part` bytes per read.
+///
+/// The first byte of each read is an `x`, and the others are newlines. Therefore, the first line of such a script is
+/// malformed, and no time is spent on the lines after it.
 #[derive(Drop)]
 struct BadLines {
     left: u64,
@@ -342,8 +345,8 @@ fn each_growth_of_an_input_is_refused(rt: HostRuntime) -> Result<(), Fail> {
     Ok(())
 }
 
-/// The number of bytes, how many of them are read or why not, and how many the reader keeps: of two parts of 4,096 bytes beyond the limit
-/// the second.
+/// The number of bytes of a script, how many of them are read or why none are, and how many bytes stay in the reader.
+/// If two parts of 4,096 bytes are beyond the limit, the second one stays there.
 static LENGTHS: [(u64, Result<usize, ReplayError>, u64); 3] = [
     (16_777_216, Ok(16_777_216), 0),
     (16_777_217, Err(ReplayError::Long), 0),
@@ -367,7 +370,7 @@ fn an_input_is_read_up_to_the_limit_and_no_further(rt: HostRuntime) {
     }
 }
 
-/// A reader that gives at most `part` bytes a read, and fails after `good` reads.
+/// A reader that returns at most `part` bytes per read, and fails after `good` reads.
 #[derive(Drop)]
 struct FailingReader<'a> {
     rest: &'a [u8],
@@ -388,7 +391,7 @@ impl Read for FailingReader<'_> {
     }
 }
 
-/// A writer that takes one byte a write, and fails after `good` writes.
+/// A writer that accepts one byte per write, and fails after `good` writes.
 #[derive(Drop)]
 struct FailingWriter {
     good: usize,
@@ -445,7 +448,7 @@ static TURNS: [(Call, &str, &str); 2] = [
 #[test]
 fn a_failed_read_ends_a_replay_before_it_writes(rt: HostRuntime) {
     for (call, script, reply) in &TURNS {
-        // One read for each byte, and a last one that finds the end.
+        // There is one read for each byte, and a last read that finds the end.
         let reads = script.len().saturating_add(1);
         for good in 0..reads.saturating_add(1) {
             let mut reader = Watched::new(FailingReader {

@@ -26,10 +26,10 @@ pub(crate) fn expect_at<R: Abort, D: Debug, T: PartialEq + Debug + Drop>(
     assert_eq!(rt; found, wanted, "{at:?}");
 }
 
-/// Draws on heaps that grow by 32 bytes. The drawing is refused for want of memory more than five times, until a heap serves; each larger
-/// heap serves, too. Nothing stays allocated on a heap.
+/// Draws on heaps that grow by 32 bytes. The drawing runs out of memory more than five times, until a heap is large
+/// enough; each larger heap is large enough, too. Nothing stays allocated on a heap.
 ///
-/// `draw` returns whether the drawing is the whole picture.
+/// `draw` returns `true` if the drawing is the whole picture.
 pub(crate) fn expect_refusals<R: Abort, F: Fn(&LocalHeap) -> Result<bool, ReplayError>>(
     rt: &R,
     alloc: Global,

@@ -16,8 +16,9 @@ const MANY_NODES: &str = "nodes 200 lines 8\n";
 const EIGHT_LINES: &str =
     "line 0 served 0 withdrawn 0 told 0 left 0\nline 1 served 0 withdrawn 0 told 0 left 0\nline 2 served 0 withdrawn 0 told 0 left 0\nline 3 served 0 withdrawn 0 told 0 left 0\nline 4 served 0 withdrawn 0 told 0 left 0\nline 5 served 0 withdrawn 0 told 0 left 0\nline 6 served 0 withdrawn 0 told 0 left 0\nline 7 served 0 withdrawn 0 told 0 left 0\n";
 
-/// Rooms in KB, each of which holds eight lines of one kind more: with 200 nodes a plain line takes 3.3 KB, a list 26 KB of words, a ring 33 KB
-/// of words, a ticket line as much and 33 KB of slots; the last three also take 25 KB of ports each.
+/// Limits of memory in KB. Each limit has room for eight lines of one more kind than the limit before it. With 200
+/// nodes, a plain line takes 3.3 KB. The words of a link line or of a ring take 26 or 33 KB; a ticket line takes 33 KB
+/// of words and 33 KB of slots. These last three kinds also take 25 KB of ports each.
 static ROOMS: [usize; 4] = [300, 450, 650, 1_200];
 
 /// A call that replays a schedule.
@@ -31,7 +32,7 @@ enum Call {
     OverTickets,
 }
 
-/// Replays the script in a room of `bytes` bytes. Returns the error, and what was written.
+/// Replays the script with at most `bytes` bytes of memory. Returns the error, and what was written.
 fn replayed(
     alloc: Global,
     limit: &MemoryLimit,
@@ -54,7 +55,7 @@ fn replayed(
     Ok((done.err(), text))
 }
 
-/// Calls, each with the place of the first room that holds its lines.
+/// Calls, each with the index of the first limit that has room for its lines.
 static CALLS: [(Call, usize); 8] = [
     (Call::With(None), 0),
     (Call::With(Some(Lock::Link)), 1),
@@ -83,15 +84,15 @@ fn run_schedule_takes_lines_of_its_kind(rt: HostRuntime) -> Result<(), Fail> {
     Ok(())
 }
 
-/// Two nodes take turns, and one withdraws.
+/// A schedule in which two nodes take turns, and one of them withdraws.
 const SHORT: &str =
     "nodes 2 lines 1\nenq 1 0\nwrite 1 0 0 07\nenq 2 0\nout 2 0\nenq 2 0\ndeq 1 0\nenq 2 0\n";
 
 const SHORT_REPLY: &str =
     "granted\nok\nqueued\nwithdrawn\nbusy\nreleased\ngranted\nline 0 served 1 withdrawn 1 told 0 left 1\n";
 
-/// Replays `SHORT` in rooms that grow by the heap's grain, so each allocation is refused once, until one has place for all. Returns the number of
-/// rooms that were too small.
+/// Replays `SHORT` with limits of memory that grow by the heap's smallest step, so that each allocation is refused
+/// once, until a limit is large enough. Returns the number of limits that were too small.
 fn refusals_of<R: Abort>(
     rt: &R,
     alloc: Global,

@@ -6,7 +6,7 @@ use qolb_draw::{Form, draw_steps};
 use std::alloc::Global;
 use std::test::Fail;
 
-/// The picture of the script.
+/// Returns the picture of the script.
 fn drawn(alloc: Global, script: &str, form: Form) -> Result<String, Fail> {
     Ok(String::from_utf8(draw_steps(alloc, script.as_bytes(), form)?)?)
 }
@@ -16,21 +16,21 @@ const LETTERS: &str =
 
 const ONE_TURN: &str = "nodes 1\nreset 1\nprepend 1\nhome 1\n";
 
-/// The line is left in a mailbox, and a late link takes it from there.
+/// A script in which the line is left in a mailbox, and a late link takes it from there.
 const LATE_LINK: &str =
     "nodes 2\nreset 1\nprepend 1\nreset 2\nprepend 2\nhome 1\ndone 1\nload 1\nlink 2\nload 1\n";
 
-/// A withdrawn node is passed and freed.
+/// A script in which a withdrawn node is passed and freed.
 const PASSED: &str =
     "nodes 2\nreset 1\nprepend 1\nreset 2\nprepend 2\nlink 2\nhome 1\ndone 1\nroll 2\ngrant 1\nhome 1\nload 2\nfreed 1\nload 2\n";
 
-/// A node closes the line, and finds it closed when it asks again.
+/// A script in which a node closes the line, and finds it closed when it makes a new request.
 const CLOSED: &str = "nodes 1\nreset 1\nprepend 1\nclose 1\nhome 1\nreset 1\nprepend 1\nhome 1\n";
 
 /// Scripts and their pictures as text, without the legend of letters.
 static PICTURES: [(&str, &str); 7] = [
     ("nodes 3\n", "123\n"),
-    // a number's digits are one below another
+    // the digits of a number are below each other
     (
         "nodes 11\nreset 10\n",
         "         11
@@ -106,7 +106,7 @@ fn draws_step_scripts(rt: HostRuntime) -> Result<(), Fail> {
     Ok(())
 }
 
-/// The part of a picture after its legend.
+/// Returns the part of a picture after its legend.
 fn body_of(svg: &str) -> Option<&str> {
     svg.split_once("and the link</text>\n").map(|parts| parts.1)
 }
@@ -114,7 +114,7 @@ fn body_of(svg: &str) -> Option<&str> {
 #[test]
 fn draws_one_turn(rt: HostRuntime) -> Result<(), Fail> {
     let svg = drawn(rt.alloc(), ONE_TURN, Form::Svg)?;
-    // At least as wide as the legend. Above the first row are 132 pixels, and below the last 36.
+    // The picture is at least as wide as the legend. Above the first row are 132 pixels, and below the last row are 36.
     expect(
         &rt,
         "the size",
@@ -167,7 +167,8 @@ static SHAPES: [(&str, &str); 20] = [
         LATE_LINK,
         "<rect class='releases' x='384' y='108' width='72' height='16'><title>node 1: Marking 1</title></rect>\n",
     ),
-    // after a node has left the line to a late linker, or ended its call by closing the line, it is in no call
+    // a node is in no call after it has left the line to a node that links late, or has ended its call by closing the
+    // line
     (
         LATE_LINK,
         "<rect class='rests' x='456' y='108' width='72' height='16'><title>node 1: Left</title></rect>\n<text class='at' x='464' y='119'>Left</text>\n",
@@ -176,7 +177,7 @@ static SHAPES: [(&str, &str); 20] = [
         CLOSED,
         "<rect class='rests' x='312' y='108' width='72' height='16'><title>node 1: Shut</title></rect>\n<text class='at' x='320' y='119'>Shut</text>\n",
     ),
-    // the last bar of a node without further events goes on to the end
+    // the last bar of a node extends to the end
     (
         LATE_LINK,
         "<rect class='holds' x='600' y='156' width='144' height='16'><title>node 2: Holding</title></rect>\n",
@@ -253,8 +254,8 @@ fn largest_script(alloc: Global) -> Result<String, Fail> {
     repeated(alloc, "nodes 200\nreset 200\n", 99_999, "load 200\n", "")
 }
 
-/// The size of its picture, without the legend of letters: three lines of the digits of 200 nodes; and for each event 200 letters, six places
-/// for its number, and 44 bytes, of which the first event has two fewer.
+/// The size of the script's picture, without the legend of letters: three lines for the digits of 200 nodes' numbers,
+/// and for each event 200 letters, six places for the event's number, and 44 further bytes (42 for the first event).
 const LARGEST: usize = 3 * 201 + 100_000 * (200 + 6 + 44) - 2;
 
 /// The first line of digits.

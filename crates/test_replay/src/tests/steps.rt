@@ -7,15 +7,15 @@ use qolb_script::{ScriptError, Watched};
 use std::alloc::Global;
 use std::test::Fail;
 
-/// A node withdraws before it is granted.
+/// A script in which a node withdraws before it is granted.
 const SCRIPT: &str =
     "nodes 2\nreset 1\nprepend 1\nreset 2\nprepend 2\nlink 2\nhome 1\ndone 1\nroll 2\ngrant 1\nhome 1\nload 2\nfreed 1\nload 2\n";
 
 const REPLY: &str =
     "went\ngranted\nwent\nwent\nqueued\nwent\nwent\nwithdrawn\nwent\nwent\nbusy\nreleased\nfree\nline 0 served 1 withdrawn 1 told 0 left 0\n";
 
-/// The reply to `SCRIPT` with ranks: a link, a release that finds a successor, a grant that passes, and a freeing lower the rank by one
-/// each.
+/// The reply to `SCRIPT` with ranks. A link, a release that finds a successor, a grant that passes a node, and a
+/// freeing each lower the rank by one.
 const RANKED: &str =
     "went 0\ngranted 1\nwent 1\nwent 6\nqueued 5\nwent 4\nwent 3\nwithdrawn 3\nwent 2\nwent 1\nbusy 1\nreleased 0\nfree 0\nline 0 served 1 withdrawn 1 told 0 left 0\n";
 
@@ -52,8 +52,8 @@ fn the_longest_step_script_is_answered(rt: HostRuntime) -> Result<(), Fail> {
     Ok(())
 }
 
-/// Replays the script on a heap of `bytes` bytes. Returns the error, whether the reply is right, how much was written, and the bytes of the
-/// heap that are in use at the end.
+/// Replays the script on a heap of `bytes` bytes. Returns the error, whether the reply is right, how much was written,
+/// and how many bytes of the heap are in use at the end.
 fn run_within(alloc: Global, bytes: usize) -> Option<(Option<ReplayError>, bool, usize, usize)> {
     let heap = LocalHeap::new(alloc, bytes).ok()?;
     let mut reader = Watched::new(SCRIPT.as_bytes());

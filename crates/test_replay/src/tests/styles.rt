@@ -6,13 +6,13 @@ use std::process::Abort;
 /// Red, green and blue.
 type Colour = [u8; 3];
 
-/// The channel of two hex digits.
+/// Returns the value of a colour channel, from two hex digits.
 fn channel(high: u8, low: u8) -> Option<u8> {
     let value = |digit: u8| u8::try_from(char::from(digit).to_digit(16)?).ok();
     Some(value(high)?.saturating_mul(16).saturating_add(value(low)?))
 }
 
-/// The colour of `#rrggbb` or `#rgb`.
+/// Returns the colour that `#rrggbb` or `#rgb` denotes.
 fn colour(text: &str) -> Option<Colour> {
     match text.strip_prefix("#")?.as_bytes() {
         [r, g, b] => Some([channel(*r, *r)?, channel(*g, *g)?, channel(*b, *b)?]),
@@ -21,8 +21,8 @@ fn colour(text: &str) -> Option<Colour> {
     }
 }
 
-/// The brightness of a colour, from 0 to 10,000 times 255 squared. It weighs the channels as the guidelines of the W3C for accessible pages
-/// do, with their squares in place of powers of 2.4.
+/// Returns the brightness of a colour, from 0 to 10,000 times 255 squared. The channels have the weights of the W3C's
+/// guidelines for accessible pages, but are squared instead of raised to the power 2.4.
 fn brightness(colour: Colour) -> u64 {
     [2_126u64, 7_152, 722]
         .iter()
@@ -35,17 +35,18 @@ fn brightness(colour: Colour) -> u64 {
         })
 }
 
-/// A twentieth of the brightness of white, which those guidelines add to both colours of a contrast.
+/// A twentieth of the brightness of white, which the W3C's guidelines add to the brightness of both colours of a
+/// contrast.
 const GLARE: u64 = 32_512_500;
 
-/// The contrast between two colours in tenths: 10 for equal ones, 210 for black and white.
+/// Returns the contrast between two colours in tenths: 10 for equal colours, 210 for black and white.
 fn contrast(one: Colour, other: Colour) -> u64 {
     let (a, b) = (brightness(one), brightness(other));
     let (dark, light) = if a < b { (a, b) } else { (b, a) };
     light.saturating_add(GLARE).saturating_mul(10) / dark.saturating_add(GLARE)
 }
 
-/// The distance of two colours: the sum over the channels, at most 765.
+/// Returns the distance between two colours: the sum of the differences of the channels, at most 765.
 fn distance(one: Colour, other: Colour) -> u64 {
     one.iter().zip(&other).fold(
         0u64,
@@ -60,7 +61,7 @@ pub struct Sheet<'a> {
     at_night: &'a str,
 }
 
-/// The value that a part of a sheet gives a property of `what`.
+/// Returns the value that a part of a sheet gives to a property of `what`.
 fn said<'a>(part: &'a str, what: &str, property: &str) -> Option<&'a str> {
     let rules = part.lines().find_map(|line| line
         .strip_prefix(what)?
@@ -72,7 +73,7 @@ fn said<'a>(part: &'a str, what: &str, property: &str) -> Option<&'a str> {
 }
 
 impl<'a> Sheet<'a> {
-    /// The first sheet of a picture, with the text before and after it.
+    /// Returns the first sheet of a picture, with the text before and after it.
     pub fn first(picture: &'a str) -> Option<(&'a str, Sheet<'a>, &'a str)> {
         let (before, rest) = picture.split_once("<style>\n")?;
         let (by_day, rest) = rest.split_once("@media(prefers-color-scheme:dark){\n")?;
@@ -80,12 +81,12 @@ impl<'a> Sheet<'a> {
         Some((before, Sheet { by_day, at_night }, behind))
     }
 
-    /// The value of a property on a light page.
+    /// Returns the value of a property on a light page.
     fn said(self, what: &str, property: &str) -> Option<&'a str> {
         said(self.by_day, what, property)
     }
 
-    /// The colour of `what`, on a light page or on a dark one.
+    /// Returns the colour of `what`, on a light page or on a dark one.
     fn colour(self, is_dark: bool, what: &str, property: &str) -> Option<Colour> {
         let night = if is_dark {
             said(self.at_night, what, property)
@@ -114,7 +115,7 @@ impl<'a> Sheet<'a> {
     }
 }
 
-/// What must be seen on the page: by which property, and its least contrast to the page in tenths.
+/// What must be visible on the page: the property with its colour, and its minimum contrast to the page in tenths.
 static SEEN: [(&str, &str, u64); 11] = [
     ("text", "fill", 70),
     (".lane", "stroke", 12),
@@ -150,14 +151,14 @@ static RULES: [(&str, &str, &str); 5] = [
     ("#out path,#misuse path", "stroke-width", "2"),
 ];
 
-/// Returns `true` if `what` is hollow, by night too, and answers the pointer inside.
+/// Returns `true` if `what` is not filled, on a dark page too, but responds to the pointer inside its outline.
 fn is_hollow(sheet: Sheet, what: &str) -> bool {
     sheet.said(what, "fill") == Some("none")
         && said(sheet.at_night, what, "fill").is_none()
         && sheet.said(what, "pointer-events") == Some("all")
 }
 
-/// Expects the colours of a picture to be seen, on both pages.
+/// Checks that the colours of a picture are visible, on a light page and on a dark one.
 pub fn are_seen<R: Abort>(rt: &R, sheet: Sheet) {
     for is_dark in [false, true] {
         let page = sheet.colour(is_dark, "svg", "background");
@@ -201,7 +202,7 @@ pub fn are_seen<R: Abort>(rt: &R, sheet: Sheet) {
     }
 }
 
-/// Expects the same of the second sheet of a step picture, on the same page.
+/// Checks the same for the second sheet of a step picture, on the same page.
 pub fn steps_are_seen<R: Abort>(rt: &R, sheet: Sheet, of_steps: Sheet) {
     for is_dark in [false, true] {
         let page = sheet.colour(is_dark, "svg", "background");
@@ -230,7 +231,8 @@ pub fn steps_are_seen<R: Abort>(rt: &R, sheet: Sheet, of_steps: Sheet) {
         Some(".4"),
     );
     expect(rt, "a rule", of_steps.said(".at", "font-size"), Some("9px"));
-    // A point's name is in its bar, which answers the pointer; on a dark page it has a rim as dark as the page.
+    // A point's name is inside its bar, which responds to the pointer. On a dark page, the name has an outline as dark
+    // as the page.
     expect(
         rt,
         "a rule",
@@ -241,13 +243,13 @@ pub fn steps_are_seen<R: Abort>(rt: &R, sheet: Sheet, of_steps: Sheet) {
     expect(rt, "rim", rim, sheet.colour(true, "svg", "background"));
 }
 
-/// The sign of who is told that the line is closed: a diamond of twelve pixels.
+/// The sign of a node that is told that the line is closed: a diamond of twelve pixels.
 const DIAMOND: &str = "<path d='M0 -6L6 0L0 6L-6 0z'/>";
 
 /// The signs of commands.
 const SIGNS: [&str; 4] = ["call", "out", "told", "misuse"];
 
-/// The shape of a sign, which is on top of what the pointer may point at.
+/// Returns the shape of a sign, which is on top of the area that responds to the pointer.
 fn shape_of<'a>(signs: &'a str, name: &str) -> Option<&'a str> {
     let sign = signs.lines().find_map(|line| {
         line.strip_prefix("<g id='")?
@@ -258,7 +260,7 @@ fn shape_of<'a>(signs: &'a str, name: &str) -> Option<&'a str> {
     sign.split_once("/>").map(|parts| parts.1)
 }
 
-/// Returns `true` if a shape is around its middle: it is not moved, and none of its numbers has two digits.
+/// Returns `true` if a shape is centred: it is not moved, and none of its numbers has two digits.
 fn is_in_the_middle(shape: &str) -> bool {
     let is_moved = shape.contains("cx=") || shape.contains("cy=") || shape.contains("transform");
     let is_far = shape.bytes().zip(shape.bytes().skip(1)).any(|(one, next)| one.is_ascii_digit()
@@ -266,8 +268,8 @@ fn is_in_the_middle(shape: &str) -> bool {
     !is_moved && !is_far
 }
 
-/// Expects signs that can be told apart. Each has a shape that reaches three pixels from its middle and is around it, no two have the same
-/// shape, and an arrow has its tip.
+/// Checks that the signs can be distinguished. Each sign has a centred shape that reaches three pixels from its middle,
+/// no two signs have the same shape, and an arrow has a tip.
 pub fn signs_differ<R: Abort>(rt: &R, signs: &str) {
     for (place, name) in SIGNS.iter().enumerate() {
         let shape = shape_of(signs, name);

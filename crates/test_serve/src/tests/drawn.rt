@@ -2,7 +2,7 @@
 use crate::tests::runs::{expect, told};
 use std::test::Fail;
 
-/// Words that no drawing takes.
+/// Command lines of `draw` that are refused.
 static NO_DRAWING: [&[&str]; 4] = [
     &["draw", "--kind"],
     &["draw", "plain"],
@@ -10,13 +10,13 @@ static NO_DRAWING: [&[&str]; 4] = [
     &["draw", "--steps=1"],
 ];
 
-/// A hand-over of which a picture is drawn.
+/// A schedule in which one node hands the line over to another.
 const DRAWN: &str = "nodes 2 lines 1\nenq 1 0\nenq 2 0\ndeq 1 0\npoll 2 0\n";
 
-/// A step script of which a picture is drawn.
+/// A step script in which one node acquires and releases the line.
 const STEPPED: &str = "nodes 1\nreset 1\nprepend 1\nhome 1\n";
 
-/// Words, a script, how its picture begins, and a part of it.
+/// Command lines, each with a script, the beginning of its picture, and another part of the picture.
 static PICTURES: [(&[&str], &str, &str, &str); 4] = [
     (
         &["draw"],
@@ -57,7 +57,7 @@ fn draws_in_each_form(rt: HostRuntime) -> Result<(), Fail> {
     Ok(())
 }
 
-/// Scripts that neither a drawing nor the link line's core takes, as their second line is bad or has a number out of range.
+/// Scripts whose second line is malformed or has a number out of range, with the command lines that refuse them.
 static FAULTY: [(&[&str], &str); 6] = [
     (&["draw"], "nodes 2 lines 1\nenq 3 0"),
     (&["draw"], "nodes 2 lines 1\nenq 1"),
@@ -80,11 +80,12 @@ fn refuses_to_draw_and_to_step(rt: HostRuntime) -> Result<(), Fail> {
     Ok(())
 }
 
-/// Step scripts with their answers, `, ` for each line's end; and the last line of the answer.
+/// Step scripts with their answers and the last line of the answer. In the scripts and answers, `, ` stands for a
+/// newline.
 static STEPS: [(&str, &str, &str); 11] = [
     // no event
     ("nodes 2", "", "line 0 served 0 withdrawn 0 told 0 left 0"),
-    // a releaser leaves the line to a linker that halted halfway
+    // a releasing node leaves the line to a node that stopped before it linked itself
     (
         "nodes 2, reset 1, prepend 1, write 1 0 ab, reset 2, prepend 2, home 1, done 1, load 1, link 2, load 1, reset 1, prepend 1, link 1",
         "went, granted, went, went, went, went, released, busy, granted, free, went, went, queued",
@@ -96,7 +97,7 @@ static STEPS: [(&str, &str, &str); 11] = [
         "went, granted, went, went, queued, went, went, withdrawn, went, went, busy, released, free",
         "line 0 served 1 withdrawn 1 told 0 left 0",
     ),
-    // and after it is granted
+    // a node withdraws after it is granted
     (
         "nodes 2, reset 1, prepend 1, reset 2, prepend 2, link 2, home 1, done 1, grant 1, roll 2",
         "went, granted, went, went, queued, went, went, released, granted",
@@ -126,7 +127,7 @@ static STEPS: [(&str, &str, &str); 11] = [
         "went, granted, went, went, queued, went, went, queued, withdrawn, went, went, went, went, went, went, went, shut, went, closed, free",
         "line 0 served 1 withdrawn 1 told 1 left 0",
     ),
-    // a told node is left by a late linker
+    // a told node is busy before the late link of another node, and free after it
     (
         "nodes 2, reset 1, prepend 1, close 1, home 1, reset 2, prepend 2, reset 1, prepend 1, home 2, done 2, load 2, link 1, home 1, load 2",
         "went, granted, went, shut, went, went, went, went, went, closed, busy, went, closed, free",
@@ -138,7 +139,7 @@ static STEPS: [(&str, &str, &str); 11] = [
         "went, granted, shut, went, went, closed",
         "line 0 served 1 withdrawn 0 told 1 left 0",
     ),
-    // a node in the middle of a release is left
+    // the script ends in the middle of a release
     (
         "nodes 2, reset 1, prepend 1, reset 2, prepend 2, link 2, home 1",
         "went, granted, went, went, queued, went",

@@ -2,8 +2,8 @@
 use crate::tests::runs::{expect, told};
 use std::test::Fail;
 
-/// Words with `--explain`, scripts that are refused, and their explanations: one for each fault of a line, except that of a line past the
-/// largest number, which takes long.
+/// Command lines with `--explain`, scripts that are refused, and the explanations. There is one for each kind of fault,
+/// except for a line past the largest line number, because such a test takes long.
 static EXPLAINED: [(&[&str], &str, &str); 17] = [
     (
         &["replay", "--kind", "plain"],

@@ -7,7 +7,7 @@ use std::sync::Wait;
 use std::test::Fail;
 use std::thread::Threads;
 
-/// Returns the help after these words.
+/// Returns the help that `--help` prints after these words.
 fn help_of<T: Threads + Wait + Clock + Eprint + Sync>(
     rt: &T,
     alloc: Global,
@@ -22,7 +22,7 @@ fn help_of<T: Threads + Wait + Clock + Eprint + Sync>(
     Ok(help)
 }
 
-/// The whole text on the statuses.
+/// The whole text about exit statuses.
 const STATUSES: &str = "\n\nExit statuses:
   0  done
   1  the script was refused: `bad line N` or `script too long` on standard error
@@ -42,6 +42,7 @@ static LINES: [(&str, &[&str]); 5] = [
     (
         "replay",
         &[
+            "      --kind <KIND>  The plain reference, which has one owner,\n                     or the lock of lines that nodes\n                     share [possible values: plain, ring, link, ticket]",
             "      --explain      Explains a refused line, and each answer `misuse`",
             "  nodes N lines L             its first line: 1 to 200 nodes and 1 to 8 lines",
             "  nodes N lines L lease C     the same; each line closes at its C-th served turn",
@@ -66,6 +67,7 @@ static LINES: [(&str, &[&str]); 5] = [
     (
         "board",
         &[
+            "      --kind <KIND>  The lock of the lines that the workers\n                     share [default: link] [possible values: ring, link, ticket]",
             "      --sleep        Workers sleep until they are woken, instead of polling",
             "      --progress     Reports on standard error, once a second, how many of all\n                     jobs are done",
             "      --explain      Explains a refused line",
@@ -80,6 +82,7 @@ static LINES: [(&str, &[&str]); 5] = [
     (
         "bank",
         &[
+            "      --kind <KIND>  The lock of the lines that the workers\n                     share [default: link] [possible values: ring, link, ticket]",
             "      --sleep        Workers sleep until they are woken, instead of polling",
             "      --progress     Reports on standard error, once a second, how many of all\n                     jobs are done",
             "      --explain      Explains a refused line",
@@ -124,7 +127,7 @@ fn the_help_tells_options_and_limits(rt: HostRuntime) -> Result<(), Fail> {
     Ok(())
 }
 
-/// The words of the example of each help, what the help says that they print, and what they print.
+/// For the example of each help: the words of the command line, what the help says that it prints, and what it prints.
 static EXAMPLES: [(&[&str], &str, &str); 5] = [
     (
         &["replay", "--kind", "plain"],
@@ -153,7 +156,7 @@ static EXAMPLES: [(&[&str], &str, &str); 5] = [
     ),
 ];
 
-/// Returns the example of a help: its script, and its output by the help.
+/// Returns the example of a help: its script, and its output as the help describes it.
 fn example_of<'a>(help: &'a str, told: &str) -> Result<(&'a str, &'a str), Fail> {
     let (_, example) = help.split_once("\n\nExample: with\n").ok_or("an example")?;
     Ok(example.split_once(told).ok_or("what it prints")?)

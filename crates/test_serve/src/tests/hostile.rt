@@ -31,7 +31,7 @@ const EARLY: &str = "nodes 1\nlink 1\n";
 const EARLY_DRAWN: &str =
     "1\n.      1: link 1: refused; the line lies at home\n\n. Idle   r Ready   l Linking   w Queued   H Holding   h Leaving   m Marking\ng Granting   f Freeing   L Left   x Rolled   - Shut\n";
 
-/// The words of each subcommand, a script, and the output.
+/// Command lines of each subcommand, each with a script and the output.
 pub static RUNS: [(&[&str], &str, &str); 14] = [
     (&["replay", "--kind", "plain"], HAND_OVER, HANDED_OVER),
     (&["replay", "--kind", "ring"], HAND_OVER, HANDED_OVER),
@@ -49,10 +49,10 @@ pub static RUNS: [(&[&str], &str, &str); 14] = [
     (&["steps", "--explain"], LATE_LINK, LINKED),
 ];
 
-/// How many bytes a read or a write moves at most.
+/// The maximum number of bytes of a read or a write.
 static PARTS: [usize; 3] = [1, 7, 4096];
 
-/// A reader that gives at most `part` bytes a read, and fails once, after `good` reads.
+/// A reader that returns at most `part` bytes per read, and fails once, after `good` reads.
 #[derive(Drop)]
 struct FailingReader<'a> {
     rest: &'a [u8],
@@ -74,7 +74,7 @@ impl<'a> Read for FailingReader<'a> {
     }
 }
 
-/// A writer that takes at most `part` bytes a write, and after `good` writes fails once, or takes none.
+/// A writer that accepts at most `part` bytes per write. After `good` writes, it fails once or accepts no byte.
 #[derive(Drop)]
 struct FailingWriter {
     taken: Vec<u8>,
@@ -135,7 +135,7 @@ fn each_read_fails(rt: HostRuntime) -> Result<(), Fail> {
     Ok(())
 }
 
-/// How many bytes a write takes at most, and whether it fails at last; else it takes none.
+/// The maximum number of bytes that a write accepts, and whether the last write fails; otherwise it accepts no byte.
 static WRITES: [(usize, bool); 4] = [(1, true), (3, false), (7, true), (4096, false)];
 
 #[test]

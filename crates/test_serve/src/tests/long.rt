@@ -8,10 +8,10 @@ use std::sync::Wait;
 use std::test::Fail;
 use std::thread::Threads;
 
-/// How often the line of a script is repeated.
+/// How many times the middle part of a text is repeated.
 const TIMES: u32 = 12_000;
 
-/// What `show` answers of a line that no node wrote.
+/// What `show` answers about a line that no node has written.
 const ZEROS: &str =
     "00000000000000000000000000000000000000000000000000000000000000000000000000000000000000000000000000000000000000000000000000000000\n";
 
@@ -26,10 +26,11 @@ const SHOWN: Long = [
     "line 0 served 0 withdrawn 0 told 0 left 1\n",
 ];
 
-/// What is repeated, a command or an event, the number of the first, and the note on each.
+/// What is repeated (a command or an event), the number of the first one, and the note on each.
 type Note = (&'static str, u32, &'static str);
 
-/// Words, a long script, its answer, and the notes on refusals. The answers of replays have 1.5 MB.
+/// Command lines, each with a long script, the script's answer, and the notes on refusals. The answers of replays have
+/// 1.5 MB.
 static ANSWERED: [(&[&str], Long, Long, Option<Note>); 10] = [
     (&["replay", "--kind", "plain"], HELD, SHOWN, None),
     (&["replay", "--kind", "ring"], HELD, SHOWN, None),
@@ -109,7 +110,7 @@ fn repeated(alloc: Global, long: &Long, times: u32) -> Result<String, Fail> {
     Ok(text)
 }
 
-/// Returns an answer, and behind it a note on each of the repeated commands or events, if there are any.
+/// Returns an answer, followed by a note on each of the repeated commands or events if there are notes.
 fn with_notes(alloc: Global, answer: &str, note: Option<Note>) -> Result<String, Fail> {
     let mut text = answer.to_string(alloc)?;
     if let Some((what, first, note)) = note {
@@ -121,7 +122,7 @@ fn with_notes(alloc: Global, answer: &str, note: Option<Note>) -> Result<String,
     Ok(text)
 }
 
-/// Returns the status, standard output and standard error of a run.
+/// Runs the program, and returns its exit status, standard output and standard error.
 fn answered<T: Threads + Wait + Clock + Eprint + Sync>(
     rt: &T,
     alloc: Global,
@@ -134,7 +135,7 @@ fn answered<T: Threads + Wait + Clock + Eprint + Sync>(
     Ok((status, out, err))
 }
 
-/// Checks that a run on these words ends so. If it does not, the text is not printed.
+/// Checks that a run with these words ends as expected. If it does not, the long text is not printed.
 fn expect<T: Threads + Wait + Clock + Eprint + Abort + Sync>(
     rt: &T,
     alloc: Global,
@@ -156,7 +157,7 @@ pub fn with_explain<'a>(alloc: Global, words: &[&'a str]) -> Result<Vec<&'a str>
     Ok(all)
 }
 
-/// Checks that a run on these words ends so, and one on these words and `--explain`.
+/// Checks that a run with these words ends as expected, and also a run with these words and `--explain`.
 fn expect_both<T: Threads + Wait + Clock + Eprint + Abort + Sync>(
     rt: &T,
     alloc: Global,
@@ -189,7 +190,7 @@ fn a_long_script_is_answered_whole(rt: HostRuntime) -> Result<(), Fail> {
     Ok(())
 }
 
-/// 100,000 commands, which are as many as a script may have, with an answer of 12.9 MB.
+/// A script of 100,000 commands, the most that a script may have, is answered. The answer has 12.9 MB.
 #[test]
 fn the_most_commands_are_answered(rt: HostRuntime) -> Result<(), Fail> {
     let alloc = rt.alloc();
@@ -200,7 +201,7 @@ fn the_most_commands_are_answered(rt: HostRuntime) -> Result<(), Fail> {
     expect(&rt, alloc, words.as_slice(), script.as_str(), want)
 }
 
-/// The name of work, a script of as many jobs as there may be, and the report.
+/// The name of work, a script with the maximum number of jobs, and the report.
 static MOST_WORK: [(&str, Long, &str); 2] = [
     (
         "board",
@@ -225,10 +226,11 @@ fn the_most_jobs_are_done(rt: HostRuntime) -> Result<(), Fail> {
     Ok(())
 }
 
-/// The number of bytes of a script that has most of its lines empty.
+/// The number of bytes of a script in which most lines are empty.
 const BYTES: usize = 1_500_000;
 
-/// Words, the last lines of such a script, and how the run ends. Of the refused script 1,499,976 lines before are empty.
+/// Command lines, the last lines of such a script, and how the run ends. In the refused script, 1,499,976 empty lines
+/// precede these.
 static BEHIND_EMPTY_LINES: [(&[&str], &str, (u8, &str, &str)); 2] = [
     (
         &["replay", "--kind", "plain"],
@@ -261,7 +263,7 @@ fn what_is_behind_many_empty_lines_is_answered_or_explained(rt: HostRuntime) -> 
     Ok(())
 }
 
-/// Words, a long script whose last line is refused, and what is said of that line.
+/// Command lines, a long script whose last line is refused, and the complaint about that line.
 static REFUSED: [(&[&str], Long, &str); 6] = [
     (
         &["replay", "--kind", "link"],

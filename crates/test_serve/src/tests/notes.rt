@@ -31,7 +31,7 @@ line 0 served 0 withdrawn 1 told 0 left 1
 line 1 served 0 withdrawn 0 told 0 left 1
 ";
 
-/// The notes on them, line by line.
+/// The notes on the misuses, line by line.
 const NOTES: &str = "command 4, deq 2 0: node 2 waits, which allows poll, out
 command 5, write 2 0: node 2 waits, which allows poll, out
 command 6, enq 1 0: node 1 holds, which allows write, show, deq, shut
@@ -40,7 +40,8 @@ command 9, show 2 0: node 2 neither waits nor holds, which allows enq
 command 1, poll 1 1: node 1 neither waits nor holds, which allows enq
 ";
 
-/// Commands of nodes at their turn, at rest and at a lease's end. An answer `busy` is no misuse.
+/// Commands of nodes whose turn has come, of nodes without a request, and at the end of a lease. An answer `busy` does
+/// not mean misuse.
 const MISUSED_AT_THE_END: &str = "nodes 3 lines 1 lease 1
 shut 1 0
 enq 1 0
@@ -72,7 +73,7 @@ misuse
 line 0 served 1 withdrawn 1 told 1 left 0
 ";
 
-/// The notes on them.
+/// The notes on these misuses.
 const NOTES_AT_THE_END: &str =
     "command 1, shut 1 0: node 1 neither waits nor holds, which allows enq
 command 7, shut 2 0: node 2 waits, which allows poll, out
@@ -81,7 +82,7 @@ command 10, enq 2 0: node 2 waits, which allows poll, out
 command 12, show 2 0: node 2 neither waits nor holds, which allows enq
 ";
 
-/// Schedules, with their answers and the notes.
+/// Schedules, with their answers and the notes on the answers.
 static NOTED: [(&str, &str, &str); 2] = [
     (MISUSED, MISUSES, NOTES),
     (MISUSED_AT_THE_END, MISUSES_AT_THE_END, NOTES_AT_THE_END),
@@ -100,7 +101,7 @@ fn misuse_is_explained_by_each_kind(rt: HostRuntime) -> Result<(), Fail> {
     Ok(())
 }
 
-/// Events that are refused at each point, with their answers and the notes.
+/// Step scripts with events that are refused at each point, with their answers and the notes on the refusals.
 static REFUSED: [(&str, &str, &str); 4] = [
     // Idle, Ready, Holding, Leaving, Marking, Linking, Left, Shut
     (
@@ -213,7 +214,7 @@ line 0 served 1 withdrawn 0 told 0 left 0
 event 7, home 1: node 1 is at Shut, which allows reset
 ",
     ),
-    // the entry of another node: the first node passes the second, and ends the only turn of the lease
+    // notes on the entry of another node: the first node passes the second, and ends the only turn of the lease
     (
         "nodes 3 lease 1
 done 1

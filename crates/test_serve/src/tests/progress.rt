@@ -16,8 +16,10 @@ const BOARD: &str = "board workers 1\n1 put 5\n1 take\n1 take\n";
 
 const REPORT: &str = "stored 1\nfull 0\ntaken 1\nempty 1\nleft 0\n";
 
-/// A runtime on which a second passes between two readings of the clock, or which has no clock. It counts the lines on its standard error
-/// that say how many of three jobs are done, in this order, and what else is written there.
+/// A runtime on which one second passes between two readings of the clock, or which has no clock.
+///
+/// It counts the lines on its standard error that report how many of three jobs are done, in the expected order, and it
+/// counts all other writes to standard error separately.
 #[derive(Drop)]
 struct Slow<'a, R> {
     /// Allows waits and threads.
@@ -41,7 +43,7 @@ impl<'a, R> Slow<'a, R> {
         }
     }
 
-    /// The number of lines that were expected, and of others.
+    /// Returns the number of expected lines, and the number of others.
     fn lines(&self) -> (u64, u64) {
         (
             self.said.load(Ordering::SeqCst),
@@ -88,7 +90,7 @@ impl<R> Eprint for Slow<'_, R> {
     }
 }
 
-/// Words, whether there is a clock, and the number of lines that tell the progress.
+/// Command lines, whether there is a clock, and the number of lines that report progress.
 static SAID: [(&[&str], bool, u64); 6] = [
     (&["board"], true, 0),
     (&["board", "--progress"], true, 3),

@@ -13,7 +13,7 @@ use std::thread::Threads;
 /// The kinds of lines of a replay.
 pub static KINDS: [&str; LOCKS + 1] = lock_names!(array, "plain");
 
-/// Returns the status of a run on these words, and its standard error.
+/// Runs the program with these words, and returns its exit status and its standard error.
 pub fn run<T: Threads + Wait + Clock + Eprint + Sync, R: Read, W: Write>(
     rt: &T,
     alloc: Global,
@@ -30,7 +30,7 @@ pub fn run<T: Threads + Wait + Clock + Eprint + Sync, R: Read, W: Write>(
     Ok((status, String::from_utf8(err)?))
 }
 
-/// Returns the status, standard output and standard error of a run.
+/// Runs the program, and returns its exit status, standard output and standard error.
 pub fn told<T: Threads + Wait + Clock + Eprint + Sync>(
     rt: &T,
     alloc: Global,
@@ -60,7 +60,7 @@ pub fn expect<T: Threads + Wait + Clock + Eprint + Abort + Sync>(
     Ok(())
 }
 
-/// Checks that a replay by each kind of lines ends so.
+/// Checks that a replay by each kind of lines ends as expected.
 pub fn expect_by_each_kind<T: Threads + Wait + Clock + Eprint + Abort + Sync>(
     rt: &T,
     alloc: Global,
@@ -73,7 +73,7 @@ pub fn expect_by_each_kind<T: Threads + Wait + Clock + Eprint + Abort + Sync>(
     Ok(())
 }
 
-/// Scripts of schedules, with the end of their replay.
+/// Schedules, each with the exit status, standard output and standard error of its replay.
 static SCHEDULES: [(&str, (u8, &str, &str)); 10] = [
     (
         "nodes 1 lines 1\n",
@@ -89,7 +89,7 @@ static SCHEDULES: [(&str, (u8, &str, &str)); 10] = [
         (0, "line 0 served 0 withdrawn 0 told 0 left 0\n", ""),
     ),
     ("nodes 201 lines 1", (1, "", "bad line 1\n")),
-    // a last line without its end
+    // a last line without a newline
     (
         "nodes 2 lines 1\nenq 1 0",
         (
@@ -124,7 +124,7 @@ static TASKS: [&[&str]; 8] = [
     &["draw", "--steps", "--svg"],
 ];
 
-/// Expects that a script is refused with this on standard error.
+/// Checks that a script is refused with this text on standard error.
 fn expect_refused<T: Threads + Wait + Clock + Eprint + Abort + Sync>(
     rt: &T,
     alloc: Global,
@@ -190,7 +190,7 @@ impl Write for Broken {
     }
 }
 
-/// Words and a script that are refused, with the status.
+/// Command lines and scripts that are refused, with the exit status.
 static REFUSED: [(&[&str], &str, u8); 2] = [
     (
         &["qolb", "replay", "--kind", "plain"],

@@ -9,7 +9,7 @@ use std::test::Fail;
 use std::thread::Threads;
 use test_support::MemoryLimit;
 
-/// Runs the script in a room of `bytes` bytes. Returns the status, the output and the complaint.
+/// Runs the script with at most `bytes` bytes of memory. Returns the exit status, the output and the complaint.
 fn run_in<T: Threads + Wait + Clock + Eprint + Sync>(
     rt: &T,
     alloc: Global,
@@ -27,7 +27,8 @@ fn run_in<T: Threads + Wait + Clock + Eprint + Sync>(
     Ok((status, out, err))
 }
 
-/// Runs the script in a room of `bytes` bytes. Returns `true` if it was answered; else it was refused for want of memory, with no output.
+/// Runs the script with at most `bytes` bytes of memory. Returns `true` if it was answered; otherwise it ran out of
+/// memory and wrote no output.
 fn is_answered<T: Threads + Wait + Clock + Eprint + Sync + Abort>(
     rt: &T,
     alloc: Global,
@@ -52,15 +53,15 @@ fn is_answered<T: Threads + Wait + Clock + Eprint + Sync + Abort>(
     Ok(answered)
 }
 
-/// The words of subcommands, each with a script and the output.
+/// Command lines of subcommands, each with a script and the output.
 static RUNS: [(&[&str], &str, &str); 3] = [
     (&["steps", "--explain"], LATE_LINK, LINKED),
     (&["board"], BOARD, BOARD_REPORT),
     (&["draw"], HAND_OVER, HANDED_OVER_DRAWN),
 ];
 
-/// Rooms, in bytes: the first, a bound that no room reaches, and the step from one room to the next. In the last rooms threads find place
-/// for their stacks.
+/// Limits of memory in bytes: the first limit, a bound below which all limits are, and the step from one limit to the
+/// next. The last limits have room for the threads' stacks.
 static ROOMS: [(usize, usize, usize); 3] = [
     (1 << 6, 1 << 16, 1 << 6),
     (1 << 16, 1 << 18, 1 << 10),
@@ -99,11 +100,12 @@ fn each_allocation_is_refused(rt: HostRuntime) -> Result<(), Fail> {
     Ok(())
 }
 
-/// The kinds of lines, in the order of the memory that they take. With 200 nodes a plain line takes 3.3 KB, a list 26 KB of words, a ring
-/// 33 KB, a ticket line as many and 33 KB of slots; and each of the last three 25 KB of ports.
+/// The kinds of lines, in ascending order of the memory that they take. With 200 nodes, a plain line takes 3.3 KB. The
+/// words of a link line or of a ring take 26 or 33 KB; a ticket line takes 33 KB of words and 33 KB of slots. These
+/// last three kinds also take 25 KB of ports each.
 static BY_SIZE: [&str; 4] = ["plain", "link", "ring", "ticket"];
 
-/// Rooms, in KB, each of which has place for eight lines of one kind more.
+/// Limits of memory in KB. Each limit has room for eight lines of one more kind than the limit before it.
 static LARGER_ROOMS: [usize; 4] = [300, 478, 650, 1_200];
 
 /// The reply of a replay of eight lines for 200 nodes.
@@ -137,7 +139,7 @@ fn a_replay_takes_lines_of_the_kind_that_is_named(rt: HostRuntime) -> Result<(),
     Ok(())
 }
 
-/// What is said of the last of these lines, if there is memory to read them.
+/// The complaint about the last of these lines, if there is enough memory to read them.
 const LAST_REFUSED: &str =
     "bad line 302\n    ask 1\nword 1 is none of reset, prepend, link, load, home, done, grant, roll, freed, write, close; for `ask` write `reset`, `prepend` and `link`\n";
 

@@ -4,7 +4,7 @@ use qolb_serve::refuse_words;
 use std::io;
 use std::test::Fail;
 
-/// Words that are not taken, and what the complaint names.
+/// Command lines that are refused, and what the complaint names.
 static NOT_TAKEN: [(&[&str], &str); 31] = [
     (&["replay", "--explain"], "--kind"),
     (&[], "subcommand"),
@@ -69,7 +69,7 @@ fn refuses_command_lines(rt: HostRuntime) -> Result<(), Fail> {
         let mut reader = "nodes 1 lines 1\n".as_bytes();
         let mut out: Vec<u8> = Vec::new(rt.alloc());
         let (status, err) = run(&rt, rt.alloc(), *words, &mut reader, &mut out)?;
-        // nothing was read, nor written
+        // nothing was read or written
         assert_eq!(rt;
             (status, reader.len(), out.len()),
             (2, 16, 0),
@@ -86,7 +86,7 @@ fn refuses_command_lines(rt: HostRuntime) -> Result<(), Fail> {
     Ok(())
 }
 
-/// What is said of a word that is no subcommand.
+/// The complaint about a word that is not a subcommand.
 const NO_SUBCOMMAND: &str =
     "error: unrecognized subcommand 'work'\n\nUsage: qolb <COMMAND>\n\nFor more information, try '--help'.\n";
 
@@ -129,7 +129,7 @@ fn tells_its_version(rt: HostRuntime) -> Result<(), Fail> {
     let mut reader = "nodes 1 lines 1\n".as_bytes();
     let mut out: Vec<u8> = Vec::new(rt.alloc());
     let (status, err) = run(&rt, rt.alloc(), &["--version"], &mut reader, &mut out)?;
-    // nothing was read, nor written
+    // nothing was read or written
     assert_eq!(rt; (status, reader.len(), out.len()), (2, 16, 0));
     assert_eq!(rt; err.as_str(), VERSION);
     Ok(())

@@ -9,8 +9,8 @@ use std::sync::Wait;
 use std::test::Fail;
 use std::thread::Threads;
 
-/// What may follow the name of work. Work ends in the same way by each kind of lines, by workers that sleep, and with its progress
-/// reported, of which there is none within a second.
+/// The options that may follow the name of work. Work ends in the same way with each kind of lines, with workers that
+/// sleep, and with `--progress`, which reports nothing within the first second.
 static MANNERS: [&[&str]; 10] = [
     &[],
     &["--progress"],
@@ -24,7 +24,7 @@ static MANNERS: [&[&str]; 10] = [
     &["--kind", "ring", "--sleep", "--progress"],
 ];
 
-/// Checks that work of this name ends so, in each manner.
+/// Checks that work with this name ends as expected with each of these options.
 fn expect_work<T: Threads + Wait + Clock + Eprint + Abort + Sync>(
     rt: &T,
     alloc: Global,
@@ -40,7 +40,8 @@ fn expect_work<T: Threads + Wait + Clock + Eprint + Abort + Sync>(
     Ok(())
 }
 
-/// Scripts of work, with the end of their run: reports, and complaints about scripts that are not of this work.
+/// Work scripts, each with the exit status, standard output and standard error of its run: reports, and complaints
+/// about scripts of other work.
 static WORK: [(&str, &str, (u8, &str, &str)); 17] = [
     (
         "board",
@@ -68,7 +69,7 @@ static WORK: [(&str, &str, (u8, &str, &str)); 17] = [
         "bank workers 3 lines 8\n1 in 0 1\n2 in 63 2\n",
         (0, "in 3\nout 0\ntotal 3\n", ""),
     ),
-    // no task is lost, though the order between the workers is open
+    // nothing is lost, although the order between the workers is not determined
     (
         "bank",
         "bank workers 2 lines 1\n1 in 0 281474976710656\n2 in 1 281474976710656\n1 in 0 1\n2 in 1 1\n",

@@ -5,7 +5,7 @@ use Rattle.link_core.specs.declared.event.Event.TheVariants.{Reset}
 use Rattle.link_core.specs.Steps.{node_of}
 use Rattle.qolb_draw.specs.StepShapes.{until}
 
--- the event at a place is the node's, or another's
+-- the event at a place is an event of the node, or of another node
 here : (n : ℕ) (rest : List Event) (i m : ℕ) → i < length rest → m ≡ node_of (get_or rest i (Reset 0)) → m ≡ n → until n rest ≡ i + until n (drop i rest) → until n rest ≡ i
 here n rest i m lt is same was =
     let test : (node_of (get_or rest i (Reset 0)) == n) ≡ _ = eq-eqb _ _ (sym is ∙ same) in

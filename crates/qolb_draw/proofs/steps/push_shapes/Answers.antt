@@ -9,7 +9,7 @@ use Rattle.qolb_draw.proofs.steps.push_shapes.Goals as goal
 few : (n m k : ℕ) → n ≡ m → k ≡ m → k ≤ MAX_NODES → n ≤ MAX_NODES
 few n m k e f le = omega arith
 
--- the rest of a list behind a place
+-- the rest of a list after a place
 rest_is : (events : List Event) (i : ℕ) → take (length events - (i + 1)) (drop (i + 1) events) ≡ drop (i + 1) events
 rest_is events i = take_all (length events - (i + 1)) (drop (i + 1) events) (omega (arith, length-drop (i + 1) events))
 
