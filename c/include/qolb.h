@@ -86,7 +86,7 @@
  *
  * ERRORS
  *
- * All other results are errors. A call that returns one of them has changed nothing.
+ * All other results are errors. A call that returns an error has changed nothing.
  *
  * - QOLB_MISUSE means that the program has an error: the lock, node or task does not allow the call.
  * - QOLB_NO_MEMORY means that the library could not allocate memory, or that a lock has too many open requests.
@@ -115,8 +115,8 @@
  * data that a lock protects, and no proof shows that a waiting thread is ever granted the lock.
  *
  * The proofs about a line show that the line has at most one holder, that its requests end in the order in which they
- * were made, and which bytes each holder receives. The C code that waits for a line and notifies its nodes is tested.
- * This code was also model-checked in small scenarios, with a model of the line.
+ * were made, and which bytes each holder receives. The C code that waits for a line and notifies the nodes of the line
+ * is tested. The C code was also model-checked in small scenarios, with a model in place of the line.
  *
  * SANITIZERS AND DEBUGGERS
  *
@@ -131,9 +131,9 @@
  *
  * The proved part of the library has no unwind tables, so a backtrace that begins in the proved part may be incomplete.
  *
- * In a stopped program or in a core dump, gdb can show which thread holds a lock. For this, enter `source
- * PREFIX/share/qolb/qolb.gdb` and then `qolb-holder &lock`. The file that contains the library must not be stripped,
- * because gdb needs the library's symbols.
+ * In a stopped program or in a core dump, gdb can show which thread holds a lock. To see the holder of `lock`, enter
+ * `source PREFIX/share/qolb/qolb.gdb` and then `qolb-holder &lock`. The file that contains the library must not be
+ * stripped, because gdb needs the library's symbols.
  *
  * If the library was built with <sys/sdt.h>, it contains probes with which bpftrace, perf and gdb can trace where a
  * thread waits. The provider of these probes is qolb, and their names are wait, sleep, wake, granted, withdrawn and
@@ -233,7 +233,7 @@
  * ticket. If the thread cannot allocate this memory, it continues to wait until fewer requests are ahead of its ticket.
  * While a lock has more than about 12,280 open requests, a call with a timeout draws no ticket, so other threads may
  * overtake the calling thread. A call that enters a barging lock polls for 10 us before it joins the queue, so a call
- * that times out within these 10 us never had a place in the queue.
+ * that times out within these 10 us has never had a place in the queue.
  *
  * FORK
  *
@@ -245,9 +245,9 @@
  *
  * A thread that has drawn a ticket polls before it sleeps. The first thread in the queue polls the lock every 90 ns. A
  * thread farther back in the queue pauses longer between two polls: 150 ns longer for each waiter ahead of it. Once a
- * thread has seen how long a handoff takes, it adds three quarters of this time for each waiter ahead of it instead of
- * 150 ns, but at most 500 ns. How long a thread polls before it sleeps depends on the number of threads ahead of it,
- * and on the number of processors that the process may use:
+ * thread has seen how long a handoff takes, it adds three quarters of this time (but at most 500 ns) for each waiter
+ * ahead of it, instead of 150 ns. How long a thread polls before it sleeps depends on the number of threads ahead of
+ * it, and on the number of processors that the process may use:
  *
  * - If the number of threads ahead is less than the number of processors, the thread polls for 50 us, or for 1 us per
  *   thread ahead, whichever is longer.
@@ -260,15 +260,16 @@
  * than twice the number of processors. Each yield counts as 500 ns of polling, so a thread yields at most a hundred
  * times before it sleeps.
  *
- * After polling, a waiting thread sleeps on a futex until its turn has come. A thread that had to sleep polls for a
- * shorter time when it next waits. A thread that waits on a condition sleeps at once, without polling. If a process
- * could use only one processor when one of its threads waited for the first time, all waiting threads of the process
- * sleep at once, without polling. A thread that is woken before its turn yields the processor once.
+ * After polling, a waiting thread sleeps on a futex until its turn has come. If a thread had to sleep, it will poll for
+ * a shorter time when it waits again. A thread that waits on a condition sleeps immediately, without polling. If a
+ * process could use only one processor when one of its threads waited for the first time, every waiting thread of the
+ * process sleeps immediately, without polling. A thread that is woken before its turn yields the processor once.
  *
- * If a thread tries to enter a barging lock that is not free, it spins: it looks at the lock six more times within 10
- * us. The spinning thread pauses for 200 ns before the first of these looks. Each later pause is twice as long as the
- * pause before it, but at most 4 us. The spinning thread yields the processor before each look at the lock except the
- * first. A call whose timeout has expired does not spin, and qolb_lock_try never spins.
+ * If a barging lock is not free when a thread tries to enter it, the thread spins, which means that it looks at the
+ * lock six more times within 10 us. The spinning thread pauses for 200 ns before the first of these six looks. Each
+ * later pause is twice as long as the previous pause, but at most 4 us. The spinning thread yields the processor before
+ * each of the six looks except the first. A call whose timeout has expired does not spin, and qolb_lock_try never
+ * spins.
  *
  * If other programs compete for the processors, a yield can take as long as a time slice. After several yields that
  * each took at least a millisecond, no thread of the process yields during the next quarter of a second.
@@ -292,8 +293,8 @@
  * - Calls return an enum qolb_result. A call that enters a lock successfully returns QOLB_GRANTED, which is 1 and not
  *   0. Use qolb_ok to check whether a call succeeded.
  * - A timeout is a duration, and not an absolute time, except in qolb_lock_enter_until.
- * - The compiler warns if a program ignores the result of a call that opens or enters a lock or waits on a condition
- *   (warn_unused_result).
+ * - The compiler warns if a program ignores the result of a call that opens a lock, enters a lock, or waits on a
+ *   condition (warn_unused_result).
  * - There is no priority inheritance.
  * - If a thread enters a lock that it already holds, the call returns QOLB_MISUSE. Locks are not recursive, not robust,
  *   and not shared between processes.
@@ -324,10 +325,10 @@
  *   qolb_lock_leave yet.
  * - Free the memory of a condition only while no thread is in a call on this condition.
  * - Do not call the library in a signal handler, or in the forked child of a process with several threads.
- * - All threads that use a lock must use the same loaded copy of the library. Do not mix a copy that is linked
- *   statically into a program with another copy in a shared library that the program opens at run time. A plugin that
- *   contains the static library should stay loaded, because glibc has room for the thread-local data of only two such
- *   plugins, and does not always reclaim this room when a plugin is unloaded.
+ * - All threads that use a lock must use the same loaded copy of the library. If one copy of the library is linked
+ *   statically into a program, the program must not also use another copy in a shared library that it opens at run
+ *   time. A plugin that contains the static library should stay loaded, because glibc has room for the thread-local
+ *   data of only two such plugins, and does not always reclaim this room when a plugin is unloaded.
  *
  * A call that the lock does not allow returns QOLB_MISUSE and changes nothing, unless the call breaks one of the rules
  * for callers.
@@ -462,7 +463,7 @@
  *
  * Each of qolb_enqolb, qolb_poll, qolb_withdraw, qolb_prepend, qolb_link, qolb_deqolb and qolb_shut takes a bounded
  * number of atomic steps in the proved part of the library, whatever other threads do. On a line of N nodes, a release
- * takes at most 2N - 1 such steps in a ticket line, 3N - 1 in a ring, and 4N - 3 in a link line.
+ * takes at most 2N - 1 atomic steps in a ticket line, 3N - 1 in a ring, and 4N - 3 in a link line.
  *
  * ==== qolb_task(3): event loops, which are notified and never wait ====
  *
@@ -514,21 +515,20 @@
  *   or the task.
  * - A notification may come too early, while the request still waits. In this case, call qolb_notify again, which polls
  *   and requests another notification in one step.
- * - Poll after a notification, because all requests behind the notified one wait for this poll. Poll even after a shut,
- *   because each waiter is told of the shut only once the waiter ahead of it has polled.
+ * - Poll after a notification, because all requests behind the notified request wait for this poll. Poll even after a
+ *   shut, because each waiter is told of the shut only once the waiter ahead of it has polled.
  * - A notification may come too late: it may still be made after qolb_poll has returned QOLB_GRANTED, until
  *   qolb_notify_off is called. The object that `arg` points to must exist until qolb_notify_off is called.
  * - For a task, the object that `arg` points to must exist until qolb_task_poll returns QOLB_GRANTED or QOLB_CLOSED, or
  *   until qolb_task_cancel returns. After that, no notification is made for the task.
- * - Open an eventfd with EFD_NONBLOCK, because otherwise the releasing thread waits if the count of the eventfd is at
- *   its maximum. Before you close the eventfd of a node, call qolb_notify_off. Before you close the eventfd of a task,
- *   call qolb_task_cancel, or make sure that the task has had its turn. The eventfd may be readable even after that.
- *   After a fork, a release in the child also writes to the parent's eventfd.
+ * - Open an eventfd with EFD_NONBLOCK, because otherwise the releasing thread blocks while the count of the eventfd is
+ *   at its maximum. Before you close the eventfd of a node, call qolb_notify_off. Before you close the eventfd of a
+ *   task, call qolb_task_cancel, or make sure that the task has had its turn. The eventfd may be readable even after
+ *   that. After a fork, a release in the child also writes to the parent's eventfd.
  *
  * TASKS
  *
- * - Every call by which a thread or a task enters, leaves, gives up or destroys a lock may make notifications for
- *   tasks.
+ * - Every call that enters, leaves or destroys a lock, or that gives up a request, may make notifications for tasks.
  * - While the first waiter of a barging lock is a task, no barging thread takes the lock when the holder leaves it.
  * - No call for a task waits for the task's turn. If a task would have to wait, the call returns QOLB_NO_MEMORY when
  *   memory is short, or when more than about 12,280 requests for the lock are open. The request of a task that gave up
@@ -567,7 +567,7 @@
  * together. */
 #define QOLB_NODE_ALIGN 128
 
-/* The lease of a line that does not close after any number of acquisitions. */
+/* The lease of a line that stays open after any number of acquisitions. */
 #define QOLB_NO_LEASE UINT64_MAX
 
 /* Marks calls whose result must be used: a caller that ignores the result cannot know who holds the lock or the line.
@@ -594,7 +594,8 @@
 extern "C" {
 #endif
 
-/* A handle, by which a C program refers to a node. A handle of zeros is empty, which means that it has no node. */
+/* A handle, by which a C program refers to a node. A handle whose bytes are all zero is empty, which means that it has
+ * no node. */
 typedef struct qolb_node {
     void *own;
 } qolb_node;
@@ -612,7 +613,7 @@ enum qolb_kind { QOLB_RING = 0, QOLB_LINK = 1, QOLB_TICKET = 2, QOLB_DEFAULT = Q
 
 /* The results of calls (RETURN VALUE). */
 enum qolb_result {
-    QOLB_DONE = 0,       /* the call did what it says */
+    QOLB_DONE = 0,       /* the call did what was asked */
     QOLB_GRANTED = 1,    /* the calling thread or the task holds the lock, or the node holds the line */
     QOLB_QUEUED = 2,     /* the node's request waits in the queue: poll with qolb_poll or qolb_spin */
     QOLB_WAITING = 3,    /* the request of the node or task still waits */
@@ -854,12 +855,12 @@ enum qolb_result qolb_notify_fd(qolb_node *node, int fd) QOLB_LOOK;
 
 /* Cancels the notification that the node has requested. The node's request for the line stays open.
  *
- * If another thread is just making the notification, the call waits until the function has returned or has called
- * qolb_notify_done.
+ * If another thread is making the notification during the call, the call waits until the function has returned or has
+ * called qolb_notify_done.
  *
  * Returns:
  * - QOLB_WITHDRAWN: The notification will not be made.
- * - QOLB_DONE: No notification was requested, or it has been made.
+ * - QOLB_DONE: No notification was requested, or the notification has already been made.
  * - QOLB_MISUSE: The handle is empty. */
 enum qolb_result qolb_notify_off(qolb_node *node);
 
@@ -944,7 +945,7 @@ enum qolb_result qolb_lock_enter(qolb_lock *lock) QOLB_LOOK;
  * - QOLB_CLOSED: The lock is shut. */
 enum qolb_result qolb_lock_try(qolb_lock *lock) QOLB_LOOK;
 
-/* Enters the lock, waiting for at most `nanoseconds` if necessary.
+/* Enters the lock, waiting if necessary, but for at most `nanoseconds`.
  *
  * The timeout starts at the beginning of the call. If `nanoseconds` is UINT64_MAX, there is no timeout (see TIMEOUTS).
  * If `nanoseconds` is 0, the call enters the lock only if the lock is free.
@@ -956,7 +957,7 @@ enum qolb_result qolb_lock_try(qolb_lock *lock) QOLB_LOOK;
  * - QOLB_MISUSE: The calling thread already holds the lock, so the call returns at once. */
 enum qolb_result qolb_lock_enter_within(qolb_lock *lock, uint64_t nanoseconds) QOLB_LOOK;
 
-/* Enters the lock, waiting at most until `time` if necessary.
+/* Enters the lock, waiting if necessary, but at most until `time`.
  *
  * `time` is an absolute time in nanoseconds, measured on CLOCK_MONOTONIC. If `time` is UINT64_MAX, there is no timeout
  * (see TIMEOUTS).
@@ -992,8 +993,8 @@ enum qolb_result qolb_lock_shut(qolb_lock *lock);
 /* Destroys the lock, so that its memory may be freed.
  *
  * A destroyed lock is again in the state that its initialiser gave it. The next use of a destroyed lock opens the lock
- * again, with the same barging limit and not shut. The last thread to be granted a lock may leave and then destroy the
- * lock, even if an earlier holder has not returned from qolb_lock_leave yet.
+ * again. The reopened lock has the same barging limit as before, and is not shut. The last thread to be granted a lock
+ * may leave and then destroy the lock, even if an earlier holder has not returned from qolb_lock_leave yet.
  *
  * Returns:
  * - QOLB_DONE: The lock is destroyed, or was not open.
@@ -1072,7 +1073,7 @@ typedef struct qolb_task {
  * - QOLB_GRANTED: The task holds the lock, and no notification will be made.
  * - QOLB_WAITING: The task waits, and the notification will be made.
  * - QOLB_CLOSED: The lock is shut.
- * - QOLB_MISUSE: The task already waits or holds a lock, or `call` is null.
+ * - QOLB_MISUSE: The task already waits for a lock or holds a lock, or `call` is null.
  * - QOLB_NO_MEMORY: The task would have to wait, and memory is short or too many requests of the lock are open (TASKS).
  */
 enum qolb_result qolb_task_enter(qolb_task *task, qolb_lock *lock, void (*call)(void *arg), void *arg) QOLB_LOOK;
@@ -1083,7 +1084,7 @@ enum qolb_result qolb_task_enter(qolb_task *task, qolb_lock *lock, void (*call)(
  * - QOLB_GRANTED: The task holds the lock, and nothing will be added.
  * - QOLB_WAITING: The task waits, and 1 will be added.
  * - QOLB_CLOSED: The lock is shut.
- * - QOLB_MISUSE: The task already waits or holds a lock, or `fd` is negative.
+ * - QOLB_MISUSE: The task already waits for a lock or holds a lock, or `fd` is negative.
  * - QOLB_NO_MEMORY: The task would have to wait, and memory is short or too many requests of the lock are open
  *   (TASKS). */
 enum qolb_result qolb_task_enter_fd(qolb_task *task, qolb_lock *lock, int fd) QOLB_LOOK;
@@ -1092,12 +1093,13 @@ enum qolb_result qolb_task_enter_fd(qolb_task *task, qolb_lock *lock, int fd) QO
  *
  * Returns:
  * - QOLB_GRANTED: The task holds the lock.
- * - QOLB_WAITING: The task still waits. The notification will be made, and made again if it was too early.
+ * - QOLB_WAITING: The task still waits. The notification will be made. If a notification was made too early, it will be
+ *   made again.
  * - QOLB_CLOSED: The lock is shut, and the task's request has ended.
  * - QOLB_MISUSE: The task does not wait. */
 enum qolb_result qolb_task_poll(qolb_task *task) QOLB_LOOK;
 
-/* Gives up the request of a task that waits. No notification is made after the call.
+/* Gives up the request of a waiting task. No notification is made for the task after the call.
  *
  * If the task's turn had already come, the call also leaves the lock for the task.
  *
@@ -1112,14 +1114,14 @@ enum qolb_result qolb_task_cancel(qolb_task *task);
  *
  * Returns:
  * - QOLB_DONE: The task has left the lock.
- * - QOLB_MISUSE: The task holds no lock, or has not been told that it does. */
+ * - QOLB_MISUSE: The task holds no lock, or has not been told that it holds the lock. */
 enum qolb_result qolb_task_leave(qolb_task *task);
 
 /* Leaves the lock for a task, and shuts it as qolb_lock_shut does.
  *
  * Returns:
  * - QOLB_DONE: The lock is shut, and the task has left it.
- * - QOLB_MISUSE: The task holds no lock, or has not been told that it does. */
+ * - QOLB_MISUSE: The task holds no lock, or has not been told that it holds the lock. */
 enum qolb_result qolb_task_shut(qolb_task *task);
 
 /* Checks whether the task holds a lock and has been told so.
@@ -1305,7 +1307,7 @@ QOLB_LOOK static inline enum qolb_result qolb_try(qolb_node *node) {
     return got == QOLB_WITHDRAWN ? QOLB_BUSY : got;
 }
 
-/* Checks whether a call succeeded, by its result.
+/* Checks whether the result of a call means that the call succeeded.
  *
  * Returns 1 for QOLB_DONE, QOLB_GRANTED and QOLB_WITHDRAWN, and 0 for all other results. */
 static inline int qolb_ok(uint32_t result) {
