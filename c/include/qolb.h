@@ -116,7 +116,7 @@
  *
  * The proofs about a line show that the line has at most one holder, that its requests end in the order in which they
  * were made, and which bytes each holder receives. The C code that waits for a line and notifies the nodes of the line
- * is tested. The C code was also model-checked in small scenarios, with a model in place of the line.
+ * is tested. The same C code was also model-checked in small scenarios, with a model in place of the line.
  *
  * SANITIZERS AND DEBUGGERS
  *
@@ -205,13 +205,13 @@
  *
  * A barging lock becomes free when its holder leaves, even if other threads wait for the lock. A free barging lock goes
  * to the next thread that tries to take it, which may be a newly arrived thread without a ticket. A thread that takes
- * the lock without a ticket is called a barging thread. If a barging lock is not free when a thread tries to enter it,
- * the thread first spins for a few microseconds. While the thread spins, it may still take the lock without a ticket.
- * If the thread does not get the lock while it spins, it draws a ticket and waits. Threads that wait with a ticket are
- * served in the order of their tickets. If p requests are ahead of a thread when it draws its ticket, barging threads
- * overtake the thread at most (p+1)*(limit-1) times, where `limit` is the lock's barging limit. This bound on
- * overtaking counts all acquisitions by barging threads, including acquisitions by qolb_lock_try and acquisitions at
- * the end of a wait on a condition.
+ * the lock without a ticket is called a barging thread. If a barging lock is not free when a thread tries to enter the
+ * lock, the thread first spins for a few microseconds. While the thread spins, it may still take the lock without a
+ * ticket. If the thread does not get the lock while it spins, it draws a ticket and waits. Threads that wait with a
+ * ticket are served in the order of their tickets. If p requests are ahead of a thread when it draws its ticket,
+ * barging threads overtake the thread at most (p+1)*(limit-1) times, where `limit` is the lock's barging limit. This
+ * bound on overtaking counts all acquisitions by barging threads, including acquisitions by qolb_lock_try and
+ * acquisitions at the end of a wait on a condition.
  *
  * Usually barging threads overtake a waiting thread less often than the barging limit allows, because the first waiter
  * requests a handoff. The first waiter requests a handoff once two conditions hold: a barging thread has overtaken the
@@ -265,8 +265,8 @@
  * process could use only one processor when one of its threads waited for the first time, every waiting thread of the
  * process sleeps immediately, without polling. A thread that is woken before its turn yields the processor once.
  *
- * If a barging lock is not free when a thread tries to enter it, the thread spins, which means that it looks at the
- * lock six more times within 10 us. The spinning thread pauses for 200 ns before the first of these six looks. Each
+ * If a barging lock is not free when a thread tries to enter the lock, the thread spins, which means that it looks at
+ * the lock six more times within 10 us. The spinning thread pauses for 200 ns before the first of these six looks. Each
  * later pause is twice as long as the previous pause, but at most 4 us. The spinning thread yields the processor before
  * each of the six looks except the first. A call whose timeout has expired does not spin, and qolb_lock_try never
  * spins.
@@ -290,7 +290,7 @@
  *
  * A qolb_lock differs from a pthread_mutex_t, and a qolb_cond differs from a pthread_cond_t, in the following ways:
  *
- * - Calls return an enum qolb_result. A call that enters a lock successfully returns QOLB_GRANTED, which is 1 and not
+ * - Calls return an enum qolb_result. A call that succeeds in entering a lock returns QOLB_GRANTED, which is 1 and not
  *   0. Use qolb_ok to check whether a call succeeded.
  * - A timeout is a duration, and not an absolute time, except in qolb_lock_enter_until.
  * - The compiler warns if a program ignores the result of a call that opens a lock, enters a lock, or waits on a
@@ -322,7 +322,7 @@
  * - Destroy a lock only if no thread is about to use it.
  * - Free the memory of a lock only once the lock is destroyed, or once nobody holds the lock, waits for it or is about
  *   to use it. You may free the memory of a lock even if a thread that has left the lock has not returned from
- *   qolb_lock_leave yet.
+ *   qolb_lock_leave or qolb_lock_shut yet.
  * - Free the memory of a condition only while no thread is in a call on this condition.
  * - Do not call the library in a signal handler, or in the forked child of a process with several threads.
  * - All threads that use a lock must use the same loaded copy of the library. If one copy of the library is linked
@@ -408,8 +408,8 @@
  * - Do not pass a null pointer, a pointer to freed memory, or two arguments that overlap in memory.
  * - Make only one call at a time for a handle. Different threads may make calls for different handles at the same time,
  *   even for handles of the same line.
- * - Hand a handle over to another thread under a lock, by starting or joining a thread, or through a sequentially
- *   consistent atomic variable.
+ * - Pass a handle to another thread under a lock, by starting or joining a thread, or through a sequentially consistent
+ *   atomic variable.
  * - The malloc, realloc and free of the program must belong to the same allocator, which must align memory as the C
  *   standard requires.
  * - qolb_lock(3) lists the rules for signal handlers, for forks, and for several copies of the library.
@@ -462,8 +462,8 @@
  * become slower. Keep such data QOLB_NODE_ALIGN bytes away from handles.
  *
  * Each of qolb_enqolb, qolb_poll, qolb_withdraw, qolb_prepend, qolb_link, qolb_deqolb and qolb_shut takes a bounded
- * number of atomic steps in the proved part of the library, whatever other threads do. On a line of N nodes, a release
- * takes at most 2N - 1 atomic steps in a ticket line, 3N - 1 in a ring, and 4N - 3 in a link line.
+ * number of atomic steps in the proved part of the library, whatever other threads do. On a line of N nodes, the proved
+ * part of a release takes at most 2N - 1 atomic steps in a ticket line, 3N - 1 in a ring, and 4N - 3 in a link line.
  *
  * ==== qolb_task(3): event loops, which are notified and never wait ====
  *
@@ -531,8 +531,8 @@
  * - Every call that enters, leaves or destroys a lock, or that gives up a request, may make notifications for tasks.
  * - While the first waiter of a barging lock is a task, no barging thread takes the lock when the holder leaves it.
  * - No call for a task waits for the task's turn. If a task would have to wait, the call returns QOLB_NO_MEMORY when
- *   memory is short, or when more than about 12,280 requests for the lock are open. The request of a task that gave up
- *   stays open until the critical section ahead of this request has ended. Therefore, while one thread holds a strict
+ *   memory is short, or when more than about 12,280 requests for the lock are open. If a task gives up its request, the
+ *   request stays open until the critical section ahead of it has ended. Therefore, while one thread holds a strict
  *   lock, tasks can enter and cancel at most about 12,280 times.
  * - If a task holds a lock, the thread that works for the task does not hold the lock. If this thread calls
  *   qolb_lock_enter, the call waits, and it waits for ever if the same thread would have to leave the lock for the
@@ -746,7 +746,7 @@ enum qolb_result qolb_settle_node(qolb_node *node);
  * - QOLB_MISUSE: The node is not in the state QOLB_STATE_QUEUED. */
 enum qolb_result qolb_withdraw(qolb_node *node) QOLB_LOOK;
 
-/* Makes the first half of a request for a link line, by which the node takes a place in the queue.
+/* Makes the first half of a request for a link line, and thereby gives the node a place in the queue.
  *
  * Until qolb_link has made the second half, the line stays with the node's predecessor, even after the predecessor has
  * released it. The call does not wait.
@@ -759,7 +759,7 @@ enum qolb_result qolb_withdraw(qolb_node *node) QOLB_LOOK;
  * - QOLB_MISUSE: The handle is empty, the line is of another kind, or the node has already requested the line. */
 enum qolb_result qolb_prepend(qolb_node *node) QOLB_LOOK;
 
-/* Makes the second half of a request for a link line, which tells the node's predecessor that this node is its
+/* Makes the second half of a request for a link line, and thereby tells the node's predecessor that this node is the
  * successor.
  *
  * The call does not wait.
@@ -785,21 +785,21 @@ enum qolb_result qolb_read(qolb_node *node, qolb_bytes *out);
  * - QOLB_MISUSE: The node does not hold the line. */
 enum qolb_result qolb_write(qolb_node *node, uint64_t mask, const qolb_bytes *bytes);
 
-/* Reads lane number `lane` of the line (0 to 7) into `out`.
+/* Reads lane number `lane` (0 to 7) of the line into `out`.
  *
  * Returns:
  * - QOLB_DONE: The number is in `out`.
  * - QOLB_MISUSE: The node does not hold the line, or `lane` is above 7. `out` is unchanged. */
 enum qolb_result qolb_read_lane(qolb_node *node, uint64_t lane, uint64_t *out);
 
-/* Writes `value` to lane number `lane` of the line (0 to 7).
+/* Writes `value` to lane number `lane` (0 to 7) of the line.
  *
  * Returns:
  * - QOLB_DONE: The number is written.
  * - QOLB_MISUSE: The node does not hold the line, or `lane` is above 7. */
 enum qolb_result qolb_write_lane(qolb_node *node, uint64_t lane, uint64_t value);
 
-/* Adds `by` to lane number `lane` of the line (0 to 7), modulo 2^64, and writes the old value of the lane to `was`.
+/* Adds `by`, modulo 2^64, to lane number `lane` (0 to 7) of the line, and writes the old value of the lane to `was`.
  *
  * Returns:
  * - QOLB_DONE: The addition is made.
@@ -1054,8 +1054,8 @@ enum qolb_result qolb_cond_broadcast(qolb_cond *cond);
 
 /* clang-format off */
 
-/* A task, which can enter locks, and its initialiser. Do not move a task while it waits. A program must not read or
- * change the contents of a task. */
+/* The type of a task, which can enter locks, and the initialiser of a task. Do not move a task while it waits. A
+ * program must not read or change the contents of a task. */
 typedef struct qolb_task {
     void *own[16];
 } qolb_task;
