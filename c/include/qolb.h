@@ -927,7 +927,7 @@ enum qolb_result qolb_lock_open(qolb_lock *lock, uint64_t limit) QOLB_LOOK;
 
 /* Enters the lock, waiting if necessary.
  *
- * A thread that has to wait first spins and then sleeps (see WAITING).
+ * If a thread has to wait, it first spins and then sleeps (see WAITING).
  *
  * Returns:
  * - QOLB_GRANTED: The calling thread holds the lock.
