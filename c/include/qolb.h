@@ -3,8 +3,8 @@
  * The library provides three kinds of objects:
  *
  * - A lock (qolb_lock) protects data of any size for any number of threads, as a mutex does. See qolb_lock(3).
- * - A line is a lock that hands over 64 bytes together with the lock. Its users, of which there are 1 to 200, are
- *   called nodes (qolb_node). See qolb_node(3).
+ * - A line is a lock that hands over 64 bytes together with the lock. A line has 1 to 200 users, which are called nodes
+ *   (qolb_node). See qolb_node(3).
  * - A task (qolb_task) enters a lock for an event loop, which must not wait. See qolb_task(3).
  *
  * Either of these commands compiles and links a program:
@@ -32,7 +32,7 @@
  * RETURN VALUE
  *
  * Most calls return an enum qolb_result. The table lists the results that each call may return, without the prefix
- * QOLB_. The manual page of a call states when the call returns which result.
+ * QOLB_. The manual page of a call explains when the call returns each of its results.
  *
  *     call                          may return
  *     qolb_lock_open                DONE OCCUPIED
@@ -86,7 +86,7 @@
  *
  * ERRORS
  *
- * All other results are errors. A call that returns one of them has changed nothing.
+ * All other results are errors. A call that returns an error has changed nothing.
  *
  * - QOLB_MISUSE means that the program has an error: the lock, node or task does not allow the call.
  * - QOLB_NO_MEMORY means that the library could not allocate memory, or that a lock has too many open requests.
@@ -95,44 +95,45 @@
  *
  * PROOFS
  *
- * The proofs about a lock cover its core, the part that decides which thread is next:
+ * The proofs about a lock cover only its core, which is the part that decides which thread gets the lock next:
  *
  * - The core has at most one holder.
  * - The core serves tickets in order. A ticket is a number that a thread draws when it enters the lock. In a barging
  *   lock, a thread draws a ticket only if it has to wait.
- * - With a barging limit of B, the core counts at most B - 1 acquisitions of barging threads, which enter without a
- *   ticket, between two consecutive grants to waiting threads.
+ * - With a barging limit of B, the core counts at most B - 1 acquisitions by barging threads (threads without a ticket)
+ *   between two consecutive grants to waiting threads.
  * - The core tells a leaving thread whether the next waiter has announced that it is about to sleep. In a barging lock,
  *   this guarantee covers only announcements that were made while the leaving thread held the lock.
  *
  * The code around the core is written in C and, for qolb.hpp, in C++. This code implements waiting, waking, timeouts,
- * conditions and tasks. It is tested, but not proved. The C code was also model-checked, at the commit that
- * docs/PROVED.md names, in small scenarios: two or three threads, at most one context switch, and a C stand-in for the
- * core.
+ * conditions and tasks. The code around the core is tested, but not proved. The C code was also model-checked, at the
+ * commit that docs/PROVED.md names, in small scenarios: two or three threads, at most one context switch, and a C
+ * stand-in for the core.
  *
- * Two claims about locks are argued, but not proved. The first is the bound on how many critical sections of barging
- * threads come before one waiter. The second is that a holder sees what earlier holders wrote. No proof covers the data
- * that a lock protects, and no proof shows that a waiting thread is ever granted the lock.
+ * Two claims about locks are argued, but not proved. The first claim is the bound on the number of times that barging
+ * threads overtake one waiter. The second claim is that a holder sees what earlier holders wrote. No proof covers the
+ * data that a lock protects, and no proof shows that a waiting thread is ever granted the lock.
  *
  * The proofs about a line show that the line has at most one holder, that its requests end in the order in which they
- * were made, and which bytes each holder receives. The C code that waits for a line and notifies its nodes is tested.
- * This code was also model-checked in small scenarios, with a model of the line.
+ * were made, and which bytes each holder receives. The C code that waits for a line and notifies the nodes of the line
+ * is tested. The same C code was also model-checked in small scenarios, with a model in place of the line.
  *
  * SANITIZERS AND DEBUGGERS
  *
  * The header tells the thread sanitizer (-fsanitize=thread) about each grant and each release. The sanitizer regards
- * every lock as a separate object. It regards lines that have the same label as one object, and also some lines that
- * have different labels. Therefore the sanitizer may miss a race between such lines.
+ * every lock as a separate object. The sanitizer regards all lines with the same label as one object, and may also
+ * regard lines with different labels as one object. Therefore the sanitizer may miss a race between lines that it
+ * regards as one object.
  *
  * If source files are compiled with -DQOLB_HELGRIND or -DQOLB_DRD, the header tells helgrind or drd, two tools of
  * valgrind, about grants and releases. Make these tools suppress reports about the library's own accesses to memory:
  * valgrind --tool=helgrind --suppressions=PREFIX/share/qolb/valgrind.supp.
  *
- * The proved part of the library has no unwind tables, so a backtrace that begins there may be incomplete.
+ * The proved part of the library has no unwind tables, so a backtrace that begins in the proved part may be incomplete.
  *
- * In a stopped program or in a core dump, gdb can show which thread holds a lock. For this, enter `source
- * PREFIX/share/qolb/qolb.gdb` and then `qolb-holder &lock`. The file that contains the library must not be stripped,
- * because gdb needs the library's symbols.
+ * In a stopped program or in a core dump, gdb can show which thread holds a lock. To see the holder of `lock`, enter
+ * `source PREFIX/share/qolb/qolb.gdb` and then `qolb-holder &lock`. The file that contains the library must not be
+ * stripped, because gdb needs the library's symbols.
  *
  * If the library was built with <sys/sdt.h>, it contains probes with which bpftrace, perf and gdb can trace where a
  * thread waits. The provider of these probes is qolb, and their names are wait, sleep, wake, granted, withdrawn and
@@ -142,10 +143,10 @@
  *
  * PROCESSOR
  *
- * The library requires Linux on x86-64, and the instructions of x86-64-v2 (among them SSE4.2 and POPCNT), which
- * processors have had since 2009. On an older processor the first call that needs one of these instructions ends the
- * program with SIGILL. A program that may run on such a processor can check beforehand that
- * __builtin_cpu_supports("sse4.2") && __builtin_cpu_supports("popcnt").
+ * The library requires Linux on x86-64, and a processor with the instructions of x86-64-v2 (among them SSE4.2 and
+ * POPCNT). Processors have had these instructions since 2009. On an older processor the first call that needs one of
+ * these instructions ends the program with SIGILL. A program that may run on such a processor can check for the
+ * instructions beforehand, with the expression __builtin_cpu_supports("sse4.2") && __builtin_cpu_supports("popcnt").
  *
  * ==== qolb_lock(3): locks for any number of threads, with conditions ====
  *
@@ -153,8 +154,8 @@
  * memory of a lock, for example in the struct that the lock protects. The address of a lock must be a multiple of 16
  * bytes. A program need not destroy a lock before it frees the lock's memory.
  *
- * The functions on this page do not allocate memory, with one exception: a call with a timeout allocates memory while
- * more than 60 requests are ahead of its own request. No function on this page returns QOLB_NO_MEMORY.
+ * The functions on this page do not allocate memory, with one exception: a call with a timeout allocates memory if more
+ * than 60 requests are ahead of its own request. No function on this page returns QOLB_NO_MEMORY.
  *
  * INITIALISERS
  *
@@ -199,76 +200,79 @@
  *
  * ORDER AND BARGING
  *
- * A thread that enters a strict lock draws a ticket with one atomic step, and the lock serves tickets in order. In a
- * strict lock, no call that begins after a thread has drawn its ticket is served before that thread.
+ * A thread that enters a strict lock draws a ticket with one atomic step, and the lock serves tickets in order. Once a
+ * thread has drawn a ticket for a strict lock, no call that begins later is served before this thread.
  *
  * A barging lock becomes free when its holder leaves, even if other threads wait for the lock. A free barging lock goes
  * to the next thread that tries to take it, which may be a newly arrived thread without a ticket. A thread that takes
- * the lock without a ticket is called a barging thread. A thread that finds a barging lock taken first spins for a few
- * microseconds, and during that time it may still take the lock without a ticket. If the thread does not get the lock
- * while it spins, it draws a ticket and waits. Threads that wait with a ticket are served in the order of their
- * tickets. After a thread has drawn a ticket with p requests ahead of it, barging threads overtake the thread at most
- * (p+1)*(limit-1) times, where `limit` is the lock's barging limit. This bound on overtaking counts all acquisitions by
- * barging threads, including those by qolb_lock_try and those at the end of a wait on a condition.
+ * the lock without a ticket is called a barging thread. If a barging lock is not free when a thread tries to enter the
+ * lock, the thread first spins for a few microseconds. While the thread spins, it may still take the lock without a
+ * ticket. If the thread does not get the lock while it spins, it draws a ticket and waits. Threads that wait with a
+ * ticket are served in the order of their tickets. If p requests are ahead of a thread when it draws its ticket,
+ * barging threads overtake the thread at most (p+1)*(limit-1) times, where `limit` is the lock's barging limit. This
+ * bound on overtaking counts all acquisitions by barging threads, including acquisitions by qolb_lock_try and
+ * acquisitions at the end of a wait on a condition.
  *
  * Usually barging threads overtake a waiting thread less often than the barging limit allows, because the first waiter
- * requests a handoff. The first waiter requests a handoff once a barging thread has overtaken it and the waiter has
- * found the lock taken for 2 us. A sleeping first waiter requests a handoff 1 ms after it fell asleep. After a request
- * for a handoff, the next thread that leaves the lock hands the lock over to the first waiter. A barging limit above
- * 65,535 counts as 65,535. A lock with a barging limit of 0 or 1 is strict.
+ * requests a handoff. The first waiter requests a handoff once two conditions hold: a barging thread has overtaken the
+ * waiter, and the waiter has found the lock taken for 2 us. A first waiter that is asleep requests a handoff 1 ms after
+ * it fell asleep. After a request for a handoff, the next thread to leave the lock hands the lock over to the first
+ * waiter. A barging limit above 65,535 counts as 65,535. A lock with a barging limit of 0 or 1 is strict.
  *
  * Use a barging lock with a limit of 1,024 where you would use a mutex. Use a strict lock if threads must be served in
- * the order in which they asked, or if the longest wait matters more than throughput.
+ * the order in which they requested the lock, or if the longest wait matters more than throughput.
  *
  * TIMEOUTS
  *
  * A timeout is a duration in nanoseconds, counted from the beginning of the call. UINT64_MAX means that there is no
  * timeout. Only qolb_lock_enter_until takes an absolute time, measured on CLOCK_MONOTONIC. To bound the total time of a
- * loop of waits, pass each wait the time that remains.
+ * loop of waits, pass the remaining time to each wait.
  *
  * A thread that times out abandons its ticket, but the ticket still counts as an open request until a holder skips it.
- * If more than 60 requests are ahead of the ticket of a thread that times out, the thread allocates memory in order to
- * abandon the ticket. A timed-out thread that cannot allocate memory continues to wait until fewer requests are ahead
- * of its ticket. While a lock has more than about 12,280 open requests, a call with a timeout draws no ticket, so other
- * threads may overtake the calling thread. A call that enters a barging lock polls for 10 us before it joins the queue,
- * so a call that times out within these 10 us has kept no place in the queue.
+ * A thread that times out while more than 60 requests are ahead of its ticket needs memory in order to abandon the
+ * ticket. If the thread cannot allocate this memory, it continues to wait until fewer requests are ahead of its ticket.
+ * While a lock has more than about 12,280 open requests, a call with a timeout draws no ticket, so other threads may
+ * overtake the calling thread. A call that enters a barging lock polls for 10 us before it joins the queue, so a call
+ * that times out within these 10 us has never had a place in the queue.
  *
  * FORK
  *
- * A lock belongs to one process, and so does a line (qolb_node(3)). After a fork, parent and child have separate copies
- * of each lock and line, and these copies protect nothing that the two processes share. The forked child of a process
- * with one thread may continue to use its copies of the locks and lines.
+ * A lock belongs to one process, and so does a line (qolb_node(3)). After a fork, the parent and the child have
+ * separate copies of each lock and line, and these copies protect nothing that the two processes share. The forked
+ * child of a process with one thread may continue to use its copies of the locks and lines.
  *
  * WAITING
  *
  * A thread that has drawn a ticket polls before it sleeps. The first thread in the queue polls the lock every 90 ns. A
  * thread farther back in the queue pauses longer between two polls: 150 ns longer for each waiter ahead of it. Once a
- * thread has seen how long a handoff takes, the pause per waiter is three quarters of this time instead of 150 ns, but
- * at most 500 ns. How long a thread polls before it sleeps depends on the number of threads ahead of it, and on the
- * number of processors that the process may use:
+ * thread has seen how long a handoff takes, it adds three quarters of this time (but at most 500 ns) for each waiter
+ * ahead of it, instead of 150 ns. How long a thread polls before it sleeps depends on the number of threads ahead of
+ * it, and on the number of processors that the process may use:
  *
- * - A thread with fewer threads ahead of it than there are processors polls for 50 us or for 1 us per thread ahead of
- *   it, whichever is longer.
- * - If the number of threads ahead is at least the number of processors, but less than twice that number, a thread
+ * - If the number of threads ahead is less than the number of processors, the thread polls for 50 us, or for 1 us per
+ *   thread ahead, whichever is longer.
+ * - If the number of threads ahead is at least the number of processors, but less than twice that number, the thread
  *   polls for 50 us in a strict lock, and for 2 us in the queue of a barging lock.
- * - A thread with at least twice as many threads ahead of it as there are processors polls for 2 us.
+ * - If the number of threads ahead is at least twice the number of processors, the thread polls for 2 us.
  *
- * A waiter of a strict lock may yield the processor before each poll instead of pausing. A waiter yields once it has
- * seen as many threads ahead of it as there are processors, and only while fewer than twice that number are ahead of
- * it. Each yield counts as 500 ns of polling, so a thread yields at most a hundred times before it sleeps.
+ * A waiter of a strict lock may yield the processor before each poll instead of pausing. A waiter yields only if the
+ * number of threads ahead of it was at least the number of processors at some time during the wait, and is now less
+ * than twice the number of processors. Each yield counts as 500 ns of polling, so a thread yields at most a hundred
+ * times before it sleeps.
  *
- * After polling, the thread sleeps on a futex until its turn has come. A thread that had to sleep polls for a shorter
- * time when it next waits. A thread that waits on a condition sleeps at once, without polling. In a process that could
- * use only one processor when one of its threads first waited, every waiting thread sleeps at once. A thread that is
- * woken before its turn yields the processor once.
+ * After polling, a waiting thread sleeps on a futex until its turn has come. If a thread had to sleep, it will poll for
+ * a shorter time when it waits again. A thread that waits on a condition sleeps immediately, without polling. If a
+ * process could use only one processor when one of its threads waited for the first time, every waiting thread of the
+ * process sleeps immediately, without polling. A thread that is woken before its turn yields the processor once.
  *
- * A thread that finds a barging lock taken looks at the lock six more times within 10 us. The spinning thread pauses
- * for 200 ns before the first look at the lock, and each further pause is twice as long as the one before, up to 4 us.
- * The spinning thread yields the processor before each of its looks at the lock except the first. A call whose timeout
- * has expired does not spin, and qolb_lock_try never spins.
+ * If a barging lock is not free when a thread tries to enter the lock, the thread spins, which means that it looks at
+ * the lock six more times within 10 us. The spinning thread pauses for 200 ns before the first of these six looks. Each
+ * later pause is twice as long as the previous pause, but at most 4 us. The spinning thread yields the processor before
+ * each of the six looks except the first. A call whose timeout has expired does not spin, and qolb_lock_try never
+ * spins.
  *
  * If other programs compete for the processors, a yield can take as long as a time slice. After several yields that
- * took a millisecond each, no thread of the process yields during the next quarter of a second.
+ * each took at least a millisecond, no thread of the process yields during the next quarter of a second.
  *
  * A thread that leaves a strict lock wakes the next holder, and a thread that leaves a barging lock wakes the first
  * waiter. If the leaving thread had to sleep before it was granted the lock, it may also wake the second waiter. A
@@ -276,7 +280,7 @@
  *
  * A strict lock always goes to the next thread in the queue. If the next thread in the queue is not running, all
  * threads behind it wait until it runs. Therefore, if the runnable threads of all programs together outnumber the
- * processors, short critical sections may take many times as long as with a barging lock.
+ * processors, short critical sections may take many times as long with a strict lock as with a barging lock.
  *
  * No call that waits is a cancellation point. If a thread is cancelled while it waits, it goes on waiting until it is
  * granted the lock or times out, and then ends at its next cancellation point. A thread that may be cancelled at any
@@ -286,13 +290,14 @@
  *
  * A qolb_lock differs from a pthread_mutex_t, and a qolb_cond differs from a pthread_cond_t, in the following ways:
  *
- * - Calls return an enum qolb_result. A call that enters a lock successfully returns QOLB_GRANTED, which is 1 and not
+ * - Calls return an enum qolb_result. A call that succeeds in entering a lock returns QOLB_GRANTED, which is 1 and not
  *   0. Use qolb_ok to check whether a call succeeded.
  * - A timeout is a duration, and not an absolute time, except in qolb_lock_enter_until.
- * - The compiler warns if a program ignores the result of a call that enters, opens or waits (warn_unused_result).
+ * - The compiler warns if a program ignores the result of a call that opens a lock, enters a lock, or waits on a
+ *   condition (warn_unused_result).
  * - There is no priority inheritance.
- * - If a thread enters a lock that it already holds, the call returns QOLB_MISUSE. No lock is recursive, robust, or
- *   shared between processes.
+ * - If a thread enters a lock that it already holds, the call returns QOLB_MISUSE. Locks are not recursive, not robust,
+ *   and not shared between processes.
  * - A lock can be shut, which takes it out of service.
  * - A wait on a condition has no spurious wake-ups.
  *
@@ -306,31 +311,32 @@
  *
  * - A qolb::Mutex is never poisoned. The method lock() of a qolb::Mutex may fail with Stopped::Closed or
  *   Stopped::Misuse.
- * - The first use of a qolb::Mutex allocates its lock on the heap, because a value in Rust may move.
+ * - The first use of a qolb::Mutex allocates its lock on the heap, because Rust may move a value to another address.
  *
  * RULES FOR CALLERS
  *
  * - Initialise a lock or a condition with an initialiser or with zeros. Do not move or copy a lock or a condition that
  *   has been used.
- * - A thread that entered a lock must leave it before the thread ends. If a thread ends while it holds a lock, the lock
- *   stays held, as a mutex does, and every other thread that enters the lock waits.
+ * - Before a thread ends, it must leave every lock that it holds. If a thread ends while it holds a lock, the lock
+ *   stays held, as a mutex does, and every other thread that tries to enter the lock waits.
  * - Destroy a lock only if no thread is about to use it.
- * - Free the memory of a lock only once the lock is destroyed, or once nobody holds it, waits for it or is about to use
- *   it. You may free the memory of a lock even if a thread that has left the lock is still in the call by which it
- *   left.
+ * - Free the memory of a lock only once the lock is destroyed, or once nobody holds the lock, waits for it or is about
+ *   to use it. You may free the memory of a lock even if a thread that has left the lock has not returned from
+ *   qolb_lock_leave or qolb_lock_shut yet.
  * - Free the memory of a condition only while no thread is in a call on this condition.
  * - Do not call the library in a signal handler, or in the forked child of a process with several threads.
- * - All threads that use a lock must use the same loaded copy of the library. Do not mix a copy that is linked
- *   statically into a program with another copy in a shared library that the program opens at run time. A plugin that
- *   contains the static library should stay open, because glibc has room for the thread-local data of only two such
- *   plugins and does not always get this room back.
+ * - All threads that use a lock must use the same loaded copy of the library. If one copy of the library is linked
+ *   statically into a program, the program must not also use another copy in a shared library that it opens at run
+ *   time. A plugin that contains the static library should stay loaded, because glibc has room for the thread-local
+ *   data of only two such plugins, and does not always reclaim this room when a plugin is unloaded.
  *
  * A call that the lock does not allow returns QOLB_MISUSE and changes nothing, unless the call breaks one of the rules
  * for callers.
  *
  * The next holder of a lock sees everything that a thread wrote before that thread left the lock. A thread whose call
- * returns QOLB_CLOSED also sees what earlier holders of the lock wrote before they left it. Align data that many
- * threads change to a multiple of 64 bytes, because data directly behind a lock may share the lock's last cache line.
+ * returns QOLB_CLOSED also sees what earlier holders of the lock wrote before they left it. If many threads change the
+ * same data, align the data to a multiple of 64 bytes, because data directly behind a lock may share the lock's last
+ * cache line.
  *
  * ==== qolb_node(3): nodes, which share the 64 bytes of a line ====
  *
@@ -366,13 +372,14 @@
  * WORDS
  *
  * node: A node is a user of a line. Each thread has its own node, and the nodes of a line are numbered from 1.
- * lane: A lane is one of the eight 64-bit numbers of a line. Lane k consists of bytes 8k to 8k + 7, the lowest byte
- *     first.
+ * lane: A lane is one of the eight 64-bit numbers of a line. Lane k consists of bytes 8k to 8k + 7, of which byte 8k is
+ *     the least significant.
  * lease: The lease is the number of acquisitions after which a line closes.
- * closed: A closed line serves no later request: every such request returns QOLB_CLOSED when its turn comes. A line is
- *     closed by qolb_shut, or when its lease is used up. The turns of the waiters come one after the other, each once
- *     the waiter before it has polled. Until the last one has polled, even a node that knows that the line is closed
- *     may get QOLB_QUEUED from qolb_enqolb, QOLB_BUSY from qolb_try, and QOLB_TIMEDOUT from qolb_acquire_within.
+ * closed: A closed line serves no more requests: every request returns QOLB_CLOSED when its turn comes. A line is
+ *     closed by qolb_shut, or when its lease is used up. The turns of the waiters come one after the other: the turn of
+ *     each waiter comes once the waiter ahead of it has polled. Until the last waiter has polled, even a node that
+ *     knows that the line is closed may get QOLB_QUEUED from qolb_enqolb, QOLB_BUSY from qolb_try, and QOLB_TIMEDOUT
+ *     from qolb_acquire_within.
  * label: The label of a line is a number that the caller chooses.
  *
  * KINDS
@@ -380,14 +387,14 @@
  * A line is of one of three kinds:
  *
  * - QOLB_TICKET is a ticket line, whose nodes wait on numbered cells. A release of a ticket line takes one atomic step
- *   on shared words, and a release of a ring takes two. Use this kind, whose other name is QOLB_DEFAULT, unless memory
- *   is short or you want to make requests in two calls.
- * - QOLB_LINK is a link line, whose nodes link themselves to the node before them. Only on a link line can a node make
- *   its request in two calls, qolb_prepend and qolb_link.
- * - QOLB_RING is a ring, whose nodes draw a ticket and wait on a cell of their own.
+ *   on shared words, and a release of a ring takes two. Use QOLB_TICKET, which is also called QOLB_DEFAULT, unless
+ *   memory is short or you want to make requests in two calls.
+ * - QOLB_LINK is a link line, in which each node links itself to the node ahead of it. Only on a link line can a node
+ *   make its request in two calls, qolb_prepend and qolb_link.
+ * - QOLB_RING is a ring, in which each node draws a ticket and waits on a cell of its own.
  *
  * The following table shows how many bytes the library requests from malloc for an open line (qolb_memory). malloc
- * itself takes about 16 bytes more for each block, and a line has four more blocks than it has nodes:
+ * itself takes about 16 bytes more for each block, and a line with N nodes has N + 4 blocks:
  *
  *     nodes                 1         2         8        64       200
  *     ring             33,744    34,168    36,712    60,456   118,568
@@ -401,52 +408,52 @@
  * - Do not pass a null pointer, a pointer to freed memory, or two arguments that overlap in memory.
  * - Make only one call at a time for a handle. Different threads may make calls for different handles at the same time,
  *   even for handles of the same line.
- * - Hand a handle over to another thread under a lock, by starting or joining a thread, or through a sequentially
- *   consistent atomic variable.
+ * - Pass a handle to another thread under a lock, by starting or joining a thread, or through a sequentially consistent
+ *   atomic variable.
  * - The malloc, realloc and free of the program must belong to the same allocator, which must align memory as the C
  *   standard requires.
  * - qolb_lock(3) lists the rules for signal handlers, for forks, and for several copies of the library.
  *
- * If a handle or its node does not allow a call for any other reason, the call returns QOLB_MISUSE, or the result that
- * its description names, and changes nothing.
+ * If a handle or its node does not allow a call for a reason that this list does not name, the call changes nothing,
+ * and returns QOLB_MISUSE or another result that the description of the call names.
  *
  * MEMORY ORDER
  *
  * A line also protects data outside its 64 bytes, as a lock does. This is argued, but not proved: a release takes a
- * sequentially consistent atomic step after everything that the holder wrote, and the next holder takes such a step on
- * the same word before it reads.
+ * sequentially consistent atomic step after all writes of the holder, and the next holder takes a sequentially
+ * consistent atomic step on the same word before it reads.
  *
  * WAITING
  *
- * Two calls wait for the node's turn: qolb_acquire and qolb_acquire_within. They poll every 60 ns. If the line has at
- * most twice as many nodes as there are processors that the process may use, the calls poll for 50 us, and otherwise
- * for 20 us. Then they sleep on a futex until the line is released, and poll again.
+ * Two calls wait for the node's turn: qolb_acquire and qolb_acquire_within. Both calls poll every 60 ns. If the number
+ * of nodes is at most twice the number of processors that the process may use, both calls poll for 50 us, and otherwise
+ * for 20 us. Then the calls sleep on a futex until the line is released, and poll again.
  *
- * Both calls yield after a sleep. If the line has more nodes than there are processors, but at most twice as many, the
- * calls also yield instead of pausing once they have polled for 500 ns. What qolb_lock(3) says about waiting also
- * applies to nodes.
+ * Both calls yield after a sleep. If the number of nodes is greater than the number of processors, but at most twice
+ * that number, both calls also yield instead of pausing, once they have polled for 500 ns. What qolb_lock(3) says about
+ * waiting also applies to nodes.
  *
  * A call that releases the line wakes the next holder and also the second waiter, which is thus woken before its turn.
  * The calls that release a line are qolb_deqolb, qolb_shut, and every call that returns QOLB_CLOSED.
  *
- * Nothing wakes or notifies a thread whose node is busy. A call that waits repeats its request until the node is not
- * busy: at first for 20 us without sleeping, and then every 200 us.
+ * Nothing wakes or notifies a thread whose node is busy. A call that waits for the node's turn repeats its request
+ * until the node is no longer busy: first for 20 us without sleeping, and then every 200 us.
  *
  * BUSY
  *
  * A withdrawn request stays in the queue until another node's release skips it. Until then, the node that withdrew the
  * request is busy. A node of a link line may also be busy after its own release, until its successor has linked itself.
- * A busy node cannot make a request, so the caller has to try again later. If a node before the withdrawn request never
- * releases the line, the busy node stays busy for ever.
+ * A busy node cannot make a request, so the caller has to try again later. If a node ahead of the withdrawn request
+ * never releases the line, the busy node stays busy for ever.
  *
- * While its node is busy, a thread is not in the queue and may be overtaken. If you take a node from a pool, take one
- * for which qolb_settle_node returns QOLB_DONE.
+ * While its node is busy, a thread is not in the queue and may be overtaken. If you take a node from a pool, take a
+ * node for which qolb_settle_node returns QOLB_DONE.
  *
  * THREADS THAT END
  *
- * If a thread ends while its node holds the line or waits for it, all nodes behind it wait. If the handle was handed
- * over to another thread (RULES FOR CALLERS), that thread may continue to use the node. qolb_state returns the state of
- * the node.
+ * If a thread ends while its node holds the line or waits for it, all nodes behind this node in the queue wait. If the
+ * handle was handed over to another thread (RULES FOR CALLERS), the other thread may continue to use the node.
+ * qolb_state returns the state of the node.
  *
  * SPEED
  *
@@ -455,15 +462,15 @@
  * become slower. Keep such data QOLB_NODE_ALIGN bytes away from handles.
  *
  * Each of qolb_enqolb, qolb_poll, qolb_withdraw, qolb_prepend, qolb_link, qolb_deqolb and qolb_shut takes a bounded
- * number of atomic steps in the proved part of the library, whatever other threads do. On a line of N nodes, a release
- * takes at most 2N - 1 such steps in a ticket line, 3N - 1 in a ring, and 4N - 3 in a link line.
+ * number of atomic steps in the proved part of the library, whatever other threads do. On a line of N nodes, the proved
+ * part of a release takes at most 2N - 1 atomic steps in a ticket line, 3N - 1 in a ring, and 4N - 3 in a link line.
  *
  * ==== qolb_task(3): event loops, which are notified and never wait ====
  *
  * An event loop must not block while one of its tasks waits for a lock. Therefore not only threads but also tasks can
- * enter a lock, in the same queue. qolb_task_enter requests the lock for a task, and a notification tells the program
- * when the task has the lock. The lock is then held by the task and not by a thread: any thread may make calls for the
- * task, one at a time, and leave the lock for it.
+ * enter a lock, and both wait in the same queue. qolb_task_enter requests the lock for a task, and a notification tells
+ * the program when the task has the lock. The lock is then held by the task and not by a thread: any thread may make
+ * calls for the task, one call at a time, and may leave the lock for the task.
  *
  * A node of a line can also wait without a thread: qolb_notify and qolb_notify_fd request a notification for a node.
  *
@@ -494,12 +501,12 @@
  * the releasing thread still holds its other locks. Therefore these rules apply:
  *
  * - The function passes the notification on: it sets a flag, makes a task ready, or writes to a descriptor. The
- *   function must not wait for another thread, throw an exception, jump out, or end the thread. The thread is not
- *   cancelled while it runs the function.
+ *   function must not wait for another thread, throw an exception, jump out (for example with longjmp), or end the
+ *   thread. The thread is not cancelled while it runs the function.
  * - The function may make calls that do not wait, for any node, lock or task that its thread may use. If the function
- *   releases a line or a lock, the notifications of this release are postponed until the function has returned. They
- *   are made earlier if the function makes a call for a node that returns QOLB_BUSY, and at once if 32 notifications
- *   are already postponed.
+ *   releases a line or a lock, the notifications of this release are postponed until the function has returned.
+ *   Postponed notifications are made earlier if a call that the function makes for a node returns QOLB_BUSY. If 32
+ *   notifications are already postponed, further notifications are made at once.
  * - While another thread runs the function of a notification for the same node or task, the calls qolb_notify,
  *   qolb_notify_fd, qolb_notify_off, qolb_node_free, qolb_task_poll and qolb_task_cancel wait until the function has
  *   returned or has called qolb_notify_done. The function must call qolb_notify_done before it takes a lock under which
@@ -508,29 +515,29 @@
  *   or the task.
  * - A notification may come too early, while the request still waits. In this case, call qolb_notify again, which polls
  *   and requests another notification in one step.
- * - Poll after a notification, because all requests behind the notified one wait for this poll. Poll even after a shut,
- *   because each waiter is told of the shut only once the waiter before it has polled.
+ * - Poll after a notification, because all requests behind the notified request wait for this poll. Poll even after a
+ *   shut, because each waiter is told of the shut only once the waiter ahead of it has polled.
  * - A notification may come too late: it may still be made after qolb_poll has returned QOLB_GRANTED, until
- *   qolb_notify_off is called. The object that `arg` points to must exist until then.
- * - For a task, this object must exist until qolb_task_poll returns QOLB_GRANTED or QOLB_CLOSED, or qolb_task_cancel
- *   returns. After that no notification is made.
- * - Open an eventfd with EFD_NONBLOCK, because otherwise the releasing thread waits if the count of the eventfd is
- *   full. Before you close the eventfd of a node, call qolb_notify_off. For a task, call qolb_task_cancel, or make sure
- *   that the task has had its turn. The eventfd may be readable even then. After a fork, a release in the child also
- *   writes to the parent's eventfd.
+ *   qolb_notify_off is called. The object that `arg` points to must exist until qolb_notify_off is called.
+ * - For a task, the object that `arg` points to must exist until qolb_task_poll returns QOLB_GRANTED or QOLB_CLOSED, or
+ *   until qolb_task_cancel returns. After that, no notification is made for the task.
+ * - Open an eventfd with EFD_NONBLOCK, because otherwise the releasing thread blocks while the count of the eventfd is
+ *   at its maximum. Before you close the eventfd of a node, call qolb_notify_off. Before you close the eventfd of a
+ *   task, call qolb_task_cancel, or make sure that the task has had its turn. The eventfd may be readable even after
+ *   that. After a fork, a release in the child also writes to the parent's eventfd.
  *
  * TASKS
  *
- * - Every call by which a thread or a task enters, leaves, gives up or destroys a lock may make notifications for
- *   tasks.
- * - While the first waiter of a barging lock is a task, no barging thread takes the lock after the holder.
+ * - Every call that enters, leaves or destroys a lock, or that gives up a request, may make notifications for tasks.
+ * - While the first waiter of a barging lock is a task, no barging thread takes the lock when the holder leaves it.
  * - No call for a task waits for the task's turn. If a task would have to wait, the call returns QOLB_NO_MEMORY when
- *   memory is short, or when more than about 12,280 requests of the lock are open. The request of a task that gave up
- *   stays open until the critical section before it ends. Therefore, while one thread holds a strict lock, tasks can
- *   enter and cancel at most about 12,280 times.
- * - If a task holds a lock, the thread that works for the task does not hold it. In this thread, qolb_lock_enter waits,
- *   and it waits for ever if the same thread would have to leave the lock for the task. qolb_lock_enter_within times
- *   out, and qolb_lock_try returns QOLB_BUSY. Calls that leave the lock, shut it, or wait on a condition return
+ *   memory is short, or when more than about 12,280 requests for the lock are open. If a task gives up its request, the
+ *   request stays open until the critical section ahead of it has ended. Therefore, while one thread holds a strict
+ *   lock, tasks can enter and cancel at most about 12,280 times.
+ * - If a task holds a lock, the thread that works for the task does not hold the lock. If this thread calls
+ *   qolb_lock_enter, the call waits, and it waits for ever if the same thread would have to leave the lock for the
+ *   task. In the same situation, qolb_lock_enter_within times out, and qolb_lock_try returns QOLB_BUSY. If this thread
+ *   calls a function that leaves the lock, shuts the lock, or waits on a condition with the lock, the call returns
  *   QOLB_MISUSE. In an event loop, let only tasks enter locks.
  * - Only threads can wait on a condition. A task may signal a condition.
  *
@@ -560,7 +567,7 @@
  * together. */
 #define QOLB_NODE_ALIGN 128
 
-/* The lease of a line that does not close after any number of acquisitions. */
+/* The lease of a line that stays open after any number of acquisitions. */
 #define QOLB_NO_LEASE UINT64_MAX
 
 /* Marks calls whose result must be used: a caller that ignores the result cannot know who holds the lock or the line.
@@ -571,7 +578,7 @@
 #define QOLB_LOOK
 #endif
 
-/* A conversion and a null pointer that no compiler warns of, in C and in C++. */
+/* A conversion and a null pointer about which no compiler warns, in C and in C++. */
 #ifdef __cplusplus
 #define QOLB_AS_(type, value) static_cast<type>(value)
 #else
@@ -587,7 +594,8 @@
 extern "C" {
 #endif
 
-/* A handle, by which a C program refers to a node. A handle of zeros is empty, which means that it has no node. */
+/* A handle, by which a C program refers to a node. A handle whose bytes are all zero is empty, which means that it has
+ * no node. */
 typedef struct qolb_node {
     void *own;
 } qolb_node;
@@ -605,7 +613,7 @@ enum qolb_kind { QOLB_RING = 0, QOLB_LINK = 1, QOLB_TICKET = 2, QOLB_DEFAULT = Q
 
 /* The results of calls (RETURN VALUE). */
 enum qolb_result {
-    QOLB_DONE = 0,       /* the call did what it says */
+    QOLB_DONE = 0,       /* the call did what was asked */
     QOLB_GRANTED = 1,    /* the calling thread or the task holds the lock, or the node holds the line */
     QOLB_QUEUED = 2,     /* the node's request waits in the queue: poll with qolb_poll or qolb_spin */
     QOLB_WAITING = 3,    /* the request of the node or task still waits */
@@ -657,12 +665,12 @@ enum qolb_node_state {
 enum qolb_result qolb_open(uint32_t kind, uint64_t label, uint64_t nodes, uint64_t lease, const qolb_bytes *opening,
                            qolb_node *out, size_t handles) QOLB_LOOK;
 
-/* Computes how many bytes of heap memory an open line of this kind takes with this number of nodes (KINDS).
+/* Computes how many bytes of heap memory an open line of this kind and with this number of nodes takes (KINDS).
  *
  * Returns 0 if qolb_open would return QOLB_BAD_KIND or QOLB_BAD_NODES, and the number of bytes otherwise. */
 uint64_t qolb_memory(uint32_t kind, uint64_t nodes);
 
-/* Requests the line, and does not wait.
+/* Requests the line without waiting.
  *
  * Returns:
  * - QOLB_GRANTED: The node holds the line.
@@ -672,7 +680,7 @@ uint64_t qolb_memory(uint32_t kind, uint64_t nodes);
  * - QOLB_MISUSE: The handle is empty, or its node has already requested the line. */
 enum qolb_result qolb_enqolb(qolb_node *node) QOLB_LOOK;
 
-/* Checks once whether the turn of the node's request has come, and does not wait.
+/* Checks once, without waiting, whether the turn of the node's request has come.
  *
  * Returns:
  * - QOLB_GRANTED: The node holds the line.
@@ -703,7 +711,7 @@ enum qolb_result qolb_spin(qolb_node *node, uint64_t polls) QOLB_LOOK;
  * - QOLB_MISUSE: The handle is empty, or its node has already requested the line. */
 enum qolb_result qolb_acquire(qolb_node *node) QOLB_LOOK;
 
-/* Requests the line, and waits until the node holds it, but for at most `nanoseconds`.
+/* Requests the line, and waits for at most `nanoseconds` until the node holds it.
  *
  * The timeout also includes the time during which the node is busy (BUSY). UINT64_MAX means that there is no timeout.
  * If the request waits in the queue, the call polls at least once. After QOLB_TIMEDOUT the node may request the line
@@ -711,19 +719,19 @@ enum qolb_result qolb_acquire(qolb_node *node) QOLB_LOOK;
  *
  * Returns:
  * - QOLB_GRANTED: The node holds the line.
- * - QOLB_TIMEDOUT: The timeout expired, and the node has withdrawn its request, if it had made one.
+ * - QOLB_TIMEDOUT: The timeout expired. If the node had made a request, the request is withdrawn.
  * - QOLB_CLOSED: The line is closed.
  * - QOLB_MISUSE: The handle is empty, or its node has already requested the line. */
 enum qolb_result qolb_acquire_within(qolb_node *node, uint64_t nanoseconds) QOLB_LOOK;
 
-/* Checks whether the node is busy, and makes no request.
+/* Checks whether the node is busy, without making a request.
  *
  * After QOLB_DONE, a node of a link line that was in the state LEFT or ROLLED is in the state IDLE. Every other node
  * stays in its state.
  *
  * Returns:
  * - QOLB_DONE: The node is not busy, and will not be busy before it makes its next request.
- * - QOLB_BUSY: The node is busy until a call of another node clears its last request (BUSY).
+ * - QOLB_BUSY: The node is busy until a call for another node clears the busy node's last request (BUSY).
  * - QOLB_MISUSE: The handle is empty, or its node has already requested the line. */
 enum qolb_result qolb_settle_node(qolb_node *node);
 
@@ -738,20 +746,20 @@ enum qolb_result qolb_settle_node(qolb_node *node);
  * - QOLB_MISUSE: The node is not in the state QOLB_STATE_QUEUED. */
 enum qolb_result qolb_withdraw(qolb_node *node) QOLB_LOOK;
 
-/* Makes the first half of a request for a link line, by which the node takes a place in the queue.
+/* Makes the first half of a request for a link line, and thereby gives the node a place in the queue.
  *
  * Until qolb_link has made the second half, the line stays with the node's predecessor, even after the predecessor has
  * released it. The call does not wait.
  *
  * Returns:
- * - QOLB_GRANTED: No request was before this one, so the node holds the line.
+ * - QOLB_GRANTED: No request was ahead of this one, so the node holds the line.
  * - QOLB_LINKING: The request has a place in the queue: call qolb_link.
  * - QOLB_CLOSED: The line is closed.
  * - QOLB_BUSY: The node's last request is still in the queue, and no request was made (BUSY).
  * - QOLB_MISUSE: The handle is empty, the line is of another kind, or the node has already requested the line. */
 enum qolb_result qolb_prepend(qolb_node *node) QOLB_LOOK;
 
-/* Makes the second half of a request for a link line, by which the node tells its predecessor which node is the
+/* Makes the second half of a request for a link line, and thereby tells the node's predecessor that this node is the
  * successor.
  *
  * The call does not wait.
@@ -777,36 +785,36 @@ enum qolb_result qolb_read(qolb_node *node, qolb_bytes *out);
  * - QOLB_MISUSE: The node does not hold the line. */
 enum qolb_result qolb_write(qolb_node *node, uint64_t mask, const qolb_bytes *bytes);
 
-/* Reads one lane of the line, 0 to 7, into `out`.
+/* Reads lane number `lane` (0 to 7) of the line into `out`.
  *
  * Returns:
  * - QOLB_DONE: The number is in `out`.
  * - QOLB_MISUSE: The node does not hold the line, or `lane` is above 7. `out` is unchanged. */
 enum qolb_result qolb_read_lane(qolb_node *node, uint64_t lane, uint64_t *out);
 
-/* Writes `value` to one lane of the line, 0 to 7.
+/* Writes `value` to lane number `lane` (0 to 7) of the line.
  *
  * Returns:
  * - QOLB_DONE: The number is written.
  * - QOLB_MISUSE: The node does not hold the line, or `lane` is above 7. */
 enum qolb_result qolb_write_lane(qolb_node *node, uint64_t lane, uint64_t value);
 
-/* Adds `by` to one lane of the line, 0 to 7, modulo 2^64, and writes the number before the addition to `was`.
+/* Adds `by`, modulo 2^64, to lane number `lane` (0 to 7) of the line, and writes the old value of the lane to `was`.
  *
  * Returns:
  * - QOLB_DONE: The addition is made.
  * - QOLB_MISUSE: The node does not hold the line, or `lane` is above 7. `was` is unchanged. */
 enum qolb_result qolb_add_lane(qolb_node *node, uint64_t lane, uint64_t by, uint64_t *was);
 
-/* Gets the number of acquisitions that the lease of the line still allows, including the holder's own.
+/* Gets the number of acquisitions that the lease of the line still allows, including that of the holder.
  *
  * Returns QOLB_NO_LEASE if the line has no lease, 0 if the node does not hold the line, and the number otherwise. */
 uint64_t qolb_turns_left(qolb_node *node);
 
-/* Releases the line, and hands the lock and the bytes over to the oldest request in the queue.
+/* Releases the line, and hands the lock and the bytes over to the node with the oldest request in the queue.
  *
- * If this was the last acquisition that the lease allows, the line is closed. The call does not wait for a turn, but
- * it may make the next holder's notification (qolb_task(3)).
+ * If the lease allows no further acquisition, the line is closed. The call does not wait for a turn, but it may make
+ * the next holder's notification (qolb_task(3)).
  *
  * Returns:
  * - QOLB_DONE: The line is released.
@@ -825,8 +833,8 @@ enum qolb_result qolb_shut(qolb_node *node);
 
 /* Requests a notification: one call of `call(arg)`, once the turn of the node's request has come or the line is closed.
  *
- * The releasing thread makes the notification (NOTIFICATIONS). If a node requests a second notification, it replaces
- * the first. The call polls once, and does not wait for a turn.
+ * The releasing thread makes the notification (NOTIFICATIONS). If a node requests a second notification, the second one
+ * replaces the first. The call polls once, and does not wait for a turn.
  *
  * Returns:
  * - QOLB_WAITING: The request still waits, and the notification will be made unless the node polls before that.
@@ -835,7 +843,8 @@ enum qolb_result qolb_shut(qolb_node *node);
  * - QOLB_MISUSE: The node is not in the state QOLB_STATE_QUEUED, or `call` is null. */
 enum qolb_result qolb_notify(qolb_node *node, void (*call)(void *arg), void *arg) QOLB_LOOK;
 
-/* Requests a notification as qolb_notify does, but one that adds 1 to the eventfd `fd` instead of calling a function.
+/* Requests a notification as qolb_notify does, except that the notification adds 1 to the eventfd `fd` instead of
+ * calling a function.
  *
  * Returns:
  * - QOLB_WAITING: The request still waits, and 1 will be added unless the node polls before that.
@@ -846,22 +855,22 @@ enum qolb_result qolb_notify_fd(qolb_node *node, int fd) QOLB_LOOK;
 
 /* Cancels the notification that the node has requested. The node's request for the line stays open.
  *
- * If another thread is making the notification at that time, the call waits until the function has returned or has
+ * If another thread is making the notification during the call, the call waits until the function has returned or has
  * called qolb_notify_done.
  *
  * Returns:
  * - QOLB_WITHDRAWN: The notification will not be made.
- * - QOLB_DONE: No notification was requested, or it has been made.
+ * - QOLB_DONE: No notification was requested, or the notification has already been made.
  * - QOLB_MISUSE: The handle is empty. */
 enum qolb_result qolb_notify_off(qolb_node *node);
 
-/* States, inside the function of a notification, that the function will not use its `arg` any more.
+/* Declares, inside the function of a notification, that the function will not use its `arg` any more.
  *
- * After this, no other call waits for the function to return. Outside the function of a notification, the call does
- * nothing. */
+ * After qolb_notify_done, no other call waits for the function to return. Outside the function of a notification,
+ * qolb_notify_done does nothing. */
 void qolb_notify_done(void);
 
-/* Frees the node and empties its handle. The last node frees the line.
+/* Frees the node and empties its handle. Freeing the last node of a line also frees the line.
  *
  * The call first cancels the node's notification, as qolb_notify_off does.
  *
@@ -875,7 +884,7 @@ enum qolb_result qolb_node_free(qolb_node *node);
  * Returns the number, from 1 on, or 0 if the handle is empty. */
 uint64_t qolb_number(qolb_node *node);
 
-/* Gets the label that the node's line was opened with.
+/* Gets the label with which the node's line was opened.
  *
  * Returns the label, or 0 if the handle is empty. */
 uint64_t qolb_label(qolb_node *node);
@@ -908,17 +917,17 @@ typedef struct qolb_cond {
 
 /* Opens a lock with a barging limit that is known only at run time (see ORDER AND BARGING).
  *
- * The lock must have been initialised and not used yet, or it must have been destroyed. A program that knows the
- * barging limit beforehand can use an initialiser instead of this call.
+ * Before the call, the lock must be either initialised but not yet used, or destroyed. A program that knows the barging
+ * limit beforehand can use an initialiser instead of this call.
  *
  * Returns:
  * - QOLB_DONE: The lock is open.
  * - QOLB_OCCUPIED: The lock was already open, and keeps its barging limit. */
 enum qolb_result qolb_lock_open(qolb_lock *lock, uint64_t limit) QOLB_LOOK;
 
-/* Enters the lock, and waits until the calling thread holds it.
+/* Enters the lock, waiting if necessary.
  *
- * The calling thread spins at first and then sleeps (see WAITING).
+ * If a thread has to wait, it first spins and then sleeps (see WAITING).
  *
  * Returns:
  * - QOLB_GRANTED: The calling thread holds the lock.
@@ -926,20 +935,20 @@ enum qolb_result qolb_lock_open(qolb_lock *lock, uint64_t limit) QOLB_LOOK;
  * - QOLB_MISUSE: The calling thread already holds the lock. */
 enum qolb_result qolb_lock_enter(qolb_lock *lock) QOLB_LOOK;
 
-/* Enters the lock if the calling thread does not have to wait for it. qolb_lock_try does not spin, even if another
- * thread holds the lock.
+/* Enters the lock if this is possible without waiting. qolb_lock_try does not spin, even if another thread holds the
+ * lock.
  *
  * Returns:
  * - QOLB_GRANTED: The calling thread holds the lock.
- * - QOLB_BUSY: Another thread or a task holds the lock or is next to get it, or the calling thread already holds the
- *   lock.
+ * - QOLB_BUSY: Another thread or a task holds the lock or will be the next to hold it, or the calling thread already
+ *   holds the lock.
  * - QOLB_CLOSED: The lock is shut. */
 enum qolb_result qolb_lock_try(qolb_lock *lock) QOLB_LOOK;
 
-/* Enters the lock, and waits until the calling thread holds it, but for at most `nanoseconds`.
+/* Enters the lock, waiting if necessary, but for at most `nanoseconds`.
  *
  * The timeout starts at the beginning of the call. If `nanoseconds` is UINT64_MAX, there is no timeout (see TIMEOUTS).
- * If `nanoseconds` is 0, the call enters the lock if the lock is free.
+ * If `nanoseconds` is 0, the call enters the lock only if the lock is free.
  *
  * Returns:
  * - QOLB_GRANTED: The calling thread holds the lock.
@@ -948,19 +957,19 @@ enum qolb_result qolb_lock_try(qolb_lock *lock) QOLB_LOOK;
  * - QOLB_MISUSE: The calling thread already holds the lock, so the call returns at once. */
 enum qolb_result qolb_lock_enter_within(qolb_lock *lock, uint64_t nanoseconds) QOLB_LOOK;
 
-/* Enters the lock, and waits until the calling thread holds it, but at most until `time`.
+/* Enters the lock, waiting if necessary, but at most until `time`.
  *
  * `time` is an absolute time in nanoseconds, measured on CLOCK_MONOTONIC. If `time` is UINT64_MAX, there is no timeout
  * (see TIMEOUTS).
  *
  * Returns:
  * - QOLB_GRANTED: The calling thread holds the lock.
- * - QOLB_TIMEDOUT: `time` passed before the lock was granted, and the calling thread does not hold the lock.
+ * - QOLB_TIMEDOUT: The lock was not granted before `time`, and the calling thread does not hold the lock.
  * - QOLB_CLOSED: The lock is shut.
  * - QOLB_MISUSE: The calling thread already holds the lock, so the call returns at once. */
 enum qolb_result qolb_lock_enter_until(qolb_lock *lock, uint64_t time) QOLB_LOOK;
 
-/* Leaves the lock. When its holder leaves, a strict lock goes to the first waiter, and a barging lock becomes free.
+/* Leaves the lock. When the holder leaves, a strict lock goes to the first waiter, and a barging lock becomes free.
  *
  * qolb_lock_leave does not wait in the queue, but it may notify tasks that wait for the lock (see qolb_task(3)).
  *
@@ -983,9 +992,9 @@ enum qolb_result qolb_lock_shut(qolb_lock *lock);
 
 /* Destroys the lock, so that its memory may be freed.
  *
- * A destroyed lock is in the state that its initialiser gave it. The next use of a destroyed lock opens it again with
- * the same barging limit, and the lock is then not shut. The last thread that was granted the lock may destroy the lock
- * after leaving it, even if an earlier holder has not yet returned from the call by which it left.
+ * A destroyed lock is again in the state that its initialiser gave it. The next use of a destroyed lock opens the lock
+ * again. The reopened lock has the same barging limit as before, and is not shut. The last thread to be granted a lock
+ * may leave and then destroy the lock, even if an earlier holder has not returned from qolb_lock_leave yet.
  *
  * Returns:
  * - QOLB_DONE: The lock is destroyed, or was not open.
@@ -1000,8 +1009,8 @@ int qolb_lock_is_mine(const qolb_lock *lock);
 
 /* Checks whether a thread or a task holds the lock, or is about to hold it.
  *
- * qolb_lock_is_held only reads the lock and does not try to enter it. Therefore the answer may already be out of date
- * when the call returns.
+ * qolb_lock_is_held only reads the lock and does not try to enter it. Therefore the return value of qolb_lock_is_held
+ * may already be out of date when the call returns.
  *
  * Returns 1 if a thread or a task holds the lock or is about to hold it, and 0 otherwise. */
 int qolb_lock_is_held(const qolb_lock *lock);
@@ -1009,7 +1018,8 @@ int qolb_lock_is_held(const qolb_lock *lock);
 /* Leaves the lock, waits on the condition until it is signalled, and enters the lock again.
  *
  * The waiting thread misses no signal that is sent after the call has left the lock. Call qolb_cond_wait in a loop that
- * checks what the thread waits for, because another thread may enter the lock before the woken thread does.
+ * tests the predicate for which the thread waits, because another thread may enter the lock before the woken thread
+ * does.
  *
  * Returns:
  * - QOLB_GRANTED: The condition was signalled, and the calling thread holds the lock.
@@ -1029,7 +1039,8 @@ enum qolb_result qolb_cond_wait(qolb_cond *cond, qolb_lock *lock) QOLB_LOOK;
  * - QOLB_MISUSE: The calling thread does not hold the lock, so the call did not wait. */
 enum qolb_result qolb_cond_wait_within(qolb_cond *cond, qolb_lock *lock, uint64_t nanoseconds) QOLB_LOOK;
 
-/* Wakes the thread that has waited longest on the condition. A thread may signal a condition without holding a lock.
+/* Wakes the thread that has been waiting on the condition for the longest time. A thread may signal a condition without
+ * holding a lock.
  *
  * Returns:
  * - QOLB_DONE: A thread was woken, or no thread was waiting. */
@@ -1043,8 +1054,8 @@ enum qolb_result qolb_cond_broadcast(qolb_cond *cond);
 
 /* clang-format off */
 
-/* A task, which can enter locks, and its initialiser. Do not move a task while it waits. A program must not read or
- * change the contents of a task. */
+/* The type of a task, which can enter locks, and the initialiser of a task. Do not move a task while it waits. A
+ * program must not read or change the contents of a task. */
 typedef struct qolb_task {
     void *own[16];
 } qolb_task;
@@ -1052,17 +1063,17 @@ typedef struct qolb_task {
 
 /* clang-format on */
 
-/* Requests the lock for a task, and does not wait for its turn.
+/* Requests the lock for a task, without waiting for the task's turn.
  *
  * If the lock is not free, the library will call `call(arg)` once, when the task has the lock or is told that the lock
- * is shut (NOTIFICATIONS). Then qolb_task_poll returns which of the two has happened. The call allocates memory if the
- * task has to wait.
+ * is shut (NOTIFICATIONS). After that call, the result of qolb_task_poll says which of the two has happened. The call
+ * allocates memory if the task has to wait.
  *
  * Returns:
  * - QOLB_GRANTED: The task holds the lock, and no notification will be made.
  * - QOLB_WAITING: The task waits, and the notification will be made.
  * - QOLB_CLOSED: The lock is shut.
- * - QOLB_MISUSE: The task already waits or holds a lock, or `call` is null.
+ * - QOLB_MISUSE: The task already waits for a lock or holds a lock, or `call` is null.
  * - QOLB_NO_MEMORY: The task would have to wait, and memory is short or too many requests of the lock are open (TASKS).
  */
 enum qolb_result qolb_task_enter(qolb_task *task, qolb_lock *lock, void (*call)(void *arg), void *arg) QOLB_LOOK;
@@ -1073,21 +1084,22 @@ enum qolb_result qolb_task_enter(qolb_task *task, qolb_lock *lock, void (*call)(
  * - QOLB_GRANTED: The task holds the lock, and nothing will be added.
  * - QOLB_WAITING: The task waits, and 1 will be added.
  * - QOLB_CLOSED: The lock is shut.
- * - QOLB_MISUSE: The task already waits or holds a lock, or `fd` is negative.
+ * - QOLB_MISUSE: The task already waits for a lock or holds a lock, or `fd` is negative.
  * - QOLB_NO_MEMORY: The task would have to wait, and memory is short or too many requests of the lock are open
  *   (TASKS). */
 enum qolb_result qolb_task_enter_fd(qolb_task *task, qolb_lock *lock, int fd) QOLB_LOOK;
 
-/* Checks once whether the turn of a waiting task has come, and does not wait.
+/* Checks once, without waiting, whether the turn of a waiting task has come.
  *
  * Returns:
  * - QOLB_GRANTED: The task holds the lock.
- * - QOLB_WAITING: The task still waits. The notification will be made, and made again if it was too early.
+ * - QOLB_WAITING: The task still waits. The notification will be made. If a notification was made too early, it will be
+ *   made again.
  * - QOLB_CLOSED: The lock is shut, and the task's request has ended.
  * - QOLB_MISUSE: The task does not wait. */
 enum qolb_result qolb_task_poll(qolb_task *task) QOLB_LOOK;
 
-/* Gives up the request of a task that waits. No notification is made after the call.
+/* Gives up the request of a waiting task. No notification is made for the task after the call.
  *
  * If the task's turn had already come, the call also leaves the lock for the task.
  *
@@ -1098,18 +1110,18 @@ enum qolb_result qolb_task_poll(qolb_task *task) QOLB_LOOK;
  * - QOLB_MISUSE: The task holds the lock and has been told so. Nothing changed. */
 enum qolb_result qolb_task_cancel(qolb_task *task);
 
-/* Leaves the lock for a task, in any thread.
+/* Leaves the lock for a task. Any thread may make this call.
  *
  * Returns:
  * - QOLB_DONE: The task has left the lock.
- * - QOLB_MISUSE: The task holds no lock, or has not been told that it does. */
+ * - QOLB_MISUSE: The task holds no lock, or has not been told that it holds the lock. */
 enum qolb_result qolb_task_leave(qolb_task *task);
 
 /* Leaves the lock for a task, and shuts it as qolb_lock_shut does.
  *
  * Returns:
  * - QOLB_DONE: The lock is shut, and the task has left it.
- * - QOLB_MISUSE: The task holds no lock, or has not been told that it does. */
+ * - QOLB_MISUSE: The task holds no lock, or has not been told that it holds the lock. */
 enum qolb_result qolb_task_shut(qolb_task *task);
 
 /* Checks whether the task holds a lock and has been told so.
@@ -1117,12 +1129,12 @@ enum qolb_result qolb_task_shut(qolb_task *task);
  * Returns 1 if the task holds a lock and has been told so, and 0 otherwise. */
 int qolb_task_holds(const qolb_task *task);
 
-/* Gets the version of the library that the program runs with.
+/* Gets the version of the library with which the program runs.
  *
  * Returns a number of the same form as QOLB_VERSION, which is the version of the header. */
 uint32_t qolb_version(void);
 
-/* Moves the node to a new handle, which the call returns, and empties the old one.
+/* Moves the node to a new handle, which the call returns, and empties the old handle.
  *
  * Returns the handle that has the node. */
 static inline qolb_node qolb_move(qolb_node *from) {
@@ -1295,7 +1307,7 @@ QOLB_LOOK static inline enum qolb_result qolb_try(qolb_node *node) {
     return got == QOLB_WITHDRAWN ? QOLB_BUSY : got;
 }
 
-/* Checks whether a call succeeded, by its result.
+/* Checks whether the result of a call means that the call succeeded.
  *
  * Returns 1 for QOLB_DONE, QOLB_GRANTED and QOLB_WITHDRAWN, and 0 for all other results. */
 static inline int qolb_ok(uint32_t result) {
