@@ -781,7 +781,7 @@ impl RawQolb {
         }
     }
 
-    /// Enters the lock, and waits until the calling thread holds it.
+    /// Enters the lock, waiting if necessary.
     ///
     /// Returns `Granted`, `Closed`, or `Misuse` (the calling thread already holds the lock).
     #[must_use]
@@ -797,7 +797,7 @@ impl RawQolb {
         self.took(unsafe { qolb_lock_try(self.at()) })
     }
 
-    /// Enters the lock, and waits until the calling thread holds it, but for at most `time`.
+    /// Enters the lock, waiting if necessary, but for at most `time`.
     ///
     /// Returns `Granted`, `TimedOut`, `Closed`, or at once `Misuse` (the calling thread already holds the lock).
     #[must_use]

@@ -15,7 +15,7 @@
 /* A notification that a node or a task has requested. */
 struct callback {
     struct callback *next; /* in the list */
-    uint64_t key;          /* for a node, the place at which it waits; for a task, the task's address */
+    uint64_t key;          /* for a node, the number of the word on which it waits; for a task, its address */
     void (*call)(void *);  /* NULL if none is requested since the last off; only the node's caller writes it */
     void *arg;
 };
