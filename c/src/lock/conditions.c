@@ -125,8 +125,8 @@ enum qolb_result qolb_cond_signal(qolb_cond *cond) { return signal_some(cond, 0)
 
 enum qolb_result qolb_cond_broadcast(qolb_cond *cond) { return signal_some(cond, 1); }
 
-/* After this the holder only shuts the lock. A waiter that is told requests the lock behind the holder, and so it exists
- * until the holder has shut the lock. */
+/* After this, the holder only shuts the lock. A waiter that is told requests the lock behind the holder, and so it
+ * exists until the holder has shut the lock. */
 void qolb_tell_shut_(struct lock *lock) {
     for (struct waiter *it = lock->waits; it; it = it->beside) tell_waiter(it, SHUT);
     lock->waits = NULL;
