@@ -1,4 +1,5 @@
-//! Writes the complaint about a refused script: the refused line, and what would be allowed in its place.
+//! Writes the complaint (a detailed error message) about a refused script. The complaint shows the refused line and
+//! says what is allowed instead.
 ghost use Rattle.std.specs.Prelude.{◌≡◌, ℕ, MatchOption};
 ghost use Rattle.qolb_script.specs.Text.{numbered_lines, worded};
 ghost use Rattle.qolb_explain.specs.Complaints.{IsAbout, line_at};

@@ -1,5 +1,5 @@
-//! Explains refused scripts and refused calls: what the script may contain at the refused place, and what an answer
-//! `misuse` or `refused` means.
+//! Explains why a script was refused, and what an answer `misuse` or `refused` means. The explanation says what is
+//! allowed instead.
 #![tactic(auto)]
 
 mod complaint;

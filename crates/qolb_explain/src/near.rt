@@ -1,5 +1,5 @@
-//! Finds the allowed word that a wrong word resembles, and explains words from other subcommands or from other lock
-//! libraries.
+//! Finds the allowed word that a user probably meant by a wrong word. The wrong word may come from another subcommand
+//! or from another lock library.
 use qolb_script::Allowed;
 
 /// A length that exceeds the length of every word in the lists below.

@@ -1,4 +1,5 @@
-//! Writes notes on the misused calls of a schedule: the state of the node, and the commands that this state allows.
+//! Writes a note on each misused call of a schedule. The note names the state of the node and the commands that this
+//! state allows.
 ghost use Rattle.std.specs.Prelude.{◌≡◌, ◌≤◌, ◌++◌, Ok, IfOk, OnOk};
 ghost use Rattle.qolb_model.specs.OneOwner.{OwnerState, opened};
 ghost use Rattle.qolb_model.specs.Plain.{Agrees};

@@ -1,4 +1,5 @@
-//! Writes notes on the refused events of a step script: the point of the node, and the events that this point allows.
+//! Writes a note on each refused event of a step script. The note names the point of the node (its place in the lock
+//! algorithm) and the events that are allowed there.
 ghost use Rattle.std.specs.Prelude.{◌≡◌, ◌++◌, IfErr, IfOk, OnOk};
 ghost use Rattle.link_core.specs.State.{first, point};
 ghost use Rattle.link_core.specs.Steps.{IsRefused, node_of};

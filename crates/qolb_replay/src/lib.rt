@@ -1,5 +1,5 @@
-//! Replays scripts on queued lines of any kind. A script is a schedule, or a sequence of single steps of the link
-//! line's core.
+//! Replays scripts on queued lines. A schedule is replayed on lines of any kind; a step script runs on the core of the
+//! link line, one atomic step at a time.
 #![tactic(auto)]
 
 mod input;

@@ -1,5 +1,5 @@
-//! The lines of a replay: the interface by which a replay calls a line, a line that each node calls through its own
-//! port, and the counts of the answers.
+//! The lines of a replay. `ReplayLine` is the interface through which a replay calls a line. `PortedLine` implements
+//! this interface for a line that each node calls through a port of its own. `CountingLine` also counts the answers.
 ghost use Rattle.std.specs.Prelude.{◌≡◌, ℕ, ◌<◌, ◌≤◌, ◌||◌, length, map, All};
 ghost use Rattle.qolb_model.specs.OneOwner.{OwnerState, opened, state_of};
 ghost use Rattle.qolb_model.specs.Opening.{AreNew, MayOpen};

@@ -1,4 +1,4 @@
-//! Implements the interface of a replay's lines (`ReplayLine`) for the plain line.
+//! Implements `ReplayLine`, the interface through which a replay calls a line, for the plain line, which has one owner.
 ghost use Rattle.std.specs.Prelude.{◌≡◌, ◌≤◌};
 ghost use Rattle.qolb_model.specs.OneOwner.{OwnerState};
 ghost use Rattle.qolb_model.specs.Plain.{Agrees};

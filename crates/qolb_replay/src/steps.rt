@@ -1,4 +1,5 @@
-//! Runs step scripts on the link line's core: it writes the result of each event, and then the counts of the line.
+//! Runs step scripts on the core of the link line. The reply consists of the result of each event, followed by the
+//! counts of requests.
 ghost use Rattle.std.specs.Prelude.{◌≡◌, ◌≤◌, ℕ, List, Option, length, Ok, Err, OnOk, OnErr, IfOk, IfErr, ◌++◌};
 ghost use Rattle.qolb_script.specs.StepReply.{step_said};
 ghost use Rattle.qolb_script.specs.StepScript.{AreBegun, StepScript, steps_of};

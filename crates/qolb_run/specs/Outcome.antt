@@ -1,4 +1,4 @@
--- The outcome of a task whose script consists of given bytes.
+-- How a task (a replay or work) on given input bytes can end: with a text or with an error.
 use Rattle.std.specs.Prelude.{◌≡◌, ◌≢◌, ◌<◌, ◌≤◌, ◌⊎◌, ℕ, List, length, Ok, Err}
 use Rattle.qolb_replay.specs.declared.replay.ReplayError.{ReplayError}
 use Rattle.qolb_replay.specs.declared.replay.ReplayError.TheVariants as error

@@ -1,4 +1,4 @@
-//! Maps the name of each kind of line to its type, for replays and for work scripts.
+//! The kinds of lines that a caller can choose by name, and the lock that each kind uses.
 ghost use Rattle.std.specs.Prelude.{◌≡◌};
 ghost use Rattle.qolb_script.specs.declared.report.Report.{Report};
 ghost use Rattle.qolb_script.specs.WorkScript.{WorkScript};

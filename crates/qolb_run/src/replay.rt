@@ -1,4 +1,4 @@
-//! Replays schedules on lines of each kind.
+//! Replays schedules on queued lines whose kind the caller chooses.
 ghost use Rattle.std.specs.Prelude.{◌≡◌, Ok, Err, IfOk, IfErr};
 ghost use Rattle.qolb_script.specs.Reply.{reply_to};
 ghost use Rattle.qolb_script.specs.Script.{IsBegun};

@@ -1,4 +1,4 @@
-//! The reasons why a script is refused.
+//! The errors with which the reading of a script can end.
 ghost use Rattle.std.specs.Prelude.{◌≡◌, ℕ};
 
 use std::error::Error;

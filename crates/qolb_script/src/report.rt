@@ -1,4 +1,4 @@
-//! The reports of work scripts.
+//! The report with which a work script ends, and how it is written as text.
 ghost use Rattle.std.specs.Prelude.{◌≡◌, ◌↔◌, true, IsErr, OnOk};
 ghost use Rattle.std.specs.Io.KnownBytes.{Appends};
 ghost use Rattle.qolb_script.specs.Watched.{inner_of, has_failed};

@@ -1,4 +1,4 @@
-//! The events of a step script that differ only in their first word.
+//! The events of a step script that consist of one word and a node, such as `reset` and `load`.
 ghost use Rattle.std.specs.Prelude.{◌≡◌, find};
 ghost use Rattle.std.specs.Str.{bytes_eq};
 ghost use Rattle.qolb_script.specs.Stepped.{word_of, event_of};

@@ -1,5 +1,5 @@
-//! The text of scripts: how it divides into lines and words, which words denote numbers, and which item each line
-//! denotes.
+//! Splits the text of a script into lines and words, parses numbers, and reads the items (commands, events or jobs)
+//! below the header.
 ghost use Rattle.std.specs.Prelude.{◌≡◌, ◌==◌, ◌+◌, ◌<◌, ◌≤◌, ◌^◌, ◌∷◌, [], length, not, IfOk, IfSome, MatchOption};
 ghost use Rattle.std.specs.List.{slice_split};
 ghost use Rattle.std.specs.Option.{ForSome};

@@ -1,5 +1,5 @@
--- What the words of a command line request. (The library clap, which reads the words, defines what a command makes of
--- them.)
+-- What the words of a command line request from the program. The library clap, which parses the words, defines how a
+-- command understands them.
 use Rattle.std.specs.Prelude.{Bool, ◌≡◌, true, false, if◌then◌else◌, List, [], ◌∷◌, map, Option, Some, None, option_map, codes}
 use Rattle.std.specs.Borrow.{Bor}
 use Rattle.std.specs.Option.{unwrap_or}

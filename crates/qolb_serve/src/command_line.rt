@@ -1,4 +1,4 @@
-//! Reads the command line: what its words request, and what `--help` and `--version` print.
+//! Parses the command line, and defines what `--help` and `--version` print.
 ghost use Rattle.std.specs.Prelude.{◌≡◌, ◌≢◌, false, map, option_map, string_bytes, codes, IfOk, IfErr};
 ghost use Rattle.clap.specs.Words.{app_of, found_of, kind_of, new_app, rows_of, rule_of};
 ghost use Rattle.qolb_serve.specs.CommandLine as spec;

@@ -1,4 +1,4 @@
-//! Does what the words of the command line request, and reports the outcome.
+//! Does what the command line requests, and writes the answer or a complaint.
 ghost use Rattle.std.specs.Prelude.{◌≡◌, ◌≢◌, ◌≤◌, ◌⊎◌, ◌++◌, [], ℕ, Bool, true, false, List, length, Err, codes, map, string_bytes, IfSome, IfErr, IfOk};
 ghost use Rattle.std.specs.IoError.{error_kind};
 ghost use Rattle.std.specs.declared.io.ErrorKind.TheVariants as io_kind;

@@ -1,4 +1,5 @@
--- Proof that each report is the report of a board or of a bank.
+-- Lemmas that keep boards and banks apart: a clause about a bank's lines says nothing about the report of a board, and
+-- the other way round.
 use Rattle.std.proofs.Common.{◌≡◌, sym, ◌∙◌, IfOk, Result, Ok, Err}
 use Rattle.qolb_model.specs.declared.config.LineConfig.{LineConfig}
 use Rattle.qolb_model.specs.declared.view.View.{View}

@@ -1,4 +1,4 @@
-//! Workers that share a task board.
+//! Runs workers that share a task board, which is stored in one queued line.
 ghost use Rattle.std.specs.Prelude.{◌≡◌, ◌*◌, ℕ, [], ◌∷◌, ◌≤◌, All, Err, IfOk, IfErr, IfNone, Some, true, false, length, map, vec_len};
 ghost use Rattle.qolb_script.specs.declared.schedule.TheConstants.{MAX_COMMANDS};
 ghost use Rattle.qolb_model.specs.declared.config.TheConstants.{MAX_NODES};

@@ -1,4 +1,4 @@
-//! Gates, each of which decides when a worker may start its next job.
+//! A gate decides when a worker may start its next job.
 ghost use Rattle.std.specs.Prelude.{◌≡◌, ℕ, false};
 
 use std::thread::yield_now;

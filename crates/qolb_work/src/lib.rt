@@ -1,4 +1,4 @@
-//! Runs workers that share queued lines of any kind: a task board, or the accounts of a bank.
+//! Runs worker threads that share a task board or the accounts of a bank. Both are stored in queued lines of any kind.
 #![tactic(auto)]
 
 mod bank;

@@ -1,4 +1,4 @@
-//! A gate that reports the progress of the work.
+//! A gate that lets every worker continue, and reports how many jobs are finished.
 use crate::gate::Gate;
 use std::io;
 use std::rt::Clock;

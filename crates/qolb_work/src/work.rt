@@ -1,4 +1,4 @@
-//! Runs work scripts: the workers share a board, or the lines of a bank.
+//! Runs work scripts, in which worker threads share a task board or a bank.
 ghost use Rattle.std.specs.Prelude.{◌≡◌, ℕ, Err, IfOk, IfErr};
 ghost use Rattle.qolb_work.specs.declared.work.RunError.TheVariants.{Memory};
 ghost use Rattle.qolb_work.specs.Workers.{MayStop};

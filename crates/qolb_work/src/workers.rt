@@ -1,4 +1,4 @@
-//! Workers, each of which does its jobs in a thread of its own.
+//! Runs each worker in a thread of its own, and collects the workers' states when the threads have ended.
 ghost use Rattle.std.specs.Prelude.{◌≡◌, ◌+◌, ◌++◌, ◌∷◌, [], ◌<◌, ◌≤◌, ℕ, List, All, IfSome, IfOk, IfErr, MatchOption, Some, length, map, vec_len, vec_capacity};
 ghost use Rattle.qolb_script.specs.declared.job.Job.{Job};
 ghost use Rattle.qolb_script.specs.declared.schedule.TheConstants.{MAX_COMMANDS};
