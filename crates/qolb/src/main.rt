@@ -1,5 +1,5 @@
-//! The program `qolb`. It replays scripts of calls on queued lines, and runs work scripts, in which threads share such
-//! lines.
+//! The program `qolb`. It replays scripts of calls on queued lines (queue locks with 64 bytes of data), and runs work
+//! scripts, in which threads share such lines.
 #![tactic(auto)]
 
 use qolb_serve::run;

@@ -1,4 +1,5 @@
--- Lemmas about the progress of drawing a line.
+-- Lemmas about the picture of a queued line of which some commands have been drawn: the line's state, and the marks
+-- recorded so far.
 use Rattle.std.proofs.Common.{◌≡◌, ◌≢◌, ℕ, ◌+◌, ◌<◌, ◌==◌, Bool, true, false, cond, drop, replicate, List, [], ◌∷◌, ◌++◌, length, map, take, get_or, refl, sym, ap, ◌∙◌, subst, arith, append-nil, length-append, Option, ◌≤◌, ◌*◌}
 use Rattle.std.specs.List.{fold, range_with_len}
 use Rattle.std.proofs.lemmas.List.{length-map, take_all, map-append}

@@ -1,4 +1,4 @@
-//! Writes a command and its answer in words.
+//! Writes a command and its answer as text.
 ghost use Rattle.std.specs.Prelude.{◌≡◌, ◌++◌, ◌∷◌, [], ◌<◌, ◌≤◌, ◌/◌, ◌%◌, OnOk, IfOk, flat_map, slice_index};
 ghost use Rattle.std.specs.List.{All};
 ghost use Rattle.qolb_script.specs.Said.{said_words};

@@ -1,4 +1,5 @@
-//! Writes an event of a step script, a place of the line, or an entry in words.
+//! Writes parts of a step script's picture as text: an event, the place where the line's data lies, or a node's entry
+//! in the queue.
 ghost use Rattle.std.specs.Prelude.{◌≡◌, ◌++◌, OnOk};
 ghost use Rattle.qolb_script.specs.StepReply.{step_said};
 ghost use Rattle.qolb_draw.specs.StepSvg as spec;

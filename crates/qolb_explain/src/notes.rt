@@ -15,10 +15,10 @@ use qolb_script::{Command, Said, Schedule, ScriptError, read_schedule};
 use qolb_words::{push_field, verb};
 use std::alloc::{AllocError, Global};
 
-/// Returns a line of text for each misused command of a schedule: the state of the node, and the commands that this
-/// state allows.
+/// Returns a note, which is a line of text, for each misused command of a schedule.
 ///
-/// The notes are grouped by the lines of the schedule. The text is empty if the script is refused.
+/// A note names the state of the node and the commands that this state allows. The notes are grouped by the lines of
+/// the schedule. The text is empty if the script is refused.
 pub fn notes_of_schedule(alloc: Global, script: &[u8]) -> Result<Vec<u8>, AllocError>
     ensures { IfOk result (λ notes. notes.items ≡ spec.schedule_notes script.now) }
 {

@@ -13,10 +13,9 @@ use qolb_script::{ScriptError, Steps, read_steps};
 use qolb_words::{push_field, push_point, step_verb};
 use std::alloc::{AllocError, Global};
 
-/// Returns a line of text for each refused event of a step script: the point of the node, and the events that this
-/// point allows.
+/// Returns a note, which is a line of text, for each refused event of a step script.
 ///
-/// The text is empty if the script is refused.
+/// A note names the point of the node and the events that this point allows. The text is empty if the script is refused.
 pub fn notes_of_steps(alloc: Global, script: &[u8]) -> Result<Vec<u8>, AllocError>
     ensures { IfOk result (λ notes. spec.AreStepNotes script.now notes.items) }
 {

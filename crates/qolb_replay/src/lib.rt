@@ -1,5 +1,5 @@
-//! Replays scripts on queued lines. A schedule is replayed on lines of any kind; a step script runs on the core of the
-//! link line, one atomic step at a time.
+//! Replays scripts on queued lines, which are queue locks with 64 bytes of data. A schedule is replayed on lines of any
+//! kind. A step script runs on the core of the link line (its state machine), one atomic step at a time.
 #![tactic(auto)]
 
 mod input;

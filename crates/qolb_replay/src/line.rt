@@ -130,8 +130,9 @@ fn answer<L: LineSync<Free>>(line: &L, ports: &mut [L::Port], command: &Command)
     said
 }
 
-/// Executes the command through this port if the state of the port allows it, and otherwise answers that the command is
-/// misuse.
+/// Executes the command through this port if the state of the port allows the command.
+///
+/// Otherwise, the answer is that the command is misuse.
 fn call<L: LineSync<Free>>(line: &L, port: &mut L::Port, command: &Command) -> Said
     requires belongs { L.belongs line.now port.old }
     ensures belongs { L.belongs line.now port.new }
@@ -251,8 +252,9 @@ impl<R: ReplayLine> CountingLine<R> {
         said
     }
 
-    /// Returns the summary of the line: its number, its counts, and the number of nodes that wait at the line or hold
-    /// it.
+    /// Returns the summary of the line.
+    ///
+    /// The summary has the line's number, its counts, and the number of nodes that wait at the line or hold it.
     pub fn summary(&self, number: u64, nodes: u64) -> Said
         requires in_range { nodes ≤ MAX_NODES }
         requires nodes { nodes ≤ R.nodes_of self.now.line }

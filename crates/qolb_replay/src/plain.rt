@@ -23,8 +23,9 @@ impl ReplayLine for PlainLine {
     }
 }
 
-/// Executes the command on the line if the state of the node allows it, and otherwise answers that the command is
-/// misuse.
+/// Executes the command on the line if the state of the node allows the command.
+///
+/// Otherwise, the answer is that the command is misuse.
 fn answer(line: &mut PlainLine, command: &Command) -> Said
     requires first { 1 ≤ node_of command.now }
     requires last { node_of command.now ≤ line.old.nodes }

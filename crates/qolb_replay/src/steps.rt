@@ -24,8 +24,9 @@ use std::io::{Read, Write};
 pub enum Detail {
     /// The word that the event returned.
     Words,
-    /// The word, followed by the rank of the core after the event. The rank is the number of productive events that can
-    /// follow each other from this core.
+    /// The word, followed by the rank of the core after the event.
+    ///
+    /// The rank is the number of productive events that can follow each other from this core.
     Ranks,
 }
 

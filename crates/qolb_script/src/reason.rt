@@ -74,8 +74,9 @@ pub enum Reason {
         place: u64,
         allowed: Allowed,
     },
-    /// The second word does not name a job, and the first word is not one of this number of workers. The worker may be
-    /// missing.
+    /// The second word does not name a job, and the first word is not one of this number of workers.
+    ///
+    /// The worker may be missing.
     NoWorker(u64),
     /// The line does not have the number of words that a line of this form has.
     Count(Form),

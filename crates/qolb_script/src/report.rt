@@ -11,8 +11,10 @@ use std::io::Write;
 /// The result of the work of all workers, as the program reports it.
 #[derive(Clone, Copy, Debug, PartialEq, Eq)]
 pub enum Report {
-    /// The report of a board. It counts the tasks stored, the puts that found the board full, the tasks taken, the
-    /// takes that found the board empty, and the tasks left.
+    /// The report of a board.
+    ///
+    /// It counts the tasks stored, the puts that found the board full, the tasks taken, the takes that found the board
+    /// empty, and the tasks left.
     Board {
         stored: u64,
         full: u64,

@@ -188,8 +188,9 @@ fn number(word: &[u8]) -> Option<u64>
     str::from_utf8(word).ok()?.parse().ok()
 }
 
-/// Returns the number that a word denotes, if this number is from `low` to `high`. The word is number `place` of its
-/// line.
+/// Returns the number that a word denotes, if this number is from `low` to `high`.
+///
+/// `place` is the place of the word in its line, which the error contains.
 pub fn number_within(place: u64, low: u64, high: u64, word: &[u8]) -> Result<u64, Reason>
     ensures number { result ≡ spec.number_within place low high word.now }
     ensures range { IfOk result (λ n. (low ≤ n) × (n ≤ high)) }

@@ -174,8 +174,9 @@ where
     Ok(all)
 }
 
-/// Wraps each line in a `ParkOnPoll`, so that workers sleep between polls. The order of the lines and their ports stay
-/// the same.
+/// Wraps each line in a `ParkOnPoll`, so that workers sleep between polls.
+///
+/// The order of the lines and their ports stay the same.
 fn all_asleep<R: Wait, L: ParkingLine<AccountLaw> + Drop>(
     rt: &R,
     alloc: Global,

@@ -34,8 +34,9 @@ pub(crate) trait JobTarget {
     /// `has_done target worker state jobs` says that the worker, in this state, has done these jobs at this place.
     ghost has_done: { Self → ℕ → Self.WorkerState → List Job → Type 0 };
 
-    /// `was_told target worker state` says that the worker, in this state, was told that a line of this place is
-    /// closed.
+    /// `was_told target worker state` says that the worker, in this state, was told that a line is closed.
+    ///
+    /// The line is one of this place.
     ghost was_told: { Self → ℕ → Self.WorkerState → Type 0 };
 
     /// `takes target job` says that the job is of a kind that this place can do.
@@ -151,8 +152,9 @@ where
     Some(hand)
 }
 
-/// Moves the states of all workers into `room` and returns them. If a worker gave up, returns an error that names the
-/// first such worker.
+/// Moves the states of all workers into `room` and returns them.
+///
+/// If a worker gave up, returns an error that names the first such worker.
 pub(crate) fn all_done<H: Drop>(joined: Joined<H>, room: Vec<H>) -> Result<Vec<H>, RunError>
     requires empty { room.items ≡ [] }
     requires room { vec_len joined.back ≤ vec_capacity room }
