@@ -1,4 +1,4 @@
--- Proof that a picture draws each line in the states that the line has in a replay of the whole script.
+-- Proof that a picture shows each line in the same states as a replay of the whole script.
 use Rattle.std.proofs.Common.{◌≡◌, ℕ, zero, suc, ◌+◌, ◌<◌, ◌==◌, Bool, true, false, cond, List, [], ◌∷◌, ◌++◌, length, replicate, refl, sym, ap, ◌∙◌, subst, arith}
 use Rattle.std.specs.List.{fold}
 use Rattle.std.proofs.lemmas.Bool.Decides.{nat_tests}

@@ -1,4 +1,5 @@
-//! Draws a step script as plain text: a head with the numbers of the nodes, followed by a line of text for each event.
+//! Draws a step script as plain text: a heading with the numbers of the nodes, followed by a line of text for each
+//! event.
 ghost use Rattle.std.specs.Prelude.{◌≡◌, ◌≤◌, ◌++◌, IfOk, OnOk};
 ghost use Rattle.std.specs.List.{range_with_len};
 ghost use Rattle.qolb_model.specs.declared.config.TheConstants.{MAX_NODES};

@@ -1,5 +1,5 @@
-//! Writes the complaint (a detailed error message) about a refused script. The complaint shows the refused line and
-//! says what is allowed instead.
+//! Writes the complaint (a detailed error message) about a refused script: the refused line, and what would have been
+//! allowed there.
 ghost use Rattle.std.specs.Prelude.{◌≡◌, ℕ, MatchOption};
 ghost use Rattle.qolb_script.specs.Text.{numbered_lines, worded};
 ghost use Rattle.qolb_explain.specs.Complaints.{IsAbout, line_at};

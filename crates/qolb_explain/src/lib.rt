@@ -1,5 +1,5 @@
-//! Explains why a script was refused, and what an answer `misuse` or `refused` means. The explanation says what is
-//! allowed instead.
+//! Explains why a script was refused, and what an answer `misuse` or `refused` means. An explanation can also say which
+//! words, commands or events would have been allowed.
 #![tactic(auto)]
 
 mod complaint;

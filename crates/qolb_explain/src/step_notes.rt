@@ -1,5 +1,5 @@
-//! Writes a note on each refused event of a step script. The note names the point of the node (its place in the lock
-//! algorithm) and the events that are allowed there.
+//! Writes a note on each refused event of a step script. The note names the point of the lock algorithm at which the
+//! node is, and the events that this point allows.
 ghost use Rattle.std.specs.Prelude.{◌≡◌, ◌++◌, IfErr, IfOk, OnOk};
 ghost use Rattle.link_core.specs.State.{first, point};
 ghost use Rattle.link_core.specs.Steps.{IsRefused, node_of};

@@ -1,4 +1,5 @@
--- Lemmas about how one more command changes the lines of a replay and the counts of the lines' answers.
+-- Lemmas about what one more command changes in a replay: the state of a line, and the counts of the answers that the
+-- line has given.
 use Rattle.std.proofs.Common.{◌≡◌, ℕ, zero, suc, ◌+◌, ◌||◌, Bool, true, false, List, [], ◌∷◌, ◌++◌, refl, sym, ap, ◌∙◌, arith, cond, ◌≢◌, ◌==◌, ◌&&◌, ◌<◌, length, get_or, slice_set, subst, get_or-set_same, get_or-set_other, length-set, inl, inr, ◌⊎◌}
 use Rattle.std.specs.List.{range_with_len, count_by}
 use Rattle.std.proofs.lemmas.List.Sums.{sum_by-append}

@@ -1,5 +1,6 @@
 //! The lines of a replay. `ReplayLine` is the interface through which a replay calls a line. `PortedLine` implements
-//! this interface for a line that each node calls through a port of its own. `CountingLine` also counts the answers.
+//! this interface for a line that each node calls through a port of its own. `CountingLine` is a line together with the
+//! counts of the answers that the line has given.
 ghost use Rattle.std.specs.Prelude.{◌≡◌, ℕ, ◌<◌, ◌≤◌, ◌||◌, length, map, All};
 ghost use Rattle.qolb_model.specs.OneOwner.{OwnerState, opened, state_of};
 ghost use Rattle.qolb_model.specs.Opening.{AreNew, MayOpen};

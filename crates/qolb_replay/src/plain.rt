@@ -1,4 +1,5 @@
-//! Implements `ReplayLine`, the interface through which a replay calls a line, for the plain line, which has one owner.
+//! Implements `ReplayLine` for the plain line, which has one owner. `ReplayLine` is the interface through which a
+//! replay calls a line.
 ghost use Rattle.std.specs.Prelude.{◌≡◌, ◌≤◌};
 ghost use Rattle.qolb_model.specs.OneOwner.{OwnerState};
 ghost use Rattle.qolb_model.specs.Plain.{Agrees};

@@ -1,4 +1,4 @@
--- The text of each error with which the reading of a script can end. The definitions in this file were made for this
+-- The message for each error that can occur while a script is read. The definitions in this file were made for this
 -- project; none is taken from the literature.
 use Rattle.std.specs.Prelude.{ℕ, List, ◌++◌, codes, decimal}
 use Rattle.qolb_script.specs.declared.error.ScriptError.{ScriptError}

@@ -1,4 +1,4 @@
-//! The errors with which the reading of a script can end.
+//! The errors that can occur while a script is read.
 ghost use Rattle.std.specs.Prelude.{◌≡◌, ℕ};
 
 use std::error::Error;

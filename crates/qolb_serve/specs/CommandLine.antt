@@ -1,5 +1,5 @@
--- What the words of a command line request from the program. The library clap, which parses the words, defines how a
--- command understands them.
+-- What the words of a command line request from the program. The library clap parses the words, and defines how a
+-- command interprets them.
 use Rattle.std.specs.Prelude.{Bool, ◌≡◌, true, false, if◌then◌else◌, List, [], ◌∷◌, map, Option, Some, None, option_map, codes}
 use Rattle.std.specs.Borrow.{Bor}
 use Rattle.std.specs.Option.{unwrap_or}

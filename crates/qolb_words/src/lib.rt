@@ -1,5 +1,5 @@
-//! The words that name the commands of a schedule, the events of a step script, and the points of nodes. A point is the
-//! place in the lock algorithm that a node has reached. The crates that write notes and draw pictures use these words.
+//! The words that name the commands of a schedule, the events of a step script, and the points of the lock algorithm at
+//! which a node can be. The crates that write notes and draw pictures use these words.
 #![tactic(auto)]
 
 ghost use Rattle.std.specs.Prelude.{◌≡◌, ◌++◌, OnOk, decimal, flat_map};

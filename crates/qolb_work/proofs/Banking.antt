@@ -1,5 +1,5 @@
--- Lemmas about desks, which are the handles through which workers use a bank: what one call changes, and how much all
--- desks together have paid in and out.
+-- Lemmas about what one call at a bank changes, and about the sums that all workers together have paid in and out. A
+-- desk is the handle through which a worker uses a bank.
 use Rattle.std.proofs.Common.{◌≡◌, inl, inr, ℕ, zero, suc, ◌+◌, ◌*◌, ◌^◌, ◌<◌, ◌≤◌, ◌==◌, true, false, List, [], ◌∷◌, ◌++◌, length, take, lit≤, All, Vec, vec_len, Some, None, slice_get, get_or, map, refl, ap, sym, ◌∙◌, subst, arith, length-append}
 use Rattle.std.specs.Global.{Global}
 use Rattle.std.specs.List.{sum_by}

@@ -1,5 +1,5 @@
--- Proof that no payment into a bank is refused for lack of room if the amounts of all payments in and all moves
--- together fit into one balance.
+-- Proof that no payment into an account fails for lack of room if all payments into accounts and all moves between
+-- accounts together fit into one account.
 use Rattle.std.proofs.Common.{◌≡◌, ◌⊎◌, inl, inr, ℕ, ◌+◌, ◌<◌, ◌≤◌, ◌^◌, true, List, [], ◌∷◌, ◌++◌, length, map, take, All, Some, slice_get, refl, ap, sym, ◌∙◌, subst, arith, length-append}
 use Rattle.std.proofs.lemmas.Bool.{cases_lt}
 use Rattle.std.proofs.lemmas.List.{take-append-le}

@@ -1,5 +1,5 @@
--- Lemmas that keep boards and banks apart: a clause about a bank's lines says nothing about the report of a board, and
--- the other way round.
+-- Lemmas about reports: the clause about the lines of a bank holds trivially for the report of a board, and the clause
+-- about the line of a board holds trivially for the report of a bank.
 use Rattle.std.proofs.Common.{◌≡◌, sym, ◌∙◌, IfOk, Result, Ok, Err}
 use Rattle.qolb_model.specs.declared.config.LineConfig.{LineConfig}
 use Rattle.qolb_model.specs.declared.view.View.{View}

@@ -1,5 +1,5 @@
-//! Runs worker threads that share a task board or the accounts of a bank. Both are stored in queued lines, which are
-//! queue locks with 64 bytes of data.
+//! Runs worker threads that share a task board or the accounts of a bank. The tasks and the accounts are stored in
+//! queued lines, which are queue locks with 64 bytes of data.
 #![tactic(auto)]
 
 mod bank;

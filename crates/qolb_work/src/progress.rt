@@ -1,4 +1,4 @@
-//! A gate that lets every worker continue, and reports how many jobs are finished.
+//! A gate that lets every worker start the next job at once, and reports how many jobs are finished.
 use crate::gate::Gate;
 use std::io;
 use std::rt::Clock;

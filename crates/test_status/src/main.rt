@@ -1,5 +1,5 @@
-//! A copy of the program `qolb` that is stored with a recorded run. In this run, the program refuses a script and ends
-//! with exit status 1.
+//! A copy of the program `qolb` that is stored with a recorded run. In the recorded run, the program refuses a script
+//! and ends with exit status 1.
 #![tactic(auto)]
 
 use qolb_serve::run;
