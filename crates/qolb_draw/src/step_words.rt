@@ -103,7 +103,7 @@ pub fn push_entry<A: Allocator>(text: &mut Vec<u8, A>, entry: &Entry) -> Result<
     Ok(())
 }
 
-/// Appends the words of a write that follow its node.
+/// Appends the offset and the bytes of a write, in the notation of a step script. Appends nothing for other events.
 fn push_placed<A: Allocator>(
     alloc: A,
     text: &mut Vec<u8, A>,

@@ -204,7 +204,7 @@ impl Counts {
         }
     }
 
-    /// Returns the last answer of line number `line`, at which `left` nodes still wait or hold.
+    /// Returns the summary of line number `line`, at which `left` nodes still wait or hold.
     pub fn summary(self, line: u64, left: u64) -> Said
         ensures { result ≡ Said.Summary line self.served self.withdrawn self.told left }
     {

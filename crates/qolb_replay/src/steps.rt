@@ -110,7 +110,7 @@ fn reply<A: Allocator + Clone>(
     Ok(text)
 }
 
-/// Appends the text for an event with this result and this core after it.
+/// Appends the text for an event that had this result and left the core in this state.
 ///
 /// If an allocation fails, the text is unchanged.
 fn push_heard<A: Allocator>(

@@ -33,7 +33,7 @@ pub const LINES: &[u8] = b"lines";
 /// The word in a header that precedes the lease.
 pub const LEASE: &[u8] = b"lease";
 
-/// The kind of a command that has only a node and a line, as its first word tells.
+/// The kinds of commands that consist of one word, a node and a line. The word tells the kind.
 #[derive(Clone, Copy)]
 pub enum Verb {
     Enq,
@@ -44,7 +44,7 @@ pub enum Verb {
     Shut,
 }
 
-/// All kinds of such commands.
+/// All kinds of commands that consist of one word, a node and a line.
 const VERBS: [Verb; 6] = [
     Verb::Enq,
     Verb::Poll,

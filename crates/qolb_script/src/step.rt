@@ -5,7 +5,7 @@ ghost use Rattle.qolb_script.specs.Stepped.{word_of, event_of};
 
 use link_core::Event;
 
-/// The kind of an event that has only a node, as its first word tells.
+/// The kinds of events that consist of one word and a node. The word tells the kind.
 #[derive(Clone, Copy)]
 pub enum Step {
     Reset,
@@ -20,7 +20,7 @@ pub enum Step {
     Close,
 }
 
-/// All kinds of such events.
+/// All kinds of events that consist of one word and a node.
 const STEPS: [Step; 10] = [
     Step::Reset,
     Step::Prepend,

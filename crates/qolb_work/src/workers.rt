@@ -54,7 +54,7 @@ pub(crate) trait JobTarget {
             → has_done self.now worker hand.old done → was_told self.now worker hand.new };
 }
 
-/// The task of each worker's thread: it does the worker's jobs, each of them once the gate allows the job.
+/// The task of each worker's thread, which is to do the worker's jobs. Each job begins once the gate allows it.
 #[derive(Drop)]
 struct Jobs<'a, G> {
     gate: &'a G,
