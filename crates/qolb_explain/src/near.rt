@@ -8,8 +8,8 @@ const MAX_WORD: usize = 20;
 /// Returns the allowed word that means the same as the given word.
 ///
 /// The given word may be in small letters or capitals. It may come from another subcommand or from another lock
-/// library. The words are listed, because a
-/// comparison of letters would not find, for example, that `withdraw` means `out`.
+/// library. The words are listed, because a comparison of letters would not find, for example, that `withdraw` means
+/// `out`.
 pub fn near(allowed: Allowed, word: &[u8]) -> Option<&'static str> {
     let letters = small_letters(word);
     let word = &letters[..word.len().min(MAX_WORD)];

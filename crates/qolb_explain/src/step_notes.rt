@@ -15,7 +15,8 @@ use std::alloc::{AllocError, Global};
 
 /// Returns a note, which is a line of text, for each refused event of a step script.
 ///
-/// A note names the point of the node and the events that this point allows. The text is empty if the script is refused.
+/// A note names the point of the node and the events that this point allows. The text is empty if the script is
+/// refused.
 pub fn notes_of_steps(alloc: Global, script: &[u8]) -> Result<Vec<u8>, AllocError>
     ensures { IfOk result (λ notes. spec.AreStepNotes script.now notes.items) }
 {
