@@ -1,4 +1,4 @@
-//! Enters the lock without a timeout: `enter` waits, and `try_enter` does not.
+//! Enters the lock without a timeout: `enter` waits for the lock, and `try_enter` does not wait.
 ghost use Rattle.std.specs.Prelude.{◌≡◌, ◌≤◌, true, false, IfOk, IfErr};
 ghost use Rattle.fair_lock.specs.Closing.{IsOut, IsToldShut, HasNoRequest, IfTryClosed, IfTryBusy};
 ghost use Rattle.lock_core.specs.Views.{InTime, IsSeatOf, IsAtTurn, IsOvertakenInBounds, IsHeadInside, ServedOpen, KnowsShut};

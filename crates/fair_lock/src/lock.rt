@@ -1,4 +1,4 @@
-//! The type of a fair lock, with the calls that create a lock around a value and take the lock apart again.
+//! The type of a fair lock, and the calls that create a lock around a value or take the value out of the lock again.
 ghost use Rattle.std.specs.Prelude.{◌≡◌, ◌≤◌, IfOk, IfErr};
 ghost use Rattle.lock_core.specs.Layout.{IsValueTable};
 ghost use Rattle.lock_core.specs.Answers.{barging_limit_of, HasValidLimit, IsOpenErrorOf};

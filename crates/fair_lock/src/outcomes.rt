@@ -1,4 +1,5 @@
-//! The outcomes of the lock's calls: why a thread did not get the lock, and what a thread knows after it has left.
+//! The outcomes of the lock's calls. They say why a thread did not get the lock, or what a thread knows after it has
+//! left the lock.
 ghost use Rattle.std.specs.Prelude.{◌≡◌};
 
 use crate::found::FoundTaken;

@@ -1,4 +1,4 @@
-//! The eleven events of the link line's core. Each event is an action of one node.
+//! The eleven events of the core of `link_line`. Each event is an action of one node.
 ghost use Rattle.std.specs.Prelude.{◌≡◌};
 ghost use Rattle.link_core.specs.Steps.{node_of};
 

@@ -1,5 +1,5 @@
-//! Theorems about the events of the core, for use in the proof of `link_line`, whose words are those of a core. Each
-//! theorem is the contract of a function that does nothing.
+//! Theorems about the events of the core, for use in the proof of `link_line`. The words of a `link_line` are those of
+//! a core. Each theorem is the contract of a function that does nothing.
 
 ghost use Rattle.link_core.specs.Laws.{OpenedShows, EachEventKeeps, MovesAreMade, EventsAreEnabled, EventsHaveOneEffect, AddsFindUnset, NodesFind, SizesStay, LastsHavePlaces, WalksAreShort, EndsClose, RunsMove, FewAreOpen, EventsGoDown, OpenHaveWays, WaysStay, FewAreLeft, PathsAreShort, RunsAreShort};
 

@@ -1,4 +1,4 @@
-//! The core as a state machine: a program creates it, makes events, and reads its state.
+//! The core as a state machine. A program creates the machine, lets nodes make events, and reads the state.
 ghost use Rattle.std.specs.Prelude.{◌≡◌, ◌↔◌, ◌≤◌, IfOk, IfErr, OnErr, IfSome, IsSome};
 ghost use Rattle.qolb_model.specs.Queue.{Queue, empty_queue};
 ghost use Rattle.qolb_model.specs.Opening.{AreNodes, MayOpen};

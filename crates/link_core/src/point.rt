@@ -1,4 +1,5 @@
-//! The points of a node, each of which determines the event that the node makes next.
+//! The points of a node. A point records how far the node's call has got, and determines which events the node can make
+//! next.
 
 /// The point of a node in its call.
 #[derive(Clone, Copy, Debug, PartialEq, Eq)]

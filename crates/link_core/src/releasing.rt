@@ -1,5 +1,5 @@
-//! The events of a release: it tries to return the line home, marks an entry as done, grants the next node, and frees
-//! the nodes that it has skipped.
+//! The events of a release. A release tries to return the line home, marks an entry as done, grants the line to the
+//! next node, and frees the nodes that it has skipped.
 ghost use Rattle.std.specs.Prelude.{◌≡◌, ◌≢◌, ◌<◌, ◌≤◌, ℕ, List, [], ◌∷◌, ◌++◌, length, IfOk, IfErr, OnErr};
 ghost use Rattle.qolb_model.specs.declared.config.TheConstants.{MAX_NODES};
 ghost use Rattle.link_core.specs.declared.seat.TheConstants.{MAX_PASSED};

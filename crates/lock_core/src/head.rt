@@ -1,5 +1,5 @@
-//! The calls of the queue head, which is the first waiter of a barging lock. It looks at the lock word, takes it, or
-//! announces that it sleeps on it.
+//! The calls of the queue head, which is the first waiter in the queue of a barging lock. The queue head reads the lock
+//! word, takes the word, requests a handoff, or announces that it will sleep on the word.
 //!
 //! A thread that leaves the lock word reserves the word for the queue head if the queue head has requested a handoff,
 //! or if the barging limit is reached.

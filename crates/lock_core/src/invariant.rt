@@ -1,4 +1,5 @@
-//! The types of a lock's table and of its callers' seats, and the invariant of the table.
+//! Defines the table of a lock's atomic words, the seats through which callers use the table, and the invariant of the
+//! table.
 ghost use Rattle.lock_core.specs.Views.{max_newcomers_of, initial_view};
 ghost use Rattle.lock_core.specs.Slots.{Slotted};
 

@@ -1,5 +1,5 @@
-//! The words of a lock, how each word is packed, and the limits of a lock. Each of these numbers is defined only in
-//! this file.
+//! The words of a lock, how each word is packed, and the limits of a lock. The code takes these numbers from this file.
+//! `specs/Layout.antt` restates some of them for the contracts.
 //!
 //! - Word 0 is the lock word. Bit 0 is 1 if a handoff is requested, and bit 1 is 1 if the queue head sleeps on the
 //!   word. Bits 2 and 3 contain the state: 0 is free, 1 is held, and 2 is reserved for the queue head. Bit 4 is 1 if

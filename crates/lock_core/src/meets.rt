@@ -1,8 +1,8 @@
-//! The theorems about two callers of a lock.
+//! Theorems about two callers of a lock.
 //!
-//! A clause can refer to the seat of only one caller. Therefore a theorem about two callers is a function that borrows
-//! both seats, and ensures that the two callers cannot be in the stated situation. No program calls these functions,
-//! but the proof of a caller may use them.
+//! The contract of an ordinary call can refer to only one caller's seat. Therefore a theorem about two callers is a
+//! function that takes both of their seats, and ensures that the two callers cannot be in the stated situation. No
+//! program calls these functions, but the proof of a caller may use them.
 ghost use Rattle.std.specs.Prelude.{◌≡◌, ◌<◌, ◌≤◌, []};
 ghost use Rattle.lock_core.specs.Layout.{HasLockWords, IsLockTable};
 ghost use Rattle.lock_core.specs.Views.{view_of, InTime, NeverInTime, LoadGrows, KeepsValue, IsSeatOf, IsIdle, IsOutside, HasTurn, HasTurnAwake, IsNotServed, KnowsShut, LeftQuietly, ServedOpen, SleepsAtLockWord};

@@ -1,4 +1,4 @@
-//! Opening: a lock is created, and each caller gets a seat.
+//! Creates a lock, and gives each caller a seat, which is the handle through which the caller uses the lock.
 ghost use Rattle.std.specs.Prelude.{◌≡◌, ◌≢◌, ◌≤◌, IfOk, IfErr, length};
 ghost use Rattle.lock_core.specs.Layout.{max_barging_limit, HasLockWords, IsLockTable, IsValueTable};
 ghost use Rattle.lock_core.specs.Views.{view_of, IsSeatOf, IsOutside};

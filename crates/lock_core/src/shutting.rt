@@ -1,8 +1,8 @@
-//! Shutting and reopening: the holder shuts the lock, and a caller that has the turn reopens it if no request is behind
-//! its own.
+//! Shutting and reopening the lock. The holder shuts the lock. A caller that has the turn reopens the lock if no
+//! request is behind its own.
 //!
 //! In a strict lock, a caller that has the turn checks whether the lock is open (`check_open`). In a barging lock, the
-//! step that takes the lock word reports this to the caller.
+//! step that takes the lock word reports to the caller whether the lock is open.
 ghost use Rattle.std.specs.Prelude.{◌≡◌, ◌≢◌, ◌+◌, ◌%◌, ◌^◌, ◌≤◌, true, false};
 ghost use Rattle.lock_core.specs.Layout.{HasLockWords, tail_at};
 ghost use Rattle.lock_core.specs.Views.{view_of, InTime, InTimeFrom, LoadGrows, IsSeatOf, IsAtTurn, HasTurnOf, Kept, KnowsShut, ServedOpen, ServedShut, SameKnown, SameNewcomersSeen, SameSleepAtLockWord, IsLaterEpoch, KeepsValue};

@@ -1,4 +1,4 @@
-//! What a caller knows about a lock. These types exist only in proofs.
+//! Types that record what a caller knows about a lock. These types exist only in proofs.
 
 /// The state of a caller's request, as far as the caller knows.
 pub enum Phase {

@@ -1,7 +1,7 @@
 //! Waiting: a waiter polls its cell, announces that it is about to sleep, and retracts the announcement.
 //!
 //! The cell's word contains the number of waiters that have announced a sleep. A grant changes the same word, so the
-//! atomic step that grants the ticket also reads this number, and no wake-up is lost.
+//! atomic step that grants the ticket also reads this number. Therefore no wake-up is lost.
 ghost use Rattle.std.specs.Prelude.{◌≡◌, ◌<◌, ◌⊎◌};
 ghost use Rattle.lock_core.specs.Layout.{max_sleepers, HasLockWords, cell_at, count_of, to_go};
 ghost use Rattle.lock_core.specs.Views.{view_of, InTime, InTimeFrom, LoadGrows, IsSeatOf, IsQueued, IsQueuedWithin, IsAsleep, IsAtTurn, IsOvertakenInBounds, SameRequest, SameTurn};
