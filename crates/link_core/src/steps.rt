@@ -17,8 +17,8 @@
 //!     v                                  v
 //!   granted done              rolled granted done
 //!                                        |
-//!                                      Freed(o)           a passed node alone, after o's release: before Done too, where the line
-//!                                        |                went home from n's entry
+//!                                      Freed(o)           only for a node that was passed, after o's release;
+//!                                        |                without Done if the line went home from n's entry
 //!                                        v
 //!                          rolled granted done freed
 //! ```

@@ -1,4 +1,5 @@
--- Proof that each answer of a call implies everything that the call guarantees about its port.
+-- Proof that everything that a call guarantees about its port follows from the facts about the one answer that the call
+-- gave.
 use Rattle.std.proofs.Common.{◌≡◌, ℕ, List, inl, inr, refl}
 use Rattle.qolb_model.specs.declared.answer.Enq.{Enq}
 use Rattle.qolb_model.specs.declared.answer.Enq.TheVariants as enq

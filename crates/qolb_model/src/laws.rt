@@ -1,5 +1,5 @@
-//! The theorems about lines that follow from the definitions in the contracts. Each theorem is the contract of a
-//! function that does nothing.
+//! Theorems about lines that follow from the definitions in the contracts. Each theorem is the contract of a function
+//! that does nothing.
 ghost use Rattle.std.specs.Prelude.{◌≡◌};
 ghost use Rattle.qolb_model.specs.Laws.{NoRequestStandsTwice, NoneIsServedAfterClosing, LeaseBounds, OpenLineHasTurns, OnlyServedEndsWrite, GoodStaysGood, ClearPortIsNotBusy, ExtendsThrough, PartIsOfOneHistory, EachTwoAreOfOneHistory, FewerEndsBegin, SameEndsSameBytes, OneNodeHolds, BoundedBypass, FewTurnsBefore, FewWaitAtOnce, NewPortsAreOfOneHistory, PortsThatMetKnowTheSame, SumsAreOfEachPort, ClosedByLeaseAlone, NoneIsTold};
 

@@ -1,4 +1,4 @@
-//! The view of a port, which is what the port knows about its line. The contracts of all calls refer to it.
+//! The view of a port, which is what the port knows about its line. The contracts of all calls refer to this view.
 use crate::answer::PortState;
 use crate::config::LineConfig;
 use crate::end::End;
