@@ -1,4 +1,4 @@
-//! Requesting the lock: a caller draws a ticket, whose number is the caller's place in the queue.
+//! Requesting the lock: a caller draws a ticket, whose number is the request's place in the order of all requests.
 //!
 //! `draw` always draws a ticket. The other calls first read the tail, which contains the number of the next ticket, and
 //! the cell of that ticket. Each of them draws the ticket only under a condition. `try_draw` requires that the ticket's

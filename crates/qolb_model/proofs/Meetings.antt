@@ -1,5 +1,5 @@
--- Lemmas about rounds of meetings, in which ports exchange what they know. They state what a round reveals about the
--- call before it, and why all ports know the same whole history after it.
+-- Lemmas about rounds of meetings, in which ports exchange what they know. The lemmas state what a round reveals about
+-- the call before the round, and that all ports know the same whole history after the round.
 use Rattle.std.proofs.Common.{◌≡◌, ◌≢◌, ℕ, ◌+◌, ◌≤◌, ◌⊎◌, inl, inr, Bool, true, false, ◌||◌, List, [], ◌∷◌, ◌++◌, length, Some, None, slice_get, refl, ap, sym, ◌∙◌, subst, arith, length-append}
 use Rattle.std.proofs.lemmas.Bool.{cases_eq}
 use Rattle.std.proofs.lemmas.Option.{slice_get_within}

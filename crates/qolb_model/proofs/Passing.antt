@@ -1,6 +1,6 @@
 -- Proof about a port that releases or forwards its line while all other ports know the line's whole history. (A port
 -- forwards the line if the line is closed.) The release skips the same requests as the release of a single owner. After
--- it, the port knows the state that the owner's release would lead to.
+-- the release, the port knows the state that the owner's release would lead to.
 use Rattle.std.proofs.Common.{◌≡◌, ◌≢◌, ℕ, zero, suc, ◌+◌, ◌<◌, ◌≤◌, inl, inr, true, false, if◌then◌else◌, List, [], ◌∷◌, ◌++◌, length, drop, replicate, Some, slice_get, refl, ap, sym, ◌∙◌, subst, arith, append_assoc, length-append}
 use Rattle.std.proofs.lemmas.Bool.{cases_eq, cases_order, false_from_ne_true}
 use Rattle.std.proofs.lemmas.List.{length-replicate, length-drop}
