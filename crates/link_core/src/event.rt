@@ -4,7 +4,7 @@ ghost use Rattle.link_core.specs.Steps.{node_of};
 
 use line_lanes::{Line64, Mask};
 
-/// One atomic act of one node: an atomic step, or an act of a holder on the line in its hand.
+/// One atomic action of one node: an atomic step, or an action of a holder on the line that it holds.
 #[derive(Clone, Copy, Debug, PartialEq, Eq)]
 pub enum Event {
     /// The node stores 0 in its own entry.

@@ -17,7 +17,7 @@ pub enum ReleaseCause {
     Own,
     /// The node held the line and has closed it.
     Closing,
-    /// The line reached the node closed.
+    /// The line was already closed when it reached the node.
     Refused,
 }
 

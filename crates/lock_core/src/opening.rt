@@ -17,13 +17,14 @@ pub enum LockKind {
     /// A strict lock serves its callers in the order of their tickets.
     Strict,
     /// In a barging lock, threads without a ticket may overtake the queue. The number is the barging limit, from
-    /// `MIN_BARGING_LIMIT` to `MAX_BARGING_LIMIT`: the most acquisitions from one queue head's to the next, including
-    /// the head's own.
+    /// `MIN_BARGING_LIMIT` to `MAX_BARGING_LIMIT`: the maximum number of acquisitions per queue head, which are those
+    /// of the threads that barge before it, and its own.
     Barging(u16),
 }
 
 impl LockKind {
-    /// The most acquisitions from one queue head's to the next, which is 1 in a strict lock.
+    /// The maximum number of acquisitions per queue head: those of the threads that barge before it, and its own. It is
+    /// 1 in a strict lock.
     #[inline]
     pub fn barging_limit(self) -> u64
         ensures barging_limit { result ≡ barging_limit_of self }

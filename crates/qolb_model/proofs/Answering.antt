@@ -1,5 +1,4 @@
--- Proof that everything that a call guarantees about its port follows from the facts about the one answer that the call
--- gave.
+-- Lemmas that derive the whole guarantee of a call from the facts about the answer that the call gave.
 use Rattle.std.proofs.Common.{◌≡◌, ℕ, List, inl, inr, refl}
 use Rattle.qolb_model.specs.declared.answer.Enq.{Enq}
 use Rattle.qolb_model.specs.declared.answer.Enq.TheVariants as enq
