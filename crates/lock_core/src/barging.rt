@@ -17,7 +17,7 @@ use crate::plays::{Barge, ReadLockWord};
 pub enum BargeResult {
     /// The thread holds the lock word, as a newcomer.
     Inside,
-    /// The thread does not hold the lock word. Its step found this value there.
+    /// The thread does not hold the lock word. Its step found this value in the lock word.
     Outside { lock_word: u64 },
 }
 
