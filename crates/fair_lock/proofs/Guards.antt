@@ -1,4 +1,4 @@
--- Proof that a guard stays valid, whatever the thread writes to the value.
+-- Proof that a guard remains valid no matter what its thread writes to the lock's value.
 use Rattle.std.proofs.Common.{◌≡◌, ℕ, List, [], ◌∷◌, ap, arith}
 use Rattle.atomic_table.specs.Table.{rest}
 use Rattle.fair_lock.specs.declared.guard.Guard.{Guard}

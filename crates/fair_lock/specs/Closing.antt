@@ -1,4 +1,4 @@
--- What a thread knows about the lock if it was not served.
+-- What a thread knows about the lock after a call that did not get the lock.
 use Rattle.std.specs.Prelude.{◌≡◌, ℕ, ◌≤◌}
 use Rattle.atomic_table.specs.declared.shared.Seat.{Seat}
 use Rattle.lock_core.specs.declared.view.View.{View}

@@ -1,4 +1,4 @@
--- What a thread's last steps found if the lock was not free.
+-- What a thread's last atomic steps found in the lock's words, if the lock was not free.
 use Rattle.std.specs.Prelude.{◌≡◌, ◌≢◌, ℕ, ◌<◌, ◌≤◌, ◌⊎◌}
 use Rattle.atomic_table.specs.declared.shared.Seat.{Seat}
 use Rattle.lock_core.specs.declared.view.View.{View}

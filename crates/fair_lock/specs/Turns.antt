@@ -1,4 +1,5 @@
--- Describes a critical section of a lock in the terms that contracts use.
+-- Definitions with which contracts describe a critical section of a lock: which thread is in it, and how that thread
+-- got the lock.
 use Rattle.std.specs.Prelude.{◌≡◌, ◌≢◌, ℕ, ◌+◌, ◌-◌, ◌*◌, ◌%◌, ◌≤◌, ◌⊎◌, []}
 use Rattle.std.specs.Borrow.{Lends, MutBor, Fml}
 use mir.Syntax.{named}

@@ -1,4 +1,4 @@
--- What a step on a wake word reveals to the thread that takes it.
+-- What a thread learns from an atomic step on a wake word, which is a word on which waiters sleep.
 use Rattle.std.specs.Prelude.{◌≡◌, ℕ, ◌+◌, ◌%◌}
 use Rattle.atomic_table.specs.Table.{Step, Me}
 use Rattle.fair_lock.specs.declared.wake.Look.{Look}

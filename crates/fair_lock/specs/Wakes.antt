@@ -1,4 +1,4 @@
--- What the announcement of a sleep, a release and a wake-up each guarantee.
+-- What is guaranteed to a waiter that announces its sleep, and what a releasing thread must do to wake sleepers.
 use Rattle.std.specs.Prelude.{◌≡◌, ℕ, ◌+◌, ◌%◌, ◌<◌, true, false}
 use Rattle.atomic_table.specs.declared.shared.Seat.{Seat}
 use Rattle.lock_core.specs.declared.view.View.{View}

@@ -1,4 +1,4 @@
-//! Enters the lock without a timeout: `enter` waits, and `try_enter` does not.
+//! Enters the lock without a timeout: `enter` waits for the lock, and `try_enter` does not wait.
 ghost use Rattle.std.specs.Prelude.{◌≡◌, ◌≤◌, true, false, IfOk, IfErr};
 ghost use Rattle.fair_lock.specs.Closing.{IsOut, IsToldShut, HasNoRequest, IfTryClosed, IfTryBusy};
 ghost use Rattle.lock_core.specs.Views.{InTime, IsSeatOf, IsAtTurn, IsOvertakenInBounds, IsHeadInside, ServedOpen, KnowsShut};
@@ -17,8 +17,8 @@ use lock_core::{
 use std::sync::Wait;
 
 impl<T> FairLock<T> {
-    /// Enters, and waits for as long as that takes. Blocks: it polls for some 20 us, or for 2 us with more than four
-    /// requests before its own, and then sleeps.
+    /// Enters the lock, and waits for as long as that takes. Blocks: the thread polls for some 20 us, or for 2 us if
+    /// more than four requests are before its own, and then sleeps.
     ///
     /// A strict lock serves its callers in the order of their requests. In a barging lock a thread may barge, and is
     /// then served at once. With p requests before it, at most (p + 1) * (`barging_limit` - 1) threads barge between a
@@ -46,7 +46,7 @@ impl<T> FairLock<T> {
         self.release_inside(rt, seat, turn, open)
     }
 
-    /// Enters if that is possible at once, and otherwise leaves nothing behind. Does not block.
+    /// Enters the lock if that is possible at once, and otherwise leaves nothing behind. Does not block.
     ///
     /// In a strict lock the call enters, or is refused as busy, in at most five atomic steps.
     ///

@@ -18,8 +18,8 @@ use std::sync::{Wait, WaitMethods};
 use std::time::Duration;
 
 impl<T> FairLock<T> {
-    /// Enters, or times out once `at_most` is over and the thread's turn has not come. Blocks for no longer than about
-    /// `at_most`.
+    /// Enters the lock, or times out if the thread's turn has not come when `at_most` is over. Blocks for no longer
+    /// than about `at_most`.
     ///
     /// The call draws a ticket only while its request could be withdrawn. With more than some 60 requests before it,
     /// the thread waits without a ticket, looks again every 200 us, and may time out. A thread that came later and

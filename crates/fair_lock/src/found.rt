@@ -1,5 +1,5 @@
-//! Proof tokens without bytes, each of which records what a thread's last steps on the lock found. Only the function in
-//! this file creates them, so a caller cannot claim something that it has not seen.
+//! Zero-sized proof tokens. Each token records what a thread's last steps on the lock found. Only the function in this
+//! file creates tokens, so a caller cannot claim to have found something that it has not found.
 ghost use Rattle.std.specs.Prelude.{◌≡◌, ◌<◌, ◌≤◌, ◌⊎◌};
 ghost use Rattle.lock_core.specs.Views.{InTime};
 ghost use Rattle.fair_lock.specs.Closing.{IsOut};

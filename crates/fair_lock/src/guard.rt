@@ -43,7 +43,7 @@ impl<T> FairLock<T> {
 }
 
 impl<T> Guard<'_, T> {
-    /// Lends the value. The guard stays valid, whatever the thread writes.
+    /// Lends the value. The guard stays valid, no matter what the thread writes.
     pub fn value_mut(&mut self) -> &mut T
         requires guard { IsGuard self.old }
         ensures* writes_back { sem 𝓛 (LendsValue T.row self.entry result) }
@@ -70,7 +70,7 @@ impl<T> Guard<'_, T> {
     }
 
     /// Ends the critical section. The call grants the next ticket, or leaves the lock word of a barging lock, and wakes
-    /// the threads that sleep for that. It does not block. A lock that was shut stays shut.
+    /// the threads that sleep until this happens. It does not block. A lock that was shut stays shut.
     #[tactic(auto, unfolding(crate::specs::Turns::IsGuard))]
     pub fn leave<R: Wait>(self, rt: &R) -> Left<T>
         requires guard { IsGuard self }

@@ -1,4 +1,5 @@
-//! Waiting at the head of the queue: the first waiter of a barging lock waits here until it holds the lock word.
+//! How the first waiter in the queue of a barging lock waits until it holds the lock word. (A barging lock lets newly
+//! arriving threads overtake the queue.)
 ghost use Rattle.std.specs.Prelude.{◌≡◌, ◌≤◌, true, false, IfOk, IfErr};
 ghost use Rattle.fair_lock.specs.Closing.{IsOut};
 ghost use Rattle.fair_lock.specs.Found.{NotedOrNotHeld};

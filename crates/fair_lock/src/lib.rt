@@ -1,8 +1,10 @@
-//! A fair lock: it protects a value for any number of threads, which may start and end at any time. The lock is strict,
-//! or it lets threads barge, which means that a thread may overtake the queue.
+//! A fair lock that protects a value. Any number of threads may use the lock, and they may start and end at any time. A
+//! strict lock serves threads in the order of their requests. A barging lock lets newly arriving threads overtake the
+//! queue, but only a bounded number of times.
 //!
-//! The crate adds waiting and waking to the lock core of `lock_core`, and stores the value in the slot of the core's
-//! table. A thread calls `enter`, `try_enter` or `enter_within`, and gets a guard through which it uses the value.
+//! The crate adds waiting and waking to `lock_core`, which provides the lock's atomic steps. The table that contains
+//! the lock's atomic words also has a slot, which stores the value. A thread calls `enter`, `try_enter` or
+//! `enter_within`. If the thread gets the lock, the call returns a guard through which the thread uses the value.
 #![tactic(auto)]
 
 mod drawing;

@@ -1,4 +1,4 @@
-//! The type of a fair lock, with the calls that create a lock around a value and take the lock apart again.
+//! The type of a fair lock, and the calls that create a lock around a value or take the value out of the lock again.
 ghost use Rattle.std.specs.Prelude.{◌≡◌, ◌≤◌, IfOk, IfErr};
 ghost use Rattle.lock_core.specs.Layout.{IsValueTable};
 ghost use Rattle.lock_core.specs.Answers.{barging_limit_of, HasValidLimit, IsOpenErrorOf};
@@ -14,7 +14,8 @@ use std::alloc::{AllocFailed, Global};
 pub struct FairLock<T> {
     pub(crate) table: ValueTable<T>,
     pub(crate) wakes: WakeWords,
-    /// The most acquisitions from one queue head's to the next, which is 1 in a strict lock.
+    /// The maximum number of acquisitions per queue head: those of the threads that barge before it, and its own. It is
+    /// 1 in a strict lock.
     pub barging_limit: u64,
     ghost sized: { IsValueTable table.shared.table_id },
     ghost bound: { table.shared.key ≡ barging_limit },
@@ -41,7 +42,7 @@ impl<T> FairLock<T> {
     }
 
     /// Makes a barging lock, in which newly arriving threads may overtake the queue. At most `barging_limit` - 1 of
-    /// them barge from one queue head to the next. The limit is from 2 to 65,535. Allocates.
+    /// them barge between two consecutive queue heads. The limit is from 2 to 65,535. Allocates.
     ///
     /// # Errors
     ///

@@ -1,4 +1,5 @@
-//! The outcomes of the lock's calls: why a thread did not get the lock, and what a thread knows after it has left.
+//! The outcomes of the lock's calls. They say why a thread did not get the lock, or what a thread knows after it has
+//! left the lock.
 ghost use Rattle.std.specs.Prelude.{◌≡◌};
 
 use crate::found::FoundTaken;
@@ -6,14 +7,14 @@ use crate::span::Over;
 use lock_core::ValueSeat;
 
 /// The lock is shut, and serves no thread any more. This value has no bytes, and shows in proofs that the caller was
-/// told so.
+/// told that the lock is shut.
 #[derive(Drop)]
 pub struct Closed<T> {
     pub(crate) seat: ValueSeat<T>,
 }
 
-/// Another thread was served, or waited. This value has no bytes, and shows in proofs that the call left nothing
-/// behind.
+/// Another thread held the lock or waited for it. This value has no bytes, and shows in proofs that the call left
+/// nothing behind.
 #[derive(Drop)]
 pub struct Busy<T> {
     pub(crate) seat: ValueSeat<T>,

@@ -1,10 +1,10 @@
 //! The waiting policy: this file alone decides how long a thread polls, pauses and naps before it sleeps.
 //!
-//! A waiter knows its distance, which is the number of rounds, of four tickets each, before its own round. It knows
-//! neither the time nor the number of processors, because each reading of the clock is a system call, and the
-//! toolchain's library has no call that counts processors. The limits in this file are therefore numbers of polls, and
-//! a comment at each of them gives its reason. The waiters of a line (`line_blocking`) do not share this module,
-//! because the result of polling a line does not include a distance.
+//! A waiter knows its distance, which is the number of rounds that must still be granted before its own round. (A round
+//! is four consecutive tickets.) A waiter knows neither the time nor the number of processors, because each reading of
+//! the clock is a system call, and the toolchain's library has no call that counts processors. The limits in this file
+//! are therefore numbers of polls, and a comment at each of them gives its reason. The waiters of a line
+//! (`line_blocking`) do not share this module, because the result of polling a line does not include a distance.
 use crate::span::Rest;
 use crossbeam_utils::Backoff;
 use std::hint::spin_loop;

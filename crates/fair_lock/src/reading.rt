@@ -1,5 +1,5 @@
-//! A reading of the clock. Only the function in this file creates readings, and a reading cannot be copied. So a caller
-//! that presents a reading has read the clock.
+//! A reading of the clock. Only the function in this file creates readings, and a reading cannot be copied. Therefore a
+//! caller that presents a reading has read the clock.
 ghost use Rattle.std.specs.Prelude.{◌≡◌};
 
 use std::rt::Clock;

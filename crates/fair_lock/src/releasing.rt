@@ -1,5 +1,5 @@
-//! Releases: a thread grants the next ticket, or leaves the lock word. These calls report sleepers to the releasing
-//! thread, which must wake them.
+//! Releasing the lock: a thread grants the next ticket, or gives up the lock word. These calls report sleepers to the
+//! releasing thread, which must wake the sleepers.
 ghost use Rattle.std.specs.Prelude.{◌≡◌, ◌<◌, ◌≤◌, false, IfSome, IfNone};
 ghost use Rattle.lock_core.specs.Views.{view_of, InTime, InTimeFrom, LoadGrows, IsSeatOf, IsIdle, IsInside, IsOutside, IsNotServed, HasEnded, HasTurnOf, SameKnown, SameOvertaking, SameTurn};
 ghost use Rattle.lock_core.specs.Looks.{LeavesAsFound};

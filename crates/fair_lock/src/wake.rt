@@ -1,13 +1,15 @@
-//! The words on which waiters sleep, and how a releasing thread wakes them. This file never decides which thread is
-//! next.
+//! The words on which waiters sleep, and how a releasing thread wakes the waiters. The code in this file never decides
+//! which thread gets the lock next.
 //!
-//! The kernel compares the low half of a word before it puts a thread to sleep, but a grant changes the high half of a
-//! cell. Therefore waiters sleep on separate words: 32 words, of which the ticket's number selects one, and one further
-//! word for the queue head. A waiter reads its word, announces its sleep with the proved call, and sleeps while the
-//! word has the value that it read. If a release reports sleepers, the releasing thread increments the word of the
-//! granted ticket, and then wakes all threads that sleep on it. So no wake-up is lost between the announcement and the
-//! sleep, and 32 consecutive waiters sleep on different words. A thread that has slept also wakes the waiter behind the
-//! ticket that it grants.
+//! A waiter polls the cell of its ticket, and a grant changes the high half of the cell. The kernel, however, compares
+//! only the low half of a word before it puts a thread to sleep. Therefore waiters sleep on separate *wake words*.
+//! There are 32 wake words for tickets, one of which the ticket's number selects, and one more for the queue head.
+//!
+//! A waiter reads its wake word, announces its sleep with the proved call, and sleeps while the wake word has the value
+//! that it read. If a release reports sleepers, the releasing thread increments the wake word of the granted ticket,
+//! and then wakes all threads that sleep on that word. So no wake-up is lost between the announcement and the sleep.
+//! With 32 wake words, 32 consecutive waiters sleep on different words. A thread that has slept also wakes the waiter
+//! behind the ticket that it grants.
 ghost use Rattle.std.specs.Prelude.{◌≡◌, ◌<◌, ◌≤◌, ◌%◌, IfSome, IfNone};
 ghost use Rattle.lock_core.specs.Layout.{HasLockWords, cell_at, lock_word_at, handoff_of, to_go};
 ghost use Rattle.lock_core.specs.Views.{view_of, InTime, InTimeFrom, LoadGrows, IsSeatOf, IsQueued, IsQueuedWithin, IsAsleep, IsAtTurn, IsOvertakenInBounds, SameInside, SleepsAtLockWord, SleepsInTake, Kept};

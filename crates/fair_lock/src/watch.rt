@@ -1,5 +1,6 @@
-//! How the queue head of a barging lock watches the lock word: it lets other threads barge for a while, and then
-//! requests a handoff.
+//! How the first waiter in the queue of a barging lock watches the lock word. The waiter lets other threads barge for a
+//! while, and then requests a handoff. After this request, the next thread that leaves the lock word reserves the word
+//! for the waiter.
 ghost use Rattle.std.specs.Prelude.{◌≡◌, ◌≢◌, ◌+◌, ◌≤◌, Some, false};
 ghost use Rattle.lock_core.specs.Answers.{IfSeenHeld, IfSeenFree, IfSeenForHead};
 

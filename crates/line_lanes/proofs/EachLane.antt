@@ -1,4 +1,4 @@
--- Proof that what holds for the lanes of each half holds for the lanes of the line.
+-- Proof that a property holds for every lane of a line if it holds for every lane of both halves.
 use Rattle.std.proofs.Common.{◌≡◌, ℕ, ◌+◌, ◌-◌, ◌*◌, ◌<◌, List, ◌++◌, take, drop, length, get_or, ◌⊎◌, inl, inr, sym, ap, ◌∙◌, subst, arith}
 use Rattle.std.proofs.lemmas.List.{take-append-le, drop-append-le, length-take, length-drop, take-append-drop}
 use Rattle.std.proofs.lemmas.List.FromFn.{fill_by_all, length-map-range_with_len, get_or-map-range_with_len}

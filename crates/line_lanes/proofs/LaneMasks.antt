@@ -1,4 +1,4 @@
--- Lemmas about the mask of a lane.
+-- Lemmas about the mask that selects the bytes of one lane.
 use Rattle.std.proofs.Common.{◌≡◌, ℕ, ◌*◌, ◌/◌, ◌%◌, ◌^◌, ◌<◌, ◌==◌, Bool, true, false, List, length, ap, sym, ◌∙◌, arith, refl, if◌then◌else◌}
 use Rattle.std.specs.Prelude.{slice_index}
 use Rattle.line_lanes.specs.Lane.{with_lane_of}

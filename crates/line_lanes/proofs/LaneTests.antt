@@ -1,4 +1,5 @@
--- Lemmas about all lanes of a vector, and about one lane that passes a test.
+-- Lemmas about a test on every lane of a vector. The mask of the results is nonzero exactly if some lane passes the
+-- test.
 use Rattle.std.proofs.Common.{◌≡◌, ℕ, zero, suc, ◌+◌, ◌*◌, ◌<◌, Bool, true, false, not, ◌==◌, List, [], ◌∷◌, get_or, length, refl, sym, ap, ◌∙◌, ne_eqb, arith}
 use Rattle.std.proofs.lemmas.Nat.Bits.{bit_at-zero}
 use lib.Lanes.{Each2, mask_l}

@@ -1,4 +1,4 @@
--- Lemmas about masked writes.
+-- Lemmas about masked writes, which change only the bytes in a mask.
 use Rattle.std.proofs.Common.{◌≡◌, ℕ, ◌<◌, true, false, Bool, ◌==◌, ◌||◌, List, length, refl, ap, sym, ◌∙◌, arith, if◌then◌else◌}
 use Rattle.std.specs.Prelude.{bit_or, slice_index}
 use Rattle.std.proofs.lemmas.List.FromFn.{fill_by_all, get_or-map-range_with_len, length-map-range_with_len}

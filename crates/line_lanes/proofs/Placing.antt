@@ -1,5 +1,5 @@
--- Lemmas about bytes that are placed into a line from a given place on: the mask of their places, and the line that
--- contains them there.
+-- Lemmas about bytes that are written into a line from a given offset on: the mask of these bytes, and the resulting
+-- line.
 use Rattle.std.proofs.Common.{◌≡◌, ℕ, ◌+◌, ◌-◌, ◌*◌, ◌%◌, ◌^◌, ◌<◌, ◌≤◌, leb, ltb, Bool, true, false, ◌&&◌, ◌==◌, List, ◌++◌, take, drop, replicate, length, ◌⊎◌, inl, inr, refl, sym, ap, ap₂, ◌∙◌, arith, le-leb, lt-ltb, mod-lt, if◌then◌else◌}
 use Rattle.std.specs.Prelude.{slice_index}
 use Rattle.std.proofs.lemmas.Bool.{cases_order, lt-leb, le-ltb}

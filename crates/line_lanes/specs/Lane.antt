@@ -1,4 +1,4 @@
--- The eight lanes of a line: lane k is the little-endian number in bytes 8k to 8k + 7. The definitions in this file
+-- The eight lanes of a line. Lane k is the little-endian number in bytes 8k to 8k + 7. The definitions in this file
 -- were made for this project; none is taken from the literature.
 use Rattle.std.specs.Prelude.{ℕ, ◌+◌, ◌*◌, ◌^◌, ◌<◌, ◌≤◌, List, ◌++◌, map, sum, take, drop}
 use Rattle.std.specs.List.{range_with_len}

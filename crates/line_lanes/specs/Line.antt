@@ -1,5 +1,5 @@
--- A line as a list of 64 bytes. (The 64-byte unit of coherence is from IEEE Std 1596-1992; masked writes are this
--- project's own.)
+-- Defines a line as a list of 64 bytes. (The 64-byte unit of coherence is from IEEE Std 1596-1992. Masked writes are
+-- this project's own.)
 use Rattle.std.specs.Prelude.{◌≡◌, ◌<◌, ℕ, ◌-◌, true, if◌then◌else◌, List, map, length, slice_index}
 use Rattle.std.specs.List.{range_with_len}
 use Rattle.line_lanes.specs.Mask.{is_masked, is_within}

@@ -1,5 +1,5 @@
-//! Lines of 64 bytes, masks of their bytes, and functions on both. The functions process a line as two vectors of 32
-//! bytes.
+//! Defines lines of 64 bytes, masks (sets of a line's bytes), and functions on lines and masks. The functions process a
+//! line as two vectors of 32 bytes.
 #![tactic(auto)]
 
 mod compare;

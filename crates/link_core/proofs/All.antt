@@ -1,4 +1,5 @@
--- Proof that each step preserves the relation between the state and the queue that it shows.
+-- Proof that each step preserves the refinement relation between a state of the core and the abstract queue that the
+-- state represents.
 use Rattle.qolb_model.specs.declared.config.LineConfig.{LineConfig}
 use Rattle.std.proofs.Common.{◌≡◌, ℕ, ◌<◌, true, List, ◌∷◌, length, refl, sym, ap, subst, arith}
 use Rattle.std.specs.Prelude.{slice_index_or}

@@ -1,4 +1,5 @@
--- Lemmas shared by the proofs of both steps that make a request.
+-- Lemmas shared by the proofs of the two steps that make a request, one for an empty queue and one for a queue with
+-- other requests.
 use Rattle.std.proofs.Common.{◌≡◌, ◌≢◌, ℕ, ◌+◌, ◌<◌, ◌≤◌, true, false, ◌||◌, List, [], length, refl, sym, ◌∙◌, ap, subst, inl, inr, arith}
 use Rattle.std.proofs.lemmas.Bool.{cases_eq, cases_Bool}
 use Rattle.line_lanes.specs.declared.line.Mask.{Mask}

@@ -1,4 +1,5 @@
--- Proof about the step with which a waiting node takes the line.
+-- Proofs about the events of a node on its own entry. The node takes the line, learns that it must still wait or that
+-- its last request is not clear, or withdraws its request.
 use Rattle.qolb_model.specs.declared.config.LineConfig.{LineConfig}
 use Rattle.std.proofs.Common.{◌≡◌, ◌≢◌, ℕ, ◌<◌, ◌≤◌, true, false, ◌||◌, List, [], ◌∷◌, ◌++◌, length, Some, None, refl, sym, ◌∙◌, ap, subst, inl, inr, arith}
 use Rattle.link_core.specs.declared.point.Point.{Point}

@@ -1,4 +1,5 @@
--- Proof that an event has a case exactly if the point of its node allows the event.
+-- Proof that an event can occur only if the acting node's point allows it. (The point records how far the node's call
+-- has got.)
 use Rattle.std.proofs.Common.{◌≡◌, true, refl, inl, inr}
 use Rattle.link_core.specs.State.{State, point, IsNode}
 use Rattle.link_core.specs.declared.told.Told.{Told as Answer}

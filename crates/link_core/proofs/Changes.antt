@@ -1,4 +1,4 @@
--- Lemmas about what one action does not change.
+-- Lemmas about the parts of a state that one action of a node does not change.
 use Rattle.std.proofs.Common.{◌≡◌, ◌≢◌, ℕ, ◌<◌, ◌≤◌, Bool, false, ◌||◌, Option, List, [], length, refl, sym, ◌∙◌, ap, subst, inl, inr, arith}
 use Rattle.std.specs.Prelude.{slice_index_or}
 use Rattle.std.proofs.Math.Seq.{get_or-set_same, get_or-set_other}

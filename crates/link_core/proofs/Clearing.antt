@@ -1,4 +1,5 @@
--- Lemmas about ended requests that are added to the clear list.
+-- Lemmas about adding ended requests to the clear list. (The clear list contains the requests whose nodes may make
+-- another request.)
 use Rattle.std.proofs.Common.{◌≡◌, ◌≢◌, ℕ, ◌<◌, ◌≤◌, Bool, true, false, List, [], ◌∷◌, ◌++◌, length, sym, ◌∙◌, ap, subst, inl, inr}
 use Rattle.link_core.specs.Places.{request, requester_at, IsLast}
 use Rattle.qolb_model.specs.Histories.{Clears, more}

@@ -1,4 +1,5 @@
--- Proof about the step with which a release gives up the line and its call ends.
+-- Proof about the step with which a release gives up the line. After this step, the node's call ends unless the node
+-- must still free the nodes that it skipped.
 use Rattle.qolb_model.specs.declared.config.LineConfig.{LineConfig}
 use Rattle.std.proofs.Common.{◌≡◌, ◌≢◌, ℕ, true, false, ◌||◌, List, [], ◌∷◌, ◌⊎◌, Option, Some, refl, sym, ◌∙◌, ap, subst, inl}
 use Rattle.link_core.specs.declared.point.Point.{Point}

@@ -1,5 +1,5 @@
--- Lemmas about the cost of each event: how many productive events the nodes can still make, before the event and after
--- it.
+-- Lemmas that compare how many productive events the nodes can still make before an event and after it. (The productive
+-- events are links, loads that bring the line, releases and freeings.)
 use Rattle.qolb_model.specs.declared.config.LineConfig.{LineConfig}
 use Rattle.std.proofs.Common.{◌≡◌, ◌≢◌, ℕ, ◌+◌, ◌<◌, ◌≤◌, ◌⊎◌, Bool, true, false, List, [], ◌∷◌, Option, Some, refl, sym, ◌∙◌, ap, subst, inl, inr, arith}
 use Rattle.std.specs.Prelude.{cond}

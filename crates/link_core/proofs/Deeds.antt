@@ -1,4 +1,4 @@
--- Lemmas about how each case of an event changes the queue that the state shows.
+-- Lemmas about how each event changes the abstract queue that the state represents.
 use Rattle.qolb_model.specs.declared.config.LineConfig.{LineConfig}
 use Rattle.std.proofs.Common.{◌≡◌, ℕ, Bool, false, length, Option}
 use Rattle.qolb_model.specs.Histories.{Clears}

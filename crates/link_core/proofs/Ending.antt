@@ -1,4 +1,5 @@
--- Lemmas about the end of a turn: which end its request has, and what remains true.
+-- Lemmas about the end of a turn: how the request ends (served, withdrawn, or notified that the line is closed), and
+-- what remains true.
 use Rattle.qolb_model.specs.declared.config.LineConfig.{LineConfig}
 use Rattle.std.proofs.Common.{◌≡◌, ◌≢◌, ℕ, ◌+◌, ◌<◌, Bool, true, false, ◌||◌, List, [], ◌∷◌, ◌++◌, length, Some, slice_get, refl, sym, ◌∙◌, ap, subst, inl, inr, arith}
 use Rattle.link_core.specs.declared.point.Point.TheVariants.{Holding}

@@ -1,4 +1,5 @@
--- Lemmas about how an event changes the rank of the state, and the ranks of the open requests.
+-- Lemmas about how an event changes the rank of the state and the ranks of the open requests. (A rank is a number that
+-- each productive event lowers.)
 use Rattle.qolb_model.specs.declared.config.LineConfig.{LineConfig}
 use Rattle.std.proofs.Common.{◌≡◌, ◌≢◌, ℕ, ◌+◌, ◌-◌, ◌*◌, ◌<◌, ◌≤◌, Bool, true, false, List, [], ◌∷◌, ◌++◌, length, eqb, Option, Some, None, refl, sym, ◌∙◌, ap, subst, inl, inr, arith, length-append}
 use Rattle.std.specs.Prelude.{cond, slice_index_or}

@@ -1,4 +1,4 @@
--- Proof that the open requests belong to different nodes, so that there are no more open requests than nodes.
+-- Proof that no two open requests belong to the same node. Therefore there are at most as many open requests as nodes.
 use Rattle.qolb_model.specs.declared.config.LineConfig.{LineConfig}
 use Rattle.std.proofs.Common.{◌≡◌, ℕ, suc, ◌+◌, ◌<◌, ◌≤◌, List, length, map, drop, sym, ◌∙◌, ap, subst, arith}
 use Rattle.std.specs.Prelude.{slice_index_or}

@@ -1,4 +1,4 @@
--- Proof about a node that prepends while no request is open: it takes the line at once.
+-- Proof about the step with which a node prepends itself to an empty queue. The node takes the line at once.
 use Rattle.qolb_model.specs.declared.config.LineConfig.{LineConfig}
 use Rattle.std.proofs.Common.{◌≡◌, ◌≢◌, ℕ, ◌+◌, ◌-◌, ◌<◌, true, false, List, length, Some, refl, sym, ◌∙◌, ap, inl, inr, arith}
 use Rattle.link_core.specs.declared.point.Point.TheVariants.{Ready}

@@ -1,4 +1,4 @@
--- Lemmas about what follows from the fact that a state shows a history.
+-- Lemmas about what holds in a state that represents a history of the queue.
 use Rattle.qolb_model.specs.declared.config.LineConfig.{LineConfig}
 use Rattle.std.proofs.Common.{◌≡◌, ◌≢◌, ℕ, suc, ◌+◌, ◌<◌, Bool, true, false, ◌&&◌, List, [], ◌∷◌, ◌⊎◌, length, refl, sym, ◌∙◌, ap, subst, inl, inr, arith, eqb}
 use Rattle.std.specs.Prelude.{slice_index_or}

@@ -1,4 +1,5 @@
--- Lemmas about what nodes find in a state, and what the ends of a history say about it.
+-- Lemmas about what a node finds in a state at each point of its call. They also state that a closed line stays closed,
+-- and that a run of events is a run of the queue.
 use Rattle.qolb_model.specs.declared.config.LineConfig.{LineConfig}
 use Rattle.std.proofs.Common.{◌≡◌, ◌≢◌, ℕ, zero, suc, ◌+◌, ◌-◌, ◌<◌, ◌≤◌, ◌⊎◌, Bool, true, false, ◌||◌, List, [], ◌∷◌, length, take, Option, Some, None, slice_get, refl, sym, ◌∙◌, ap, subst, inl, inr, arith}
 use Rattle.std.proofs.lemmas.Bool.{or_right}

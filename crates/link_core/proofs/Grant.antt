@@ -1,5 +1,5 @@
--- Proof about the step with which a release grants the next node: that node then has the line in its mailbox, or is
--- skipped.
+-- Proof about the step with which a release grants the line to the next node. That node then has the line in its
+-- mailbox, or the release skips it because it has withdrawn.
 use Rattle.qolb_model.specs.declared.config.LineConfig.{LineConfig}
 use Rattle.std.proofs.Common.{◌≡◌, ◌≢◌, ℕ, ◌+◌, ◌<◌, true, false, List, [], ◌∷◌, ◌++◌, ◌⊎◌, length, Some, refl, sym, ◌∙◌, ap, subst, inl, inr, arith}
 use Rattle.std.specs.Prelude.{slice_index_or}

@@ -1,4 +1,4 @@
--- Proof about the step with which a node takes the line into its hand.
+-- Lemmas shared by the proofs of all steps with which a node takes the line.
 use Rattle.qolb_model.specs.declared.config.LineConfig.{LineConfig}
 use Rattle.std.proofs.Common.{◌≡◌, ℕ, ◌<◌, Bool, true, false, List, [], length, inl, refl, sym, ◌∙◌, ap, subst}
 use Rattle.link_core.specs.declared.place.Place.TheVariants.{Hand}

@@ -1,4 +1,5 @@
--- Proof that when a node takes the line into its hand, the request before its own is clear.
+-- Proof that when a node takes the line, the request that ended last is clear, unless that request was withdrawn. (The
+-- node of a clear request may make another request.)
 use Rattle.qolb_model.specs.declared.config.LineConfig.{LineConfig}
 use Rattle.std.proofs.Common.{◌≡◌, ◌≢◌, ℕ, ◌+◌, ◌<◌, Bool, true, not, List, length, Option, slice_get, refl, sym, ◌∙◌, ap, subst, inl, inr, arith}
 use Rattle.std.proofs.lemmas.Bool.{ne_eqb}

@@ -1,4 +1,4 @@
--- Lemmas about what an action does not change for the nodes that it does not affect.
+-- Lemmas about what remains true of a node that an action does not affect.
 use Rattle.qolb_model.specs.declared.config.LineConfig.{LineConfig}
 use Rattle.std.proofs.Common.{◌≡◌, ◌≢◌, ℕ, ◌+◌, ◌<◌, ◌≤◌, true, false, List, [], ◌∷◌, ◌⊎◌, length, refl, sym, ◌∙◌, ap, subst, inl, inr, arith}
 use mathlib.Core.List.{IsPrefix}

@@ -1,5 +1,5 @@
--- Proof about the three ways in which a release gives up the line: the line goes home, stays in an entry that is done,
--- or is granted.
+-- Proof about the three ways in which a release gives up the line. The line returns home, is left for a successor that
+-- has not linked itself yet, or is granted to the next node.
 use Rattle.qolb_model.specs.declared.config.LineConfig.{LineConfig}
 use Rattle.std.proofs.Common.{◌≡◌, ◌≢◌, ℕ, ◌+◌, ◌-◌, ◌<◌, ◌≤◌, true, List, [], ◌⊎◌, length, Some, refl, sym, ◌∙◌, ap, subst, inl, inr, arith}
 use Rattle.link_core.specs.declared.point.Point.{Point}

@@ -1,4 +1,4 @@
--- Proof about the step with which a node links to the request before its own.
+-- Proof about the step with which a node links itself to the node before it in the queue.
 use Rattle.qolb_model.specs.declared.config.LineConfig.{LineConfig}
 use Rattle.line_lanes.specs.declared.line.Mask.{Mask}
 use Rattle.std.proofs.Common.{◌≡◌, ◌≢◌, ℕ, ◌+◌, ◌<◌, ◌≤◌, true, false, ◌||◌, List, [], ◌⊎◌, length, None, refl, sym, ◌∙◌, ap, subst, inl, inr, arith}

@@ -1,4 +1,4 @@
--- Proof that each case makes its move, for the acting node, if the queue allows this move.
+-- Proof that the move of each event belongs to the acting node, and that the abstract queue allows this move.
 use Rattle.qolb_model.specs.declared.config.LineConfig.{LineConfig}
 use Rattle.std.proofs.Common.{◌≡◌, ℕ, ◌≤◌, true, false, List, [], ◌∷◌, length, Option, Some, None, refl, sym, ◌∙◌, ap, subst}
 use Rattle.qolb_model.specs.declared.request.Request.{Request}

@@ -1,5 +1,5 @@
--- Proof that after any move, the marked requests that have ended are exactly those with the end `Gone`, and every
--- request that is not its node's last one is clear.
+-- Proof of two properties that every move of the queue preserves. Among the requests that have ended, exactly the
+-- marked ones have the end `Gone` (withdrawn). Every request that is not its node's last one is clear.
 use Rattle.qolb_model.specs.declared.config.LineConfig.{LineConfig}
 use Rattle.std.proofs.lemmas.Bool.{cases_eq, cases_lt}
 use Rattle.std.proofs.Common.{◌≡◌, ℕ, ◌+◌, ◌<◌, ◌⊎◌, List, [], ◌∷◌, ◌++◌, length, Option, Some, None, slice_get, refl, sym, ◌∙◌, ap, subst, inl, inr, arith, length-append}

@@ -1,5 +1,4 @@
--- Proof that an event has exactly one effect, so that its result and the state after it are functions of the state
--- before it.
+-- Proof that an event and the state before it determine the result of the event and the state after it.
 use Rattle.std.proofs.Common.{◌≡◌, ℕ, ◌==◌, Bool, true, false, cond, List, [], ◌∷◌, ◌++◌, refl, sym, ◌∙◌, ap, inl, inr, eq-eqb, ne_eqb}
 use Rattle.link_core.specs.declared.point.Point.{Point}
 use Rattle.link_core.specs.declared.point.Point.TheVariants.{Idle, Ready, Linking, Queued, Holding, Leaving, Marking, Granting, Left, Rolled}

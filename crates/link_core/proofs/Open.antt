@@ -1,4 +1,4 @@
--- Proof that a line which was just opened shows the empty history, and that a run of events starts from there.
+-- Proof that the first state of a line represents the empty queue.
 use Rattle.std.proofs.Common.{◌≡◌, ℕ, zero, suc, ◌+◌, ◌<◌, ◌≤◌, true, false, List, [], ◌∷◌, length, refl, sym, ◌∙◌, ap, subst, arith}
 use Rattle.std.specs.Prelude.{slice_index_or}
 use Rattle.link_core.specs.declared.point.Point.{Point}

@@ -1,4 +1,5 @@
--- Lemmas about places and last requests while the order grows.
+-- Lemmas about appending a request to the order of requests. They describe the place of each request and the last
+-- request of each node.
 use Rattle.std.proofs.Common.{◌≡◌, ◌≢◌, ℕ, ◌+◌, ◌<◌, ◌≤◌, zero, suc, Some, None, slice_get, List, [], ◌∷◌, ◌++◌, ◌⊎◌, length, take, Option, refl, sym, ◌∙◌, ap, subst, inl, inr, arith, length-append}
 use Rattle.std.proofs.lemmas.Bool.{cases_order}
 use Rattle.std.proofs.lemmas.Option.{slice_get_within}

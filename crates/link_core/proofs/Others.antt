@@ -1,4 +1,4 @@
--- Lemmas about what an action of one node does not change for the other nodes.
+-- Lemmas about what an action of one node leaves unchanged for the other nodes.
 use Rattle.qolb_model.specs.declared.config.LineConfig.{LineConfig}
 use Rattle.std.proofs.Common.{◌≡◌, ◌≢◌, ℕ, ◌-◌, ◌<◌, ◌≤◌, Bool, true, false, List, [], ◌∷◌, length, Option, Some, None, slice_get, refl, sym, ◌∙◌, ap, subst, inl, inr, arith}
 use mathlib.Core.List.{IsPrefix}

@@ -1,5 +1,5 @@
--- Lemmas about sequences of events: by how much they lower the rank, and which productive events remain after one
--- action.
+-- Lemmas about sequences of events: by how much a sequence lowers the rank, and which productive events are still
+-- possible after an action of one node. (Productive events are those that lower the rank.)
 use Rattle.qolb_model.specs.declared.config.LineConfig.{LineConfig}
 use Rattle.qolb_model.specs.declared.config.TheConstants.{MAX_NODES}
 use Rattle.std.proofs.Common.{◌≡◌, ◌≢◌, ℕ, zero, suc, ◌+◌, ◌*◌, ◌<◌, ◌≤◌, Bool, true, false, ◌&&◌, not, List, [], ◌∷◌, length, Option, Some, None, refl, sym, ◌∙◌, ap, subst, inl, inr, arith, length-append}

@@ -1,4 +1,5 @@
--- Proof that after every step a withdrawn node that was not granted the line waits behind the request at its turn.
+-- Proof that each step preserves this property: a withdrawn request that has not been granted waits behind the request
+-- that has the turn.
 use Rattle.qolb_model.specs.declared.config.LineConfig.{LineConfig}
 use Rattle.std.proofs.Common.{◌≡◌, ◌≢◌, ℕ, ◌+◌, ◌<◌, Bool, true, false, List, [], ◌∷◌, ◌++◌, length, refl, sym, ◌∙◌, ap, subst, inl, inr, arith, length-append}
 use Rattle.std.proofs.lemmas.Bool.{cases_eq}

@@ -1,4 +1,5 @@
--- Proof that each productive event lowers the rank.
+-- Proof that each productive event lowers the rank. (The productive events are links, loads that bring the line,
+-- releases and freeings.)
 use Rattle.std.proofs.Common.{◌≡◌, ◌≢◌, ℕ, zero, suc, ◌+◌, ◌<◌, ◌≤◌, Bool, true, false, ◌||◌, List, [], ◌∷◌, ◌++◌, length, eqb, Option, Some, refl, sym, ◌∙◌, ap, inl, inr, arith}
 use Rattle.std.specs.Prelude.{cond}
 use Rattle.std.specs.List.{list_any}

@@ -1,4 +1,5 @@
--- Proofs about the remaining events: a holder writes, a holder closes the line, and a node finds that it is free.
+-- Proofs about three remaining events: a holder writes to the line, a holder closes the line, and a node finds that its
+-- last request is clear.
 use Rattle.qolb_model.specs.declared.config.LineConfig.{LineConfig}
 use Rattle.std.proofs.Common.{◌≡◌, ◌≢◌, ℕ, ◌<◌, ◌≤◌, Bool, true, false, ◌||◌, ◌&&◌, List, [], ◌⊎◌, length, None, refl, sym, ◌∙◌, ap, subst, inl, inr, arith}
 use Rattle.link_core.specs.declared.point.Point.{Point}

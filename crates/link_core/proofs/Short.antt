@@ -1,4 +1,5 @@
--- Proof that a release skips each other node at most once, and that the line goes home after all of them.
+-- Proof that a release skips each other node at most once, and that the line returns home if the release has skipped
+-- all of them.
 use Rattle.qolb_model.specs.declared.config.LineConfig.{LineConfig}
 use Rattle.std.proofs.Common.{◌≡◌, ◌≢◌, ℕ, zero, suc, ◌+◌, ◌<◌, ◌≤◌, Bool, true, false, ◌||◌, List, [], ◌∷◌, length, refl, sym, ◌∙◌, ap, subst, inl, inr, arith, eqb}
 use Rattle.std.specs.Prelude.{slice_index_or}

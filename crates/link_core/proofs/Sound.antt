@@ -1,4 +1,5 @@
--- Lemmas about the bounds on the states of the machine, and how each step preserves them.
+-- Lemmas about bounds on the states of the machine. For example, a node's point names only nodes of the line, and no
+-- step changes the number of nodes.
 use Rattle.qolb_model.specs.declared.config.LineConfig.{LineConfig}
 use Rattle.std.proofs.Common.{◌≡◌, ℕ, length, refl, ◌∙◌, ap, subst, inl, inr, arith}
 use Rattle.link_core.specs.declared.point.Point.{Point}

@@ -1,4 +1,5 @@
--- Proof that a state which shows a queue still shows one after each step, and so after a run of events.
+-- Proof that each step leads from a state that represents a queue to a state that represents a queue. The same follows
+-- for runs of steps.
 use Rattle.std.proofs.Common.{◌≡◌, ℕ, true, false, zero, suc, ◌+◌, ◌<◌, ◌≤◌, List, [], ◌∷◌, ◌++◌, length, take, Option, Some, None, slice_get, refl, sym, ◌∙◌, ap, subst, arith}
 use Rattle.std.specs.Prelude.{Result, Ok, Err, IfOk, OnErr, slice_index_or}
 use Rattle.std.proofs.lemmas.List.{take_more, take_all, length-replicate}

@@ -1,4 +1,4 @@
--- Lemmas about sums over nodes in which a step changes only a few terms.
+-- Lemmas about sums over all nodes, for steps that change only a few terms of a sum.
 use Rattle.std.proofs.Common.{◌≡◌, ◌≢◌, ℕ, zero, suc, ◌+◌, ◌*◌, ◌<◌, ◌≤◌, refl, sym, subst, inl, inr, arith}
 use Rattle.std.proofs.lemmas.Bool.{cases_eq}
 use Rattle.link_core.specs.Progress.{sum_over}

@@ -1,4 +1,4 @@
--- Proof that a step which adds to a field finds this field unset.
+-- Proof that when a step adds a field to an entry, the field was not set before.
 use Rattle.qolb_model.specs.declared.config.LineConfig.{LineConfig}
 use Rattle.std.proofs.Common.{◌≡◌, ℕ, ◌<◌, true, false, List, ◌∷◌, length, sym, ◌∙◌, ap, subst, inl, inr, arith}
 use Rattle.std.specs.Prelude.{slice_index_or}

@@ -1,4 +1,5 @@
--- Proof that while a request is open, some productive event is enabled, and that the rank is bounded.
+-- Proof that some productive event is possible while a request is open, and that the rank is bounded. (A productive
+-- event is one that lowers the rank.)
 use Rattle.qolb_model.specs.declared.config.LineConfig.{LineConfig}
 use Rattle.std.proofs.Common.{◌≡◌, ℕ, zero, suc, ◌+◌, ◌*◌, ◌<◌, ◌≤◌, Bool, true, false, length, refl, sym, ◌∙◌, ap, subst, inl, inr, arith}
 use Rattle.std.specs.Prelude.{cond}

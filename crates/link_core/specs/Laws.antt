@@ -1,5 +1,5 @@
--- The theorems about the core that the proof of a lock may use if the lock's words are those of a core. The theorems in
--- this file were stated for this project; none is taken from the literature.
+-- Theorems about the core. The proof of a lock may use these theorems if the words of the lock are those of a core. The
+-- theorems in this file were stated for this project; none is taken from the literature.
 use Rattle.std.specs.Prelude.{◌≡◌, ◌≢◌, ◌↔◌, ℕ, ◌+◌, ◌*◌, ◌<◌, ◌≤◌, true, false, Option, List, [], ◌∷◌, length}
 use Rattle.qolb_model.specs.declared.config.LineConfig.{LineConfig}
 use Rattle.qolb_model.specs.declared.config.TheConstants.{MAX_NODES}

@@ -1,6 +1,6 @@
--- How each event changes the queue, case by case. An event makes at most one move, after which ended requests may
--- become clear. (The queue at a line is from Goodman, Vernon and Woest, 1989. This project added the order in which
--- requests end, which the links of the list determine.)
+-- How each event changes the abstract queue. An event makes at most one move of the queue. After the move, ended
+-- requests may become clear, so that their nodes may make another request. (The queue at a line is from Goodman, Vernon
+-- and Woest, 1989. The order in which requests end is this project's own; the links of the list determine this order.)
 use Rattle.std.specs.Prelude.{ℕ, Bool, true, false, List, [], ◌∷◌, Option, Some, None}
 use Rattle.qolb_model.specs.declared.request.Request.{Request}
 use Rattle.qolb_model.specs.declared.end.End.{End}

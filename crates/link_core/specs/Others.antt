@@ -1,5 +1,5 @@
--- How an action of one node affects the other nodes. The definitions in this file were made for this project; none is
--- taken from the literature.
+-- What an action of one node leaves unchanged for the other nodes. The definitions in this file were made for this
+-- project; none is taken from the literature.
 use Rattle.std.specs.Prelude.{◌≡◌, ◌≢◌, ℕ, ◌≤◌, true, false, length, Some, slice_get}
 use mathlib.Core.List.{IsPrefix}
 use Rattle.qolb_model.specs.declared.request.Request.{Request}

@@ -1,4 +1,4 @@
--- The requests of an order, indexed by their places, which count from 0.
+-- Defines which request is at which place of an order. Places are counted from 0, and the oldest request is first.
 use Rattle.std.specs.Prelude.{◌≡◌, ◌≢◌, ℕ, ◌<◌, List, length, slice_index_or}
 use Rattle.qolb_model.specs.declared.request.Request.{Request}
 

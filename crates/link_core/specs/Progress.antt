@@ -1,6 +1,6 @@
--- The rank of a line: which events are productive, and how many productive events can still follow. The definitions in
--- this file were made for this project. (A ranking function is a number that each step lowers. Since Floyd, 1967, it
--- has been the usual way to prove that a program terminates.)
+-- Defines which events are productive, and the rank of a line, which bounds how many productive events can still follow
+-- without a new request. The definitions in this file were made for this project. (A ranking function is a number that
+-- each step lowers. Since Floyd, 1967, it has been the usual way to prove that a program terminates.)
 use Rattle.std.specs.Prelude.{◌≡◌, ℕ, zero, suc, ◌+◌, ◌-◌, ◌*◌, ◌<◌, ◌≤◌, ◌==◌, ◌&&◌, not, Bool, true, false, if◌then◌else◌, List, length, drop}
 use Rattle.std.specs.List.{list_any}
 use Rattle.qolb_model.specs.declared.request.Request.{Request}

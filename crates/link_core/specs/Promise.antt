@@ -1,5 +1,5 @@
--- What each step guarantees: from a state that shows a queue, it leads to a state that shows a queue, after at most one
--- move of that queue.
+-- What each step guarantees: if the state before the step represents a queue, the state after it represents this queue
+-- after at most one move.
 use Rattle.std.specs.Prelude.{◌≡◌, ◌≢◌, ℕ, ◌+◌, ◌<◌, ◌≤◌, false, List, [], ◌∷◌, ◌++◌, length, take, slice_get, Some}
 use Rattle.qolb_model.specs.declared.config.LineConfig.{LineConfig}
 use Rattle.qolb_model.specs.declared.config.TheConstants.{MAX_NODES}

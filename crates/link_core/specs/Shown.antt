@@ -1,9 +1,9 @@
--- The queue that a state of the core shows (a refinement mapping). Each clause refers to requests by their place in the
--- order. The requests at places below `length ends` have ended, and the request at the place `length ends` has the
--- turn. The open requests, which begin at that place, are those of the nodes in the list, the oldest first. (The list
--- of a line's requesters, with its head named at the line's home, is from IEEE Std 1596-1992. Queueing at the line, and
--- handing it over from the tail, is from Goodman, Vernon and Woest, 1989. The reversed links, the flags, and the queue
--- that they show are this project's own.)
+-- The abstract queue that a state of the core represents (a refinement mapping). Each clause refers to requests by
+-- their places in the order. The requests at places below `length ends` have ended, and the request at the place
+-- `length ends` has the turn. The open requests are those from the place `length ends` on. They belong to the nodes in
+-- the list, and the oldest request is first. (The list of a line's requesters, whose head is recorded at the line's
+-- home, is from IEEE Std 1596-1992. Queueing at the line and handing it over from the tail are from Goodman, Vernon and
+-- Woest, 1989. The reversed links, the flags, and the queue that they represent are this project's own.)
 use Rattle.std.specs.Prelude.{◌≡◌, ◌≢◌, ℕ, ◌+◌, ◌<◌, ◌≤◌, Bool, true, false, ◌||◌, List, [], ◌∷◌, ◌⊎◌, length, Some, slice_get, slice_index_or}
 use Rattle.link_core.specs.declared.point.Point.{Point}
 use Rattle.link_core.specs.declared.point.Point.TheVariants.{Idle, Ready, Linking, Queued, Holding, Leaving, Marking, Granting, Freeing, Left, Rolled, Shut}

@@ -1,6 +1,6 @@
--- The state of a line with reversed links, and how one action changes it. (A list of requesters at a line is from IEEE
--- Std 1596-1992. The links that the younger of two nodes makes, from the tail towards the head, and the words that
--- contain these links are this project's own.)
+-- The state of a line with reversed links, and how one action changes this state. With reversed links, a node's entry
+-- names the next younger node. (A list of requesters at a line is from IEEE Std 1596-1992. Links from the tail towards
+-- the head, which the younger of two nodes makes, and the words that contain these links are this project's own.)
 use Rattle.std.specs.Prelude.{ℕ, ◌<◌, ◌≤◌, ◌==◌, Bool, true, false, ◌&&◌, not, List, [], ◌∷◌, length, replicate, slice_index_or, slice_set}
 use Rattle.link_core.specs.declared.point.Point.{Point}
 use Rattle.link_core.specs.declared.point.Point.TheVariants.{Idle, Ready, Linking, Queued, Holding, Leaving, Marking, Granting, Freeing, Left, Rolled, Shut}

@@ -1,5 +1,5 @@
 -- Defines the effect of each event as a relation between two states, case by case. The definitions in this file were
--- made for this project. (Handing over at the tail is from Goodman, Vernon and Woest, 1989.)
+-- made for this project. (Handing the line over at the tail of the list is from Goodman, Vernon and Woest, 1989.)
 use Rattle.std.specs.Prelude.{◌≡◌, ◌≢◌, ℕ, ◌<◌, ◌≤◌, Bool, true, false, Option, List, [], ◌∷◌, ◌++◌, ◌⊎◌, length, slice_index_or, bit_or}
 use Rattle.link_core.specs.declared.point.Point.{Point}
 use Rattle.link_core.specs.declared.point.Point.TheVariants.{Idle, Ready, Linking, Queued, Holding, Leaving, Marking, Granting, Freeing, Left, Rolled, Shut}

@@ -1,5 +1,5 @@
-//! The events by which a node makes a request: the node resets its entry, prepends itself to the queue, and links to
-//! the node before it.
+//! The events by which a node makes a request: the node resets its entry, prepends itself to the queue, and links
+//! itself to the node before it.
 ghost use Rattle.std.specs.Prelude.{◌≡◌, IfOk, IfErr, OnErr};
 ghost use Rattle.link_core.specs.State.{IsNode};
 ghost use Rattle.link_core.specs.Steps.{Step, Fits, IsRefused};

@@ -1,6 +1,6 @@
 //! The entry of a node, which is the word on which the node waits.
 
-/// An entry word, by its fields. Each is added at most once between two resets of the entry.
+/// An entry word, as a record of its fields. Each field is added at most once between two resets of the entry.
 #[derive(Clone, Copy, Debug, PartialEq, Eq)]
 pub struct Entry {
     pub granted: bool,

@@ -1,10 +1,10 @@
-//! The eleven events of the link line's core. Each event is an action of one node.
+//! The eleven events of the core of `link_line`. Each event is an action of one node.
 ghost use Rattle.std.specs.Prelude.{◌≡◌};
 ghost use Rattle.link_core.specs.Steps.{node_of};
 
 use line_lanes::{Line64, Mask};
 
-/// One atomic act of one node: an atomic step, or an act of a holder on the line in its hand.
+/// One atomic action of one node: an atomic step, or an action of a holder on the line that it holds.
 #[derive(Clone, Copy, Debug, PartialEq, Eq)]
 pub enum Event {
     /// The node stores 0 in its own entry.

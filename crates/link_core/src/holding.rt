@@ -1,4 +1,4 @@
-//! The events of a holder: it writes the line's bytes, or closes the line.
+//! The events of a holder, which writes the line's bytes or closes the line.
 ghost use Rattle.std.specs.Prelude.{◌≡◌, ◌<◌, IfOk, IfErr, OnErr};
 ghost use Rattle.link_core.specs.declared.state.TheConstants.{PLACES};
 ghost use Rattle.link_core.specs.State.{IsNode};

@@ -1,15 +1,15 @@
-//! Theorems about the events of the core, for use in the proof of `link_line`, whose words are those of a core. Each
-//! theorem is the contract of a function that does nothing.
+//! Theorems about the events of the core, for use in the proof of `link_line`. The shared words of a `link_line` are
+//! those of a core. Each theorem is the contract of a function that does nothing.
 
 ghost use Rattle.link_core.specs.Laws.{OpenedShows, EachEventKeeps, MovesAreMade, EventsAreEnabled, EventsHaveOneEffect, AddsFindUnset, NodesFind, SizesStay, LastsHavePlaces, WalksAreShort, EndsClose, RunsMove, FewAreOpen, EventsGoDown, OpenHaveWays, WaysStay, FewAreLeft, PathsAreShort, RunsAreShort};
 
-/// A new line shows the empty queue.
+/// A new line represents the empty queue.
 pub fn opened_shows()
     ensures { OpenedShows }
 {}
 
-/// Each event keeps the invariant that the state shows a queue: the event makes its move, and changes nothing for the
-/// other nodes.
+/// Each event preserves the invariant that the state represents a queue. The event makes its move of the queue, and
+/// changes nothing for the other nodes.
 pub fn each_event_keeps()
     ensures { EachEventKeeps }
 {}
@@ -49,7 +49,7 @@ pub fn lasts_have_places()
     ensures { LastsHavePlaces }
 {}
 
-/// A release passes each other node at most once, and after all of them the line goes home.
+/// A release skips each other node at most once, and returns the line home after it has skipped all of them.
 pub fn walks_are_short()
     ensures { WalksAreShort }
 {}
@@ -64,7 +64,8 @@ pub fn runs_move()
     ensures { RunsMove }
 {}
 
-/// Open requests are of different nodes, so at most N - 1 others end before one's own.
+/// Open requests belong to different nodes. Therefore, on a line of N nodes, at most N - 1 other requests end before a
+/// node's own.
 pub fn few_are_open()
     ensures { FewAreOpen }
 {}

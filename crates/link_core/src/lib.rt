@@ -1,7 +1,7 @@
-//! The core of the link line, a lock-free queue lock in which each node links itself to its predecessor. The core
-//! consists of states and events, as values without threads or shared memory.
+//! The core of `link_line`, a queue lock in which each node links itself to its predecessor. The core is a state
+//! machine, whose states and events are plain values, without threads or shared memory.
 //!
-//! Each atomic step of `link_line` is the event of the same name.
+//! Each atomic step of `link_line` corresponds to the event of the same name.
 #![tactic(auto)]
 
 mod asking;

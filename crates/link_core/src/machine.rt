@@ -1,4 +1,4 @@
-//! The core as a state machine: a program creates it, makes events, and reads its state.
+//! The core as a state machine. A program creates the machine, applies events to it, and reads its state.
 ghost use Rattle.std.specs.Prelude.{◌≡◌, ◌↔◌, ◌≤◌, IfOk, IfErr, OnErr, IfSome, IsSome};
 ghost use Rattle.qolb_model.specs.Queue.{Queue, empty_queue};
 ghost use Rattle.qolb_model.specs.Opening.{AreNodes, MayOpen};
@@ -18,7 +18,7 @@ use line_lanes::Line64;
 use qolb_model::LineConfig;
 use std::marker::Model;
 
-/// The core of a line with reversed links, in a state that shows a queue.
+/// The core of a line with reversed links. The core's state represents a queue.
 ///
 /// It takes 49,976 bytes for any number of nodes, nearly all for the lists of passed nodes.
 #[derive(Drop)]

@@ -1,4 +1,5 @@
-//! The places where the line can be: at home, in a node's mailbox, or in a node's hand.
+//! The places where the line can be: at home (no node has it), in a node's mailbox (waiting to be taken), or in a
+//! node's hand (the node has it).
 
 /// The place of the line.
 #[derive(Clone, Copy, Debug, PartialEq, Eq)]

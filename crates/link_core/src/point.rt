@@ -1,4 +1,5 @@
-//! The points of a node, each of which determines the event that the node makes next.
+//! The points of a node. A point records how far the node's call has got, and determines which events the node can make
+//! next.
 
 /// The point of a node in its call.
 #[derive(Clone, Copy, Debug, PartialEq, Eq)]
@@ -13,15 +14,15 @@ pub enum Point {
     Queued,
     /// The node has the line in its hand, and the line is open.
     Holding,
-    /// The node's release has reached the entry of this node, and tries home next.
+    /// The node's release has reached the entry of this node, and next tries to return the line home.
     Leaving(u64),
-    /// The node's release adds done to the entry of this node next.
+    /// The node's release next adds the flag done to the entry of this node.
     Marking(u64),
-    /// The node's release grants this node next.
+    /// The node's release next grants the line to this node.
     Granting(u64),
-    /// The node's release is over, and it frees the nodes that it passed.
+    /// The node has released the line, and must still free the nodes that its release passed.
     Freeing,
-    /// The node has left the line in its own mailbox, for a late linker.
+    /// The node has left the line in its own mailbox, for a successor that has not linked itself yet.
     Left,
     /// The node's request is withdrawn.
     Rolled,

@@ -1,4 +1,4 @@
-//! The rank of a core (a ranking function), which each productive event lowers.
+//! The rank of a core. The rank is a ranking function: each productive event lowers it.
 ghost use Rattle.std.specs.Prelude.{◌≡◌, ◌≤◌};
 ghost use Rattle.link_core.specs.State.{IsNode};
 ghost use Rattle.link_core.specs.Steps.{Fits};

@@ -1,5 +1,5 @@
-//! The events of a release: it tries to return the line home, marks an entry as done, grants the next node, and frees
-//! the nodes that it has skipped.
+//! The events of a release. A release tries to return the line home, marks an entry as done, grants the line to the
+//! next node, and frees the nodes that it has skipped.
 ghost use Rattle.std.specs.Prelude.{◌≡◌, ◌≢◌, ◌<◌, ◌≤◌, ℕ, List, [], ◌∷◌, ◌++◌, length, IfOk, IfErr, OnErr};
 ghost use Rattle.qolb_model.specs.declared.config.TheConstants.{MAX_NODES};
 ghost use Rattle.link_core.specs.declared.seat.TheConstants.{MAX_PASSED};
@@ -15,8 +15,8 @@ use crate::state::{State, point_at_end, told_at_end};
 use crate::told::{NotEnabled, Told};
 
 impl State {
-    /// Tries to release n's line to home. It succeeds if home names no younger request. A holder first closes the line
-    /// at the last turn of a lease.
+    /// Tries to return n's line home. The attempt succeeds if the home word names no younger request. A holder first
+    /// closes the line at the last turn of a lease.
     pub fn go_home(&mut self, n: u64) -> Result<Told, NotEnabled>
         requires fits { Fits self.old }
         requires node { IsNode self.old n }
@@ -36,7 +36,7 @@ impl State {
         }
     }
 
-    /// Tries to take the line home from e, in n's release.
+    /// Tries, in n's release, to return the line home from the entry of e.
     pub fn go_home_from(&mut self, n: u64, e: u64) -> Told
         requires { n < PLACES }
         ensures home { self.old.home ≡ e → (result ≡ told_home n self.old)
@@ -86,7 +86,7 @@ impl State {
         }
     }
 
-    /// Grants the next node in n's release. A node that has withdrawn is passed.
+    /// Grants the line to the next node in n's release. A node that has withdrawn is passed.
     pub fn grant(&mut self, n: u64) -> Result<Told, NotEnabled>
         requires fits { Fits self.old }
         requires node { IsNode self.old n }

@@ -1,5 +1,5 @@
-//! The state of a node during its call: its point, the cause of its release, and the nodes that the release has
-//! skipped.
+//! The state of a node during its call: how far the call has got, why the node releases the line, and which nodes the
+//! release has skipped.
 ghost use Rattle.std.specs.Prelude.{◌≡◌, ◌↔◌, ◌<◌, ◌≤◌, List, [], ◌∷◌, ◌++◌, length, IsTrue, MatchOption};
 ghost use Rattle.qolb_model.specs.declared.config.TheConstants.{MAX_NODES};
 ghost use Rattle.link_core.specs.declared.seat.TheConstants.{MAX_PASSED};
@@ -17,7 +17,7 @@ pub enum ReleaseCause {
     Own,
     /// The node held the line and has closed it.
     Closing,
-    /// The line reached the node closed.
+    /// The line was already closed when it reached the node.
     Refused,
 }
 

@@ -175,7 +175,7 @@ impl State {
         }
     }
 
-    /// Ends n's possession of the line: n has nodes to free, or its call ends at `point`.
+    /// Ends n's possession of the line. Then n still has nodes to free, or its call ends at `point`.
     pub fn close_call(&mut self, n: u64, point: Point) -> Told
         requires { n < PLACES }
         ensures state { self.new ≡ put_seat n (seat_at_close point (seat self.old n)) self.old }

@@ -1,7 +1,8 @@
-//! The events of a core, each defined case by case.
+//! Defines the effect of each event of a core, case by case.
 //!
 //! The diagram shows how the flags of node n's entry change from one reset to the next. Node m is the successor of n,
-//! and o is a node whose release has reached n's request. A request that found the line at home is never granted.
+//! and o is a node whose release has reached n's request. A request that finds the line at home is never granted,
+//! because its node takes the line at once.
 //!
 //! ```text
 //!     0 ---------- Roll(n) ----------> rolled             n withdraws before the grant: Withdrawn
@@ -16,14 +17,14 @@
 //!     v                                  v
 //!   granted done              rolled granted done
 //!                                        |
-//!                                      Freed(o)           a passed node alone, after o's release: before Done too, where the line
-//!                                        |                went home from n's entry
+//!                                      Freed(o)           only for a node that was passed, after o's release;
+//!                                        |                without Done if the line went home from n's entry
 //!                                        v
 //!                          rolled granted done freed
 //! ```
 //!
-//! The link field is 0 until Link(m), which may happen in each of these states. If Done finds the link 0, the line
-//! stays in n's mailbox. If Link finds the flag done, m takes the line from that mailbox.
+//! The link field is 0 until Link(m), which may happen in each of these states. If Done finds that the link is 0, the
+//! line stays in n's mailbox. If Link finds the flag done, m takes the line from that mailbox.
 
 ghost use Rattle.std.specs.Prelude.{◌≡◌, IfOk, IfErr, OnErr};
 ghost use Rattle.link_core.specs.Steps.{Step, Fits, IsRefused};

@@ -5,7 +5,7 @@
 pub enum Told {
     /// The call goes on.
     Went,
-    /// The line, open, is in the node's hand.
+    /// The node has the line in its hand, and the line is open.
     Granted,
     /// The request is linked and waits.
     Queued,

@@ -1,4 +1,4 @@
-//! The events of a waiting node on its own entry: it loads the entry, or withdraws its request.
+//! The events of a waiting node on its own entry. The node loads the entry, or withdraws its request.
 ghost use Rattle.std.specs.Prelude.{◌≡◌, IfOk, IfErr, OnErr};
 ghost use Rattle.link_core.specs.State.{IsNode};
 ghost use Rattle.link_core.specs.Steps.{Step, Fits, IsRefused};

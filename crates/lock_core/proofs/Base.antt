@@ -1,4 +1,4 @@
--- Lemmas that the proofs of all steps share.
+-- Lemmas that the proofs of all atomic steps share.
 use Rattle.std.proofs.Common.{◌≡◌, ◌≢◌, ℕ, ◌+◌, ◌%◌, ◌<◌, ◌≤◌, List, length, length-set, set, slice_index, sym, refl, ap, ◌∙◌, subst, arith, ⊎_elim, inr, ◌*◌, get_or-set_same, get_or-set_other, eqb, eq-eqb, ne_eqb}
 use mathlib.Core.Logic.{dite}
 use mathlib.Core.Option.{some}

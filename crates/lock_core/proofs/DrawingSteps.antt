@@ -1,4 +1,4 @@
--- Proofs about the steps with which a caller draws a ticket, or draws a ticket only if its turn has come.
+-- Proofs about the steps with which a caller draws a ticket, either unconditionally or under a condition.
 use Rattle.std.proofs.Common.{◌≡◌, ◌/◌, ◌≢◌, ℕ, ◌+◌, ◌*◌, ◌%◌, ◌<◌, ◌≤◌, max, length, set, slice_index, sym, refl, ap, ◌∙◌, subst, arith, length-set, get_or-set_same, get_or-set_other, eqb, eq-eqb, ne_eqb, ◌-◌, ⊎_elim}
 use mathlib.Core.Logic.{dite}
 use mathlib.Core.Option.{none, some}

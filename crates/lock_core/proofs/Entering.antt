@@ -1,4 +1,4 @@
--- Proof about the step with which a new caller gets its seat.
+-- Proof about the step with which a new caller gets its seat (the handle through which it uses the lock).
 use Rattle.std.proofs.Common.{◌≡◌, ℕ, ◌%◌, ◌≤◌, [], ◌∷◌, ◌++◌, slice_index, sym, refl, ◌∙◌, subst, arith, ⊎_elim}
 use mathlib.Core.Logic.{dite}
 use mathlib.Core.Option.{none}

@@ -1,4 +1,5 @@
--- Proofs about the steps with which newcomers and queue heads take the lock word and leave it.
+-- Proofs about the steps that take or leave the lock word. A newcomer (a thread that barges) takes the lock word
+-- without a ticket, and a queue head takes it after its ticket has been granted.
 use Rattle.std.proofs.Common.{◌≡◌, ◌≢◌, ℕ, ◌+◌, ◌*◌, ◌/◌, ◌%◌, ◌<◌, ◌≤◌, ◌-◌, inr, set, slice_index, sym, refl, ap, ◌∙◌, subst, arith, length-set, get_or-set_same, get_or-set_other, eqb, eq-eqb, ne_eqb, ⊎_elim}
 use mathlib.Core.Option.{none, some}
 use mathlib.Core.Logic.{dite}

@@ -1,4 +1,5 @@
--- Proofs about the steps of a waiter on its cell: it looks, counts itself as a sleeper, and subtracts itself again.
+-- Proofs about the steps of a waiter on its cell. The waiter reads the cell, adds itself to the cell's count of
+-- sleepers, or subtracts itself again.
 use Rattle.std.proofs.Common.{◌≡◌, ◌≢◌, ℕ, ◌+◌, ◌-◌, ◌*◌, ◌/◌, ◌%◌, ◌<◌, ◌≤◌, set, slice_index, sym, refl, ap, ◌∙◌, subst, arith, length-set, get_or-set_other, ⊎_elim, inl, inr, eqb, eq-eqb, ne_eqb}
 use mathlib.Core.Logic.{dite}
 use mathlib.Core.Option.{none, some}

@@ -1,5 +1,5 @@
--- Proofs about the marks of withdrawn requests: a waiter sets the mark, and the caller that has the turn of a withdrawn
--- request clears it.
+-- Proofs about the two steps on the mark of a withdrawn request. A waiter sets the mark when it withdraws, and the
+-- caller that later has the turn of this request clears the mark.
 use Rattle.std.proofs.Common.{◌*◌, ◌-◌, ◌≡◌, ◌≢◌, ℕ, ◌+◌, ◌-◌, ◌/◌, ◌%◌, ◌^◌, ◌<◌, ◌≤◌, set, slice_index, sym, refl, ap, ◌∙◌, subst, arith, length-set, get_or-set_other, bit_or, ⊎_elim}
 use Rattle.std.specs.Prelude.{bit_xor}
 use Rattle.std.specs.Int.{bit_at}

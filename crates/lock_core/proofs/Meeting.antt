@@ -1,4 +1,4 @@
--- Proof that when two callers meet, each learns what the other one knows.
+-- Proof about the steps that combine the views of two callers, so that one caller learns what the other one knows.
 use Rattle.std.proofs.Common.{◌≡◌, ◌≢◌, ℕ, ◌%◌, ◌<◌, ◌≤◌, List, [], ◌∷◌, ◌++◌, set, slice_index, sym, refl, ap, ◌∙◌, subst, arith, ⊎_elim, max}
 use mathlib.Core.Option.{none, some}
 use lib.ListN.{get_elem?}

@@ -1,4 +1,4 @@
--- Proof about the step with which a turn of the queue ends and the next ticket is granted.
+-- Proof about the step that ends a turn of the queue and grants the next ticket.
 use Rattle.std.proofs.Common.{◌≡◌, ◌≢◌, ℕ, suc, ◌+◌, ◌/◌, ◌%◌, ◌<◌, ◌≤◌, ◌⊎◌, inl, inr, set, slice_index, sym, refl, ap, ◌∙◌, subst, arith, ⊎_elim, length-set, get_or-set_other, eqb, eq-eqb, ne_eqb}
 use Rattle.std.specs.Int.{bit_at}
 use mathlib.Core.Logic.{dite}

@@ -1,4 +1,5 @@
--- Lemmas about the view of a seat, which records what a step found. The invariant does not depend on these records.
+-- Lemmas about the part of a caller's view that records what the caller's last steps found. The invariant does not
+-- depend on these records.
 use Rattle.std.proofs.Common.{◌≡◌, ◌≢◌, ℕ, zero, suc, ◌+◌, ◌*◌, ◌-◌, ◌/◌, ◌%◌, ◌^◌, ◌<◌, ◌≤◌, List, [], ◌∷◌, set, slice_index, sym, refl, subst, arith, eqb}
 use mathlib.Core.Option.{none, some, some-ne-none}
 use lib.ListN.{get_elem?}

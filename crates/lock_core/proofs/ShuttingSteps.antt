@@ -1,5 +1,5 @@
--- Proofs about four steps: a lock is shut, it is reopened, a caller that has the turn reads whether the lock is open,
--- and the queue head announces its sleep.
+-- Proofs about four kinds of steps: shutting a lock, reopening it, reading at one's turn whether it is open, and
+-- announcing the sleep of the queue head.
 use Rattle.std.proofs.Common.{◌≡◌, ◌≢◌, ℕ, ◌+◌, ◌/◌, ◌%◌, ◌≤◌, inl, slice_index, sym, refl, ap, ◌∙◌, arith, eqb, eq-eqb, ne_eqb, ⊎_elim}
 use mathlib.Core.Option.{none}
 use mathlib.Core.Logic.{dite}

@@ -1,5 +1,6 @@
--- Lemmas about the value in the slot. If a table without a slot allows a step, so does a table with one: a caller that
--- is served from that step on takes the value, and a caller that is no longer served gives it back.
+-- Lemmas about the value that a lock protects, which lies in the slot of the lock's table. A step that is allowed on a
+-- table without a slot is also allowed on a table with a slot. A caller takes the value from the slot with the step
+-- that begins its critical section, and puts the value back with the step that ends the critical section.
 use Rattle.std.proofs.Common.{◌≡◌, ◌≢◌, ℕ, suc, ◌+◌, ◌-◌, ◌*◌, ◌/◌, ◌%◌, ◌^◌, ◌<◌, ◌≤◌, List, [], ◌∷◌, map, length, set, slice_index, sym, refl, ap, ◌∙◌, subst, arith, eqb, length-set, ⊎_elim}
 use mathlib.Core.Logic.{dite}
 use mathlib.Core.Option.{Option, none, some, some-injective}

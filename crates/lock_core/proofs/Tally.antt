@@ -1,4 +1,4 @@
--- Lemmas about how a step of one seat changes the number of sleepers.
+-- Lemmas about how a step of one caller changes the number of sleepers of a cell.
 use Rattle.std.proofs.Common.{◌≡◌, ◌≢◌, ℕ, zero, suc, ◌+◌, ◌%◌, ◌≤◌, List, [], ◌∷◌, ◌++◌, set, sym, ap, arith, eq-eqb, ne_eqb}
 use mathlib.Core.Option.{some, some-injective, some-ne-none}
 use prog.Atomic.{either}

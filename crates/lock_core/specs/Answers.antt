@@ -1,4 +1,4 @@
--- Definitions with which a contract states what holds for each answer of a call.
+-- Definitions that contracts use to state what holds for each answer of a call.
 use Rattle.std.specs.Prelude.{◌≡◌, ℕ, Bool, ◌<◌, ◌≤◌}
 use Rattle.lock_core.specs.declared.opening.LockKind.{LockKind}
 use Rattle.lock_core.specs.declared.opening.LockKind.TheVariants as kind

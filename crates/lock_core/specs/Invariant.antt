@@ -1,4 +1,4 @@
--- The invariant that relates the words of a lock to the views of its callers.
+-- The invariant of a lock, which relates the lock's words to what each caller knows.
 use Rattle.std.specs.Prelude.{◌≡◌, ◌≢◌, ℕ, ◌+◌, ◌*◌, ◌/◌, ◌%◌, ◌<◌, ◌≤◌, ◌⊎◌, List, [], ◌∷◌, length, slice_index, ◌==◌}
 use Rattle.std.specs.Int.{bit_at}
 use mathlib.Core.Option.{some}

@@ -1,4 +1,5 @@
--- The layout of a lock: what each word contains, and how it is packed.
+-- The layout of a lock, as the contracts use it: what each word contains, and how it is packed. This file restates some
+-- of the numbers that `src/layout.rt` defines for the code.
 use Rattle.std.specs.Prelude.{◌≡◌, ℕ, ◌+◌, ◌-◌, ◌/◌, ◌%◌}
 use Rattle.atomic_table.specs.Seated.{TableId}
 

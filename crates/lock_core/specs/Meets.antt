@@ -1,4 +1,4 @@
--- What two callers know about each other, for the theorems of `src/meets.rt`.
+-- Definitions for the theorems of `src/meets.rt`, which state what two callers know about each other.
 use Rattle.std.specs.Prelude.{◌≡◌, ◌≢◌, ℕ, ◌<◌, ◌≤◌, ◌⊎◌, max}
 use Rattle.atomic_table.specs.Table.{Step, Me}
 use Rattle.lock_core.specs.declared.view.View.{View}

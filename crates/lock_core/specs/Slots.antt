@@ -1,4 +1,5 @@
--- The value in the slot of a lock's table: its invariant, and what each step reveals about it.
+-- The value that a lock protects, which lies in the slot of the lock's table. This file defines the value's invariant,
+-- and what a caller learns about the value from each step.
 use Rattle.std.specs.Prelude.{◌≡◌, ◌≢◌, ℕ, List, [], map, length}
 use mathlib.Core.Option.{Option, none, some}
 use lib.ListN.{get_elem?}

@@ -1,4 +1,4 @@
--- What each kind of atomic step reveals to the caller that takes it.
+-- What a caller learns from each kind of atomic step.
 use Rattle.std.specs.Prelude.{◌==◌, ◌≡◌, ◌≢◌, ℕ, ◌+◌, ◌-◌, ◌/◌, ◌%◌, ◌<◌, ◌≤◌}
 use Rattle.std.specs.Int.{bit_at}
 use prog.Atomic.{either}

@@ -1,4 +1,4 @@
-//! Barging: a thread takes the lock word without a ticket, and so overtakes the queue.
+//! Barging: a thread takes the lock word without a ticket, and thereby overtakes the queue.
 //!
 //! A thread that barges is called a *newcomer*. The lock word counts the newcomers, and the barging limit bounds the
 //! number of newcomers between two consecutive queue heads.
@@ -17,7 +17,7 @@ use crate::plays::{Barge, ReadLockWord};
 pub enum BargeResult {
     /// The thread holds the lock word, as a newcomer.
     Inside,
-    /// The thread does not hold the lock word. Its step found this value there.
+    /// The thread does not hold the lock word. Its step found this value in the lock word.
     Outside { lock_word: u64 },
 }
 

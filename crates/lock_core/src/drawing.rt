@@ -1,8 +1,9 @@
-//! Requests: a caller draws a ticket, whose number is its place in the order.
+//! Requesting the lock: a caller draws a ticket, whose number is the request's place in the order of all requests.
 //!
-//! `draw` always draws a ticket. The other calls first look at the tail and at the cell of the next ticket. They draw
-//! that ticket only if its turn has already come (`try_draw`), if its request could be withdrawn (`draw_near`), or if
-//! it is within a given distance (`draw_within`).
+//! `draw` always draws a ticket. The other calls first read the tail, which contains the number of the next ticket, and
+//! the cell of that ticket. Each of them draws the ticket only under a condition. `try_draw` requires that the ticket's
+//! turn has already come, `draw_near` that the request could be withdrawn, and `draw_within` that the ticket is within
+//! a given distance.
 ghost use Rattle.std.specs.Prelude.{◌≡◌, ◌<◌, ◌≤◌, IfSome, IfNone};
 ghost use Rattle.lock_core.specs.Layout.{withdrawal_window, max_window, max_tickets, IsLockTable, cell_at, to_go, HasLockWords, tail_at};
 ghost use Rattle.lock_core.specs.Views.{view_of, InTime, InTimeFrom, LoadGrows, IsSeatOf, IsIdle, IsQueued, IsQueuedWithin, IsAtTurn, IsOvertakenInBounds, DrawsAfter, SameTurn};

@@ -1,5 +1,5 @@
-//! The calls of the queue head, which is the first waiter of a barging lock. It looks at the lock word, takes it, or
-//! announces that it sleeps on it.
+//! The calls of the queue head, which is the first waiter in the queue of a barging lock. The queue head reads the lock
+//! word, takes the word, requests a handoff, or announces that it will sleep on the word.
 //!
 //! A thread that leaves the lock word reserves the word for the queue head if the queue head has requested a handoff,
 //! or if the barging limit is reached.
@@ -31,7 +31,7 @@ pub enum LockWordState {
 pub enum TakeResult {
     /// The queue head has taken the word of an open lock: it holds the lock.
     Open,
-    /// The queue head has taken the word of a lock that is shut: it learns that, and must leave the word.
+    /// The queue head has taken the word of a lock that is shut, and must leave the word.
     Shut,
     /// Another thread holds the lock. `lock_word` is the word that the step found.
     Held { lock_word: u64 },
@@ -81,7 +81,7 @@ pub fn read_lock_word<T>(table: &SharedValue<T>, seat: &mut ValueSeat<T>) -> Loc
 }
 
 /// Takes the lock word for the queue head, if it is free or reserved, and resets the count of newcomers. At most two
-/// atomic steps. Once the queue head holds the word, it passes its turn of the queue on by `release`.
+/// atomic steps. Once the queue head holds the word, it passes its turn of the queue on with `release`.
 #[inline(always)]
 pub fn take_lock_word<T>(table: &SharedValue<T>, seat: &mut ValueSeat<T>, ticket: u64) -> TakeResult
     requires table { HasLockWords table.now.table_id }
@@ -129,8 +129,9 @@ pub fn take_lock_word<T>(table: &SharedValue<T>, seat: &mut ValueSeat<T>, ticket
     }
 }
 
-/// Requests for the queue head that the thread that holds the lock word leave it reserved. At most two atomic steps.
-/// `false` means that the lock word changed at that moment, so the queue head must look again.
+/// Requests a handoff for the queue head, so that the thread that holds the lock word reserves the word when it leaves.
+/// At most two atomic steps. `false` means that the lock word changed at that moment, so the queue head must look
+/// again.
 #[inline(always)]
 pub fn request_handoff<T>(table: &SharedValue<T>, seat: &mut ValueSeat<T>) -> bool
     requires table { HasLockWords table.now.table_id }
@@ -152,8 +153,8 @@ pub fn request_handoff<T>(table: &SharedValue<T>, seat: &mut ValueSeat<T>) -> bo
         == lock_word
 }
 
-/// Notes in the lock word that the queue head sleeps there, if the word is held. At most two atomic steps. The thread
-/// that leaves the word is then told of the sleep.
+/// Notes in the lock word that the queue head sleeps on the word, if the word is held. At most two atomic steps. The
+/// thread that leaves the word is then told of the sleep.
 #[inline(always)]
 pub fn announce_head_sleep<T>(table: &SharedValue<T>, seat: &mut ValueSeat<T>) -> HeadSleepResult
     requires table { HasLockWords table.now.table_id }

@@ -1,4 +1,5 @@
-//! The types of a lock's table and of its callers' seats, and the invariant of the table.
+//! Defines the table of a lock's atomic words, the seats through which callers use the table, and the invariant of the
+//! table.
 ghost use Rattle.lock_core.specs.Views.{max_newcomers_of, initial_view};
 ghost use Rattle.lock_core.specs.Slots.{Slotted};
 
@@ -21,7 +22,7 @@ pub type SharedTable = Shared<u64, View, u64, LockInvariant>;
 /// A lock without a value, as its owner has it.
 pub type TicketTable = Table<u64, View, u64, LockInvariant, Global>;
 
-/// The seat by which one caller steps on a lock without a value.
+/// The seat with which one caller takes atomic steps on a lock without a value.
 pub type TicketSeat = Seat<u64, View>;
 
 /// A lock, possibly with a value in the table's slot, as its callers share it.
@@ -30,5 +31,6 @@ pub type SharedValue<T> = Shared<T, View, u64, LockInvariant>;
 /// A lock with a value, as its owner has it.
 pub type ValueTable<T> = Table<T, View, u64, LockInvariant, Global>;
 
-/// The seat by which one caller steps on a lock with a value. The seat has the value while its caller is served.
+/// The seat with which one caller takes atomic steps on a lock with a value. The seat has the value while its caller is
+/// served.
 pub type ValueSeat<T> = Seat<T, View>;

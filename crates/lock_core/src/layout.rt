@@ -1,5 +1,5 @@
-//! The words of a lock, how each word is packed, and the limits of a lock. Each of these numbers is defined only in
-//! this file.
+//! The words of a lock, how each word is packed, and the limits of a lock. The code takes these numbers from this file.
+//! `specs/Layout.antt` restates some of them for the contracts.
 //!
 //! - Word 0 is the lock word. Bit 0 is 1 if a handoff is requested, and bit 1 is 1 if the queue head sleeps on the
 //!   word. Bits 2 and 3 contain the state: 0 is free, 1 is held, and 2 is reserved for the queue head. Bit 4 is 1 if
@@ -41,32 +41,33 @@ pub const SLEEPER: u64 = 1 << 16;
 /// The bit of the lock word by which the queue head requests a handoff.
 pub const HANDOFF: u64 = 1;
 
-/// The bit of the lock word that says that the queue head sleeps there.
+/// The bit of the lock word that says that the queue head sleeps on the word.
 pub const HEAD_ASLEEP: u64 = 2;
 
 /// The state of a lock word that a thread holds.
 pub const HELD: u64 = 4;
 
-/// The state of a lock word that is free for the queue head alone.
+/// The state of a lock word that only the queue head may take.
 pub const RESERVED: u64 = 8;
 
 /// The bit of the lock word that says that the lock is shut.
 pub const SHUT: u64 = 16;
 
-/// One newcomer, as the lock word counts it: a thread that barged.
+/// One newcomer (a thread that barged), as the lock word counts it.
 pub const NEWCOMER: u64 = 32;
 
-/// What a barging thread adds to the lock word: the word is then held, and counts one newcomer more.
+/// What a barging thread adds to the lock word: the word is then held, and counts one more newcomer.
 pub const BARGED: u64 = HELD + NEWCOMER;
 
-/// The most sleepers that a cell can count.
+/// The maximum number of sleepers that a cell can count.
 pub const MAX_SLEEPERS: u64 = 65535;
 
 /// The window of withdrawal: a request can be withdrawn while at most this number of rounds must be granted before its
-/// own round.
+/// own round. The cell has 16 bits for the marks of withdrawn requests. One round is left out because a release clears
+/// a mark with a separate atomic step.
 pub const WITHDRAWAL_WINDOW: u64 = 15;
 
-/// The most withdrawn requests that one release passes.
+/// The maximum number of withdrawn requests that one release skips.
 pub const MAX_PASSED: u64 = 64;
 
 /// The least barging limit. A strict lock has the limit 1, which lets no thread barge.
@@ -75,7 +76,7 @@ pub const MIN_BARGING_LIMIT: u64 = 2;
 /// The greatest barging limit.
 pub const MAX_BARGING_LIMIT: u64 = 65535;
 
-/// The most requests that may be open at one time. Each claim of this crate has this bound as its premise.
+/// The maximum number of requests that may be open at one time. Each claim of this crate presupposes this bound.
 pub const MAX_OPEN: u64 = ROUNDS - 1;
 
 /// The widest window of `draw_within`, in rounds of four tickets. With this window, at most 2^29 + 1 requests are open.
@@ -83,7 +84,7 @@ pub const MAX_WINDOW: u64 = 1 << 27;
 
 const _: () = prove!(MAX_WINDOW * CELLS + 1 <= MAX_OPEN);
 
-/// The most tickets that `draw_within` ever draws from one lock.
+/// The maximum number of tickets that `draw_within` ever draws from one lock.
 pub const MAX_TICKETS: u64 = 1 << 63;
 
 /// The number of the word that is the ticket's cell.

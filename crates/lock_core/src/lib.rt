@@ -1,8 +1,8 @@
-//! The core of a ticket lock for any number of threads. The lock is strict, or it lets threads barge, which means that
-//! they overtake the queue.
+//! The core of a ticket lock for any number of threads. A strict lock serves its callers in the order of their tickets.
+//! A barging lock also lets threads without a ticket overtake the queue, which is called *barging*.
 //!
 //! The crate contains the atomic steps of the lock, the contract of each step, and the invariant that all steps
-//! preserve. No call waits: the callers implement spinning, sleeping and waking themselves. `fair_lock` and
+//! preserve. No call waits, because the callers implement spinning, sleeping and waking themselves. `fair_lock` and
 //! `qolb_locks` call these functions.
 #![tactic(auto)]
 

@@ -1,8 +1,8 @@
-//! The theorems about two callers of a lock.
+//! Theorems about two callers of a lock.
 //!
-//! A clause can refer to the seat of only one caller. Therefore a theorem about two callers is a function that borrows
-//! both seats, and ensures that the two callers cannot be in the stated situation. No program calls these functions,
-//! but the proof of a caller may use them.
+//! The contract of an ordinary call can refer to only one caller's seat. Therefore a theorem about two callers is a
+//! function that takes both of their seats, and ensures that the two callers cannot be in the stated situation. No
+//! program calls these functions, but the proof of a caller may use them.
 ghost use Rattle.std.specs.Prelude.{◌≡◌, ◌<◌, ◌≤◌, []};
 ghost use Rattle.lock_core.specs.Layout.{HasLockWords, IsLockTable};
 ghost use Rattle.lock_core.specs.Views.{view_of, InTime, NeverInTime, LoadGrows, KeepsValue, IsSeatOf, IsIdle, IsOutside, HasTurn, HasTurnAwake, IsNotServed, KnowsShut, LeftQuietly, ServedOpen, SleepsAtLockWord};
@@ -11,8 +11,8 @@ ghost use Rattle.lock_core.specs.Meets.{Served, IsWaiting, IsWaitingOpen, IsWait
 use crate::invariant::{SharedTable, SharedValue, TicketSeat, ValueSeat};
 use crate::plays::{Learn, LearnEnded, Meet, Tell, TellOrder};
 
-/// Exclusion: no two callers are served at the same time. In a strict lock the caller at its turn is served; in a
-/// barging lock, the caller inside.
+/// Exclusion: no two callers are served at the same time. In a strict lock, the caller at its turn is served. In a
+/// barging lock, the caller inside is served.
 pub fn never_two(table: &SharedTable, seat: &mut TicketSeat, other: TicketSeat)
     requires table { IsLockTable table.now.table_id }
     requires seat { IsSeatOf table.now.table_id table.now.key seat.old }
@@ -25,7 +25,7 @@ pub fn never_two(table: &SharedTable, seat: &mut TicketSeat, other: TicketSeat)
     table.load::<Meet>(seat, 0);
 }
 
-/// No two callers are at their turn by a ticket. A barging lock therefore has at most one queue head.
+/// No two callers have the turn of the queue at the same time. A barging lock therefore has at most one queue head.
 pub fn never_two_heads(table: &SharedTable, seat: &mut TicketSeat, other: TicketSeat)
     requires table { IsLockTable table.now.table_id }
     requires seat { IsSeatOf table.now.table_id table.now.key seat.old }
@@ -38,7 +38,7 @@ pub fn never_two_heads(table: &SharedTable, seat: &mut TicketSeat, other: Ticket
     table.load::<Meet>(seat, 0);
 }
 
-/// Order: no caller is at its turn by a ticket while another caller waits with a smaller ticket.
+/// Order: while a caller waits with a ticket, no caller with a greater ticket has the turn of the queue.
 pub fn first_come(table: &SharedTable, seat: &mut TicketSeat, other: TicketSeat)
     requires table { IsLockTable table.now.table_id }
     requires seat { IsSeatOf table.now.table_id table.now.key seat.old }
@@ -66,8 +66,8 @@ pub fn no_lost_wake(table: &SharedTable, seat: &mut TicketSeat, other: TicketSea
     table.load::<Meet>(seat, 0);
 }
 
-/// No lost wake-up at the lock word: if a queue head had announced its sleep while a caller was inside, that caller did
-/// not leave the lock word with the answer that no queue head sleeps.
+/// No lost wake-up at the lock word: if a queue head had announced its sleep while a caller was inside, that caller, as
+/// it left the lock word, was not told that no queue head sleeps.
 pub fn no_lost_wake_at_lock_word(table: &SharedTable, seat: &mut TicketSeat, other: TicketSeat)
     requires table { IsLockTable table.now.table_id }
     requires seat { IsSeatOf table.now.table_id table.now.key seat.old }
@@ -81,7 +81,7 @@ pub fn no_lost_wake_at_lock_word(table: &SharedTable, seat: &mut TicketSeat, oth
     table.load::<Meet>(seat, 0);
 }
 
-/// After the lock was shut, no caller is served and told that the lock is open until the lock is reopened.
+/// From the time when the lock is shut until it is reopened, no caller is served and told that the lock is open.
 pub fn none_served_after_shut(table: &SharedTable, seat: &mut TicketSeat, other: TicketSeat)
     requires table { IsLockTable table.now.table_id }
     requires seat { IsSeatOf table.now.table_id table.now.key seat.old }
@@ -137,8 +137,8 @@ pub fn places_differ(table: &SharedTable, seat: &mut TicketSeat, other: TicketSe
     table.load::<Meet>(seat, 0);
 }
 
-/// Returns a seat for another caller. That caller knows what this one knows of ended requests, acquisitions and
-/// closing.
+/// Returns a seat for a new caller. The new caller knows what the first caller knows about ended requests, acquisitions
+/// and closing.
 pub fn tell(table: &SharedTable, seat: &mut TicketSeat) -> TicketSeat
     requires table { IsLockTable table.now.table_id }
     requires seat { IsSeatOf table.now.table_id table.now.key seat.old }
@@ -166,7 +166,7 @@ pub fn learn(table: &SharedTable, seat: &mut TicketSeat, other: TicketSeat)
     table.join_seat::<Learn>(seat, other);
 }
 
-/// Order: each request that another caller knows to have ended is before the request of a caller at its turn. One load.
+/// Order: the request of a caller at its turn is behind each request that another caller knows to have ended. One load.
 ///
 /// Turns therefore end in the order of tickets. A caller at its turn may call this function.
 pub fn learn_order<T>(table: &SharedValue<T>, seat: &mut ValueSeat<T>, other: ValueSeat<T>)

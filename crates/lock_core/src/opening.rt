@@ -1,4 +1,4 @@
-//! Opening: a lock is created, and each caller gets a seat.
+//! Creates a lock, and gives each caller a seat, which is the handle through which the caller uses the lock.
 ghost use Rattle.std.specs.Prelude.{◌≡◌, ◌≢◌, ◌≤◌, IfOk, IfErr, length};
 ghost use Rattle.lock_core.specs.Layout.{max_barging_limit, HasLockWords, IsLockTable, IsValueTable};
 ghost use Rattle.lock_core.specs.Views.{view_of, IsSeatOf, IsOutside};
@@ -17,13 +17,14 @@ pub enum LockKind {
     /// A strict lock serves its callers in the order of their tickets.
     Strict,
     /// In a barging lock, threads without a ticket may overtake the queue. The number is the barging limit, from
-    /// `MIN_BARGING_LIMIT` to `MAX_BARGING_LIMIT`: the most acquisitions from one queue head's to the next, including
-    /// the head's own.
+    /// `MIN_BARGING_LIMIT` to `MAX_BARGING_LIMIT`: the maximum number of acquisitions per queue head, which are those
+    /// of the threads that barge before it, and its own.
     Barging(u16),
 }
 
 impl LockKind {
-    /// The most acquisitions from one queue head's to the next, which is 1 in a strict lock.
+    /// The maximum number of acquisitions per queue head: those of the threads that barge before it, and its own. It is
+    /// 1 in a strict lock.
     #[inline]
     pub fn barging_limit(self) -> u64
         ensures barging_limit { result ≡ barging_limit_of self }

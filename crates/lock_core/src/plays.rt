@@ -1,5 +1,5 @@
-//! The kinds of atomic steps, and what each kind reveals to the caller that takes it. An operation on the table takes
-//! the kind of its step as a type argument.
+//! The kinds of atomic steps, and what a caller learns from each kind. An operation on the lock's table takes the kind
+//! of its step as a type argument.
 ghost use Rattle.lock_core.specs.Views as views;
 ghost use Rattle.lock_core.specs.Slots as slots;
 ghost use Rattle.lock_core.specs.Steps as steps;

@@ -1,6 +1,7 @@
-//! Releases: a caller that has the turn grants the next ticket, and a caller that holds the lock word leaves it.
+//! Releasing the lock: a caller that has the turn grants the next ticket, and a caller that holds the lock word gives
+//! the word up.
 //!
-//! The grant, or the step that leaves the lock word, is the last access that the caller makes to the lock's memory.
+//! The step that grants the ticket or gives up the lock word is the caller's last access to the lock's memory.
 ghost use Rattle.std.specs.Prelude.{◌≡◌, ◌+◌, ◌%◌, ◌^◌, ◌≤◌, true, false, ◌≢◌, ◌/◌, ◌<◌};
 ghost use Rattle.lock_core.specs.Layout.{max_passed, HasLockWords, cell_at, count_of, lock_word_at, state_of, asleep_of};
 ghost use Rattle.lock_core.specs.Views.{view_of, InTime, InTimeFrom, LoadGrows, IsSeatOf, IsIdle, IsAtTurn, IsPassing, HasTurnOf, HasGrantedNext, HasNextTicket, HasEnded, IsNotServed, SameRequest, SameNewcomersSeen, SameOvertaking, GrantedAfter, GrantedToNobodyAsleep, SameTurn, IsInside, IsOutside, LeftQuietly, SameNewcomer, SameKnown, LeavesSameTake, SameDoor};

@@ -1,8 +1,8 @@
-//! Shutting and reopening: the holder shuts the lock, and a caller that has the turn reopens it if no request is behind
-//! its own.
+//! Shutting and reopening the lock. The holder shuts the lock. A caller that has the turn reopens the lock if no
+//! request is behind its own.
 //!
 //! In a strict lock, a caller that has the turn checks whether the lock is open (`check_open`). In a barging lock, the
-//! step that takes the lock word reports this to the caller.
+//! step that takes the lock word reports to the caller whether the lock is open.
 ghost use Rattle.std.specs.Prelude.{◌≡◌, ◌≢◌, ◌+◌, ◌%◌, ◌^◌, ◌≤◌, true, false};
 ghost use Rattle.lock_core.specs.Layout.{HasLockWords, tail_at};
 ghost use Rattle.lock_core.specs.Views.{view_of, InTime, InTimeFrom, LoadGrows, IsSeatOf, IsAtTurn, HasTurnOf, Kept, KnowsShut, ServedOpen, ServedShut, SameKnown, SameNewcomersSeen, SameSleepAtLockWord, IsLaterEpoch, KeepsValue};
@@ -12,8 +12,8 @@ use crate::invariant::{SharedValue, ValueSeat};
 use crate::layout::{LOCK_WORD, SHUT, TAIL, is_shut};
 use crate::plays::{CheckOpen, ReadTail, Reopen, Shut};
 
-/// Returns, to the caller at its turn in a strict lock, whether the lock is open. If it is open, the caller is served.
-/// One atomic step. If the lock is shut, the caller passes its turn on by `release`, or reopens the lock.
+/// Tells the caller at its turn in a strict lock whether the lock is open. If the lock is open, the caller is served.
+/// One atomic step. If the lock is shut, the caller passes its turn on with `release`, or reopens the lock.
 #[inline(always)]
 pub fn check_open<T>(table: &SharedValue<T>, seat: &mut ValueSeat<T>, ticket: u64) -> bool
     requires table { HasLockWords table.now.table_id }
@@ -55,9 +55,9 @@ pub fn shut<T>(table: &SharedValue<T>, seat: &mut ValueSeat<T>)
     table.fetch_add::<Shut>(seat, LOCK_WORD, SHUT);
 }
 
-/// Reopens the lock for a caller at its turn that was told that the lock is shut, if no caller drew a ticket after it.
-/// The caller is then served. Two atomic steps. `false` means that another caller drew a ticket after it; this takes
-/// one atomic step.
+/// Reopens the lock unless a ticket was drawn after the caller's. The caller must be at its turn, and must have been
+/// told that the lock is shut. If the call reopens the lock, the caller is served. Two atomic steps. `false` means that
+/// another caller drew a ticket; this takes one atomic step.
 #[inline(always)]
 pub fn reopen<T>(table: &SharedValue<T>, seat: &mut ValueSeat<T>, ticket: u64) -> bool
     requires table { HasLockWords table.now.table_id }

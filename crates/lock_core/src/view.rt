@@ -1,4 +1,4 @@
-//! What a caller knows about a lock. These types exist only in proofs.
+//! Types that record what a caller knows about a lock. These types exist only in proofs.
 
 /// The state of a caller's request, as far as the caller knows.
 pub enum Phase {
@@ -8,13 +8,13 @@ pub enum Phase {
     Queued,
     /// The request waits, and its caller has announced that it sleeps.
     Asleep,
-    /// The request is at its turn. In a barging lock it is the queue head.
+    /// The request is at its turn. In a barging lock, it is the request of the queue head.
     AtTurn,
     /// The caller has the turn of a withdrawn request, whose mark is still set.
     Passing,
     /// The queue head holds the lock word, and has not released its turn of the queue.
     HeadInside,
-    /// Two callers met that cannot meet.
+    /// The result of a meeting of two callers that cannot meet.
     Impossible,
 }
 
@@ -33,10 +33,10 @@ pub struct Looks {
 
 /// What a caller knows of its lock. The program makes no value of this type.
 pub struct View {
-    /// The most newcomers, which are threads that barge, between two queue heads. It is 0 in a strict lock.
+    /// The maximum number of newcomers (threads that barge) between two queue heads. It is 0 in a strict lock.
     pub max_newcomers: u64,
-    /// The most requests that were open at one time. If 2^64 tickets were drawn in the course of one call, 2^30 is
-    /// added.
+    /// The maximum number of requests that were open at one time. If 2^64 tickets were drawn in the course of one call,
+    /// 2^30 is added.
     pub most_open: u64,
     /// At least this number of requests have ended.
     pub ended: u64,

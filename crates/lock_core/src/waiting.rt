@@ -1,7 +1,7 @@
 //! Waiting: a waiter polls its cell, announces that it is about to sleep, and retracts the announcement.
 //!
 //! The cell's word contains the number of waiters that have announced a sleep. A grant changes the same word, so the
-//! atomic step that grants the ticket also reads this number, and no wake-up is lost.
+//! atomic step that grants the ticket also reads this number. Therefore no wake-up is lost.
 ghost use Rattle.std.specs.Prelude.{◌≡◌, ◌<◌, ◌⊎◌};
 ghost use Rattle.lock_core.specs.Layout.{max_sleepers, HasLockWords, cell_at, count_of, to_go};
 ghost use Rattle.lock_core.specs.Views.{view_of, InTime, InTimeFrom, LoadGrows, IsSeatOf, IsQueued, IsQueuedWithin, IsAsleep, IsAtTurn, IsOvertakenInBounds, SameRequest, SameTurn};
@@ -26,7 +26,8 @@ pub enum SleepResult {
     Changed { rounds: u64 },
 }
 
-/// Returns how many rounds must be granted before the ticket is at its turn, which is 0 at its turn. One atomic step.
+/// Returns how many rounds must still be granted until the ticket's turn comes, or 0 if the ticket is at its turn. One
+/// atomic step.
 #[inline(always)]
 pub fn poll<T>(table: &SharedValue<T>, seat: &mut ValueSeat<T>, ticket: u64) -> u64
     requires table { HasLockWords table.now.table_id }
@@ -47,7 +48,7 @@ pub fn poll<T>(table: &SharedValue<T>, seat: &mut ValueSeat<T>, ticket: u64) -> 
 }
 
 /// Counts the waiter as a sleeper of its cell, unless it is at its turn. At most two atomic steps. The thread that
-/// grants its ticket is then told of a sleeper.
+/// grants the waiter's ticket is then told of a sleeper.
 #[inline(always)]
 pub fn announce_sleep<T>(
     table: &SharedValue<T>,
@@ -101,7 +102,7 @@ pub fn announce_sleep<T>(
     }
 }
 
-/// Takes the waiter's count back after a sleep. One atomic step. Returns the same as `poll`.
+/// Subtracts the waiter from its cell's count of sleepers after a sleep. One atomic step. Returns the same as `poll`.
 #[inline(always)]
 pub fn retract_sleep<T>(table: &SharedValue<T>, seat: &mut ValueSeat<T>, ticket: u64) -> u64
     requires table { HasLockWords table.now.table_id }

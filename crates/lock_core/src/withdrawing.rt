@@ -1,7 +1,10 @@
 //! Withdrawal: a waiter gives up its request.
 //!
-//! A bit in the word of the request's cell marks the request as withdrawn. Each word has room for the marks of 15
-//! rounds. A release that reaches a marked request skips it.
+//! A bit in the word of the request's cell marks the request as withdrawn. The word has 16 such bits, one for each
+//! round modulo 16. A request can be withdrawn only while at most 15 rounds must be granted before its own round. A
+//! request with 16 rounds to go would share its bit with the round that was granted last. The mark of that round may
+//! still be set, because a release clears the mark with a separate atomic step after the grant. A release that reaches
+//! a marked request skips it.
 ghost use Rattle.std.specs.Prelude.{◌≡◌, ◌<◌, ◌≤◌, true, false};
 ghost use Rattle.lock_core.specs.Layout.{withdrawal_window, HasLockWords};
 ghost use Rattle.lock_core.specs.Views.{view_of, InTime, InTimeFrom, LoadGrows, IsSeatOf, IsIdle, IsQueuedWithin, IsAtTurn, IsOvertakenInBounds, SameRequest, SameTurn};

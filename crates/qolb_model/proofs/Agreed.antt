@@ -1,4 +1,5 @@
--- Proof that a plain line which agrees with a state still agrees with one after each of its steps.
+-- Lemmas about a plain line that agrees with a state of the queue machine. They state what the line's entries say about
+-- the queue.
 use Rattle.std.proofs.Common.{◌≡◌, ℕ, suc, ◌+◌, ◌==◌, inl, inr, Bool, true, false, ◌||◌, ◌&&◌, cond, if◌then◌else◌, List, [], ◌∷◌, length, map, Option, Some, None, slice_get, refl, ap, sym, ◌∙◌, subst, arith}
 use Rattle.std.specs.List.{list_any, find}
 use Rattle.std.specs.Option.{option_map, option_map_or}

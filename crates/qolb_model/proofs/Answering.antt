@@ -1,4 +1,4 @@
--- Proof that each answer of a call implies everything that the call guarantees about its port.
+-- Lemmas that derive the whole guarantee of a call from the facts about the answer that the call gave.
 use Rattle.std.proofs.Common.{◌≡◌, ℕ, List, inl, inr, refl}
 use Rattle.qolb_model.specs.declared.answer.Enq.{Enq}
 use Rattle.qolb_model.specs.declared.answer.Enq.TheVariants as enq

@@ -1,4 +1,4 @@
--- Lemmas about each call of a plain line: its answer, the moves that it makes, and the state after it.
+-- Lemmas about each call on a plain line: the call's answer, the moves that it makes, and the state after it.
 use Rattle.std.proofs.Common.{◌≡◌, ℕ, ◌≤◌, Bool, true, false, not, ◌&&◌, if◌then◌else◌, List, [], ◌∷◌, ◌++◌, map, refl, ap, sym, ◌∙◌, subst}
 use Rattle.std.specs.List.{list_any}
 use Rattle.qolb_model.specs.declared.answer.Poll.{Poll}

@@ -1,4 +1,4 @@
--- Lemmas about how clear lists grow.
+-- Lemmas about how clear lists grow. (A clear list contains the requests whose nodes may make another request.)
 use Rattle.std.proofs.Common.{◌≡◌, ℕ, ◌<◌, ◌≤◌, inl, inr, false, true, List, [], ◌∷◌, ◌++◌, Some, slice_get, subst, sym, arith}
 use mathlib.Core.List.{IsPrefix}
 use Rattle.qolb_model.specs.declared.request.Request.{Request}

@@ -1,4 +1,4 @@
--- Lemmas about how many requests of a line's nodes a list contains.
+-- Lemmas about the number of requests that each node of a line has in a list.
 use Rattle.std.proofs.Common.{◌≡◌, ◌≢◌, ℕ, zero, suc, ◌+◌, ◌<◌, ◌≤◌, List, [], ◌∷◌, length, Bool, cond, eqb, sym, refl, ap, ◌∙◌, arith, zero-add, eq-eqb, ne_eqb, Some, slice_get}
 use mathlib.Core.Logic.{dite}
 use native.Mathlib.Decide.{ℕ_discrete}

@@ -1,5 +1,5 @@
--- Proof about a port's call on a line whose other ports know its whole history. The call gives the answer that a single
--- owner would get, and what the port knows afterwards is the state after the owner's call.
+-- Proof about a call of one port while all other ports know the line's whole history. The call gives the answer that a
+-- single owner of the line would get. After the call, the port knows the state that the owner's call would lead to.
 use Rattle.std.proofs.Common.{◌≡◌, ◌≢◌, ℕ, ◌≤◌, ◌==◌, ◌⊎◌, inl, inr, Bool, true, false, ◌&&◌, ◌||◌, if◌then◌else◌, List, [], ◌∷◌, ◌++◌, length, Some, slice_get, refl, ap, sym, ◌∙◌, subst, arith}
 use Rattle.std.specs.Option.{option_map_or}
 use Rattle.std.proofs.Math.Bool.{or-false}

@@ -1,5 +1,5 @@
--- Proof about a line whose ports all meet after each call. Each call gives the answer that a single owner would get,
--- and the ports know the history of that owner's state.
+-- Proof about a line whose ports all exchange their knowledge after each call. Each call gives the answer that a single
+-- owner of the line would get, and the ports then know the history that the owner would know.
 use Rattle.std.proofs.Common.{◌≡◌, ◌≢◌, ℕ, ◌+◌, ◌≤◌, inl, inr, Bool, true, false, ◌&&◌, if◌then◌else◌, List, [], ◌∷◌, ◌++◌, length, map, set, replicate, option_map, Some, slice_get, refl, ap, sym, ◌∙◌, subst, arith, append_assoc, length-append}
 use Rattle.std.specs.Option.{option_map_or}
 use Rattle.std.proofs.lemmas.Bool.{cases_lt, cases_eq}

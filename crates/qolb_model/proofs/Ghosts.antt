@@ -1,4 +1,4 @@
--- Proof that a value without bytes owns nothing.
+-- Proof that a zero-sized value owns nothing.
 use Rattle.std.proofs.Common.{List, [], ◌∷◌, refl}
 use seplogic.Ra.Ura.{Ura}
 use mir.Val.{Val, vstruct, vnil}

@@ -1,4 +1,5 @@
--- Lemmas about what remains true of a port's view over its steps, in a line of any kind.
+-- Lemmas about what remains true of a port's view over several steps of the port. The lemmas hold for every kind of
+-- line.
 use Rattle.std.proofs.Common.{◌≡◌, ℕ, ◌≤◌, List, true, false, sym, refl, ◌∙◌, subst, ap, Some, ⊎_elim, arith}
 use Rattle.qolb_model.specs.declared.config.LineConfig.{LineConfig}
 use Rattle.qolb_model.specs.declared.view.View.{View}

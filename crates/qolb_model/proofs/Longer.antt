@@ -1,4 +1,5 @@
--- Lemmas about the longer of two prefixes of one list, and about what ports know after they have met.
+-- Lemmas about the longer of two prefixes of one list, and about what ports know after they have exchanged their
+-- knowledge.
 use Rattle.std.proofs.Common.{◌≡◌, ◌<◌, ◌≤◌, inl, inr, cond, List, [], ◌∷◌, length, ap, sym, ◌∙◌, subst, arith}
 use Rattle.std.proofs.lemmas.Bool.{lt-ltb, le-ltb, cases_order}
 use mathlib.Core.List.{IsPrefix}

@@ -1,5 +1,5 @@
--- Lemmas about rounds of meetings: what they reveal about the call before them, and why all ports then know the same
--- whole history.
+-- Lemmas about rounds of meetings, in which ports exchange what they know. The lemmas state what a round reveals about
+-- the call before the round, and that all ports know the same whole history after the round.
 use Rattle.std.proofs.Common.{◌≡◌, ◌≢◌, ℕ, ◌+◌, ◌≤◌, ◌⊎◌, inl, inr, Bool, true, false, ◌||◌, List, [], ◌∷◌, ◌++◌, length, Some, None, slice_get, refl, ap, sym, ◌∙◌, subst, arith, length-append}
 use Rattle.std.proofs.lemmas.Bool.{cases_eq}
 use Rattle.std.proofs.lemmas.Option.{slice_get_within}

@@ -1,5 +1,5 @@
--- Lemmas about a port's own turns, from call to call: which places the port knows, and what a turn adds to what the
--- port has done.
+-- Lemmas about a port's own turns over several calls: where these turns are in the history, and what each turn adds to
+-- the port's totals.
 use Rattle.std.proofs.Common.{◌≡◌, ℕ, zero, suc, ◌+◌, ◌-◌, ◌<◌, ◌≤◌, ◌⊎◌, inl, inr, Bool, true, false, if◌then◌else◌, List, [], ◌∷◌, ◌++◌, length, take, drop, replicate, Some, None, slice_get, refl, ap, sym, ◌∙◌, subst, arith}
 use Rattle.std.proofs.lemmas.Bool.{eq-eqb, cases_lt}
 use Rattle.std.proofs.lemmas.List.{length-take-le, take-append-drop, take-append-le}

@@ -1,6 +1,6 @@
--- Proof about a port that releases its line, or forwards it because the line is closed, while the other ports know the
--- line's whole history. The release skips the requests that the release of a single owner would skip, and what the port
--- knows afterwards is the state after the owner's release.
+-- Proof about a port that releases or forwards its line while all other ports know the line's whole history. (A port
+-- forwards the line if the line is closed.) The release skips the same requests as the release of a single owner. After
+-- the release, the port knows the state that the owner's release would lead to.
 use Rattle.std.proofs.Common.{◌≡◌, ◌≢◌, ℕ, zero, suc, ◌+◌, ◌<◌, ◌≤◌, inl, inr, true, false, if◌then◌else◌, List, [], ◌∷◌, ◌++◌, length, drop, replicate, Some, slice_get, refl, ap, sym, ◌∙◌, subst, arith, append_assoc, length-append}
 use Rattle.std.proofs.lemmas.Bool.{cases_eq, cases_order, false_from_ne_true}
 use Rattle.std.proofs.lemmas.List.{length-replicate, length-drop}

@@ -1,4 +1,4 @@
--- Proof that a property of all states which a single owner's calls can reach holds after each call.
+-- Proof that each call of a single owner leads from a reachable state to a reachable state.
 use Rattle.std.proofs.Common.{◌≡◌, ℕ, ◌≤◌, Bool, true, false, List, map, refl, ◌∙◌}
 use Rattle.qolb_model.specs.declared.answer.Poll.{Poll}
 use Rattle.qolb_model.specs.declared.answer.Poll.TheVariants as poll

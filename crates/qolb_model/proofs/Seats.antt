@@ -1,5 +1,5 @@
--- Proof that the entries of nodes stay in the seats of their table when seats are created, split or joined, and when
--- entries change.
+-- Proof that the seats of a table still contain the entries of all nodes after seats are created, split or joined, and
+-- after entries change.
 use Rattle.std.proofs.Common.{◌≡◌, ◌≢◌, ◌⊎◌, ℕ, zero, suc, ◌+◌, ◌-◌, ◌<◌, ◌≤◌, List, [], ◌∷◌, ◌++◌, length, set, slice_get, sym, refl, ap, ◌∙◌, subst, inl, inr, ⊎_elim, arith, length-set, Some}
 use mathlib.Core.Logic.{dite}
 use mathlib.Core.Option.{some, some-injective, some-ne-none}

@@ -1,5 +1,5 @@
--- Proof that a plain line which agrees with a state still agrees with one after each of its steps, and that the queue
--- made the moves of the step.
+-- Proof that each step of a plain line preserves the line's agreement with a state of the queue machine, and that the
+-- queue makes the moves of the step.
 use Rattle.std.proofs.Common.{◌≡◌, ℕ, zero, suc, ◌+◌, ◌-◌, ◌<◌, ◌≤◌, ◌==◌, ◌⊎◌, inl, inr, Bool, true, false, ◌||◌, ◌&&◌, if◌then◌else◌, List, [], ◌∷◌, ◌++◌, length, drop, map, Option, Some, None, slice_get, refl, ap, ap₂, sym, ◌∙◌, subst, arith, length-append}
 use Rattle.std.specs.Option.{option_map_or}
 use Rattle.std.proofs.lemmas.List.Folds.{list_any-append}

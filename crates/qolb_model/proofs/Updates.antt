@@ -1,4 +1,4 @@
--- Lemmas about a function whose value is changed at one number.
+-- Lemmas about a function whose value is changed at one argument.
 use Rattle.std.proofs.Common.{◌≡◌, ◌≢◌, ℕ, refl}
 use native.Mathlib.Decide.{ℕ_discrete}
 

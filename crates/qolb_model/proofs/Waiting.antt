@@ -1,5 +1,5 @@
--- Proof that after every step the waiting nodes are distinct, so that there are no more of them than the line has
--- nodes.
+-- Proof that no node is in a plain line's list of waiting nodes twice. Therefore the list is at most as long as the
+-- number of nodes.
 use Rattle.std.proofs.Common.{◌≡◌, ℕ, ◌+◌, ◌<◌, ◌≤◌, ◌==◌, eqb, inl, inr, Bool, true, false, ◌||◌, cond, if◌then◌else◌, List, [], ◌∷◌, ◌++◌, map, length, take, drop, Some, refl, ap, sym, ◌∙◌, arith, Option}
 use Rattle.std.specs.List.{list_any, find, IsDistinct, AllByRecursion}
 use Rattle.std.specs.Option.{is_some}

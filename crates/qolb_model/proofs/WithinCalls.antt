@@ -1,4 +1,4 @@
--- Lemmas about the atomic steps of several calls of a port.
+-- Lemmas about the number of atomic steps that a port takes over several calls.
 use Rattle.std.proofs.Common.{◌≡◌, ℕ, ◌+◌, ◌*◌, ◌≤◌, ap, sym, ◌∙◌, arith}
 use Rattle.std.proofs.Math.Nat.{add-mul}
 use Rattle.qolb_model.specs.Counting.{Counters, IsWithinCalls}

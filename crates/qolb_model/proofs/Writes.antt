@@ -1,4 +1,5 @@
--- Lemmas about the line's bytes after each end, and about the data invariant that these bytes satisfy.
+-- Lemmas about the bytes of a line after each request has ended, and about the line's data invariant, which these bytes
+-- satisfy.
 use Rattle.std.proofs.Common.{◌≡◌, ℕ, zero, suc, Bool, true, false, List, [], ◌∷◌, ◌++◌, replicate, filter, refl, ◌∙◌}
 use Rattle.qolb_model.specs.declared.write.Write.{Write}
 use Rattle.qolb_model.specs.declared.end.End.{End}

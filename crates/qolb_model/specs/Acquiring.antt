@@ -1,5 +1,6 @@
--- How a port acquires a line with a bounded number of polls. `old` and `new` are the port's views before and after the
--- call. The definitions in this file were made for this project; none is taken from the literature.
+-- How a port acquires a line with a bounded number of polls. In the definitions, `old` and `new` are the port's views
+-- before and after the call. The definitions in this file were made for this project; none is taken from the
+-- literature.
 use Rattle.std.specs.Prelude.{◌≡◌, ◌≢◌, ℕ, ◌<◌, false, List, slice_get, Some}
 use Rattle.qolb_model.specs.declared.write.Write.{Write}
 use Rattle.qolb_model.specs.declared.end.End.{End}

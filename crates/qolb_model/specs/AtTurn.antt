@@ -1,5 +1,5 @@
--- What a port knows while it waits for its turn, and while it has the turn. (Handing over the line itself is from
--- Goodman, Vernon and Woest, 1989.)
+-- What a port knows while it waits for its turn, and while it has the turn. (Handing the line itself over to the next
+-- node is from Goodman, Vernon and Woest, 1989.)
 use Rattle.std.specs.Prelude.{◌≡◌, ℕ, ◌+◌, ◌<◌, ◌≤◌, false, length, slice_get, Some}
 use Rattle.qolb_model.specs.declared.answer.PortState.TheVariants.{Holding, Queued, Rolled}
 use Rattle.qolb_model.specs.declared.request.Request.{Request}

@@ -1,6 +1,7 @@
--- What each call on a port guarantees: one record for each call, with one field for each answer. `old` and `new` are
--- the port's views before and after the call, and `turn` is what the holder has written in its turn. (The names of the
--- calls are from Goodman, Vernon and Woest, 1989; their contracts are this project's own.)
+-- What each call on a port guarantees. Each call has a record, which contains one field for each answer of the call. In
+-- these records, `old` and `new` are the port's views before and after the call, and `turn` is what the holder has
+-- written in its turn. (The names of the calls are from Goodman, Vernon and Woest, 1989; their contracts are this
+-- project's own.)
 use Rattle.std.specs.Prelude.{◌≡◌, ◌≢◌, ◌⊎◌, ℕ, Bool, true, false, List, [], ◌∷◌}
 use Rattle.qolb_model.specs.declared.answer.Enq.{Enq}
 use Rattle.qolb_model.specs.declared.answer.Enq.TheVariants as enq

@@ -1,5 +1,5 @@
--- The ends of requests, and the line's bytes after each end. A list of ends belongs to an order of requests: end p is
--- the end of request p. (Masked writes and closing are this project's own.)
+-- The ends of requests, and the line's bytes after each end. The end at place p of a list of ends belongs to the
+-- request at place p of the order. (Masked writes and closing are this project's own.)
 use Rattle.std.specs.Prelude.{◌≡◌, ℕ, Bool, true, false, ◌||◌, List, [], ◌∷◌}
 use Rattle.line_lanes.specs.Line.{merged}
 use Rattle.qolb_model.specs.declared.write.Write.{Write}

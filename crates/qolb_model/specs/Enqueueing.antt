@@ -1,4 +1,4 @@
--- How a node requests the line. (In IEEE Std 1596-1992, too, a requester puts itself at the head of the line's list.)
+-- How a node requests the line. (As in IEEE Std 1596-1992, a requester puts itself at the head of the line's list.)
 use Rattle.std.specs.Prelude.{◌≡◌, ◌≢◌, ◌⊎◌, ℕ, ◌+◌, ◌≤◌, length, slice_get, Some}
 use Rattle.qolb_model.specs.declared.answer.PortState.TheVariants.{Left, Rolled}
 use Rattle.qolb_model.specs.declared.view.View.{View}

@@ -1,5 +1,6 @@
--- The entries of a line's nodes in the seats of its table. Each node has one entry, which is in one place of one seat.
--- The definitions in this file were made for this project; none is taken from the literature.
+-- Defines where a line's table keeps the entry of each node. Each node has one entry, at one place of one seat. (A seat
+-- is a handle through which a caller uses the table.) The definitions in this file were made for this project; none is
+-- taken from the literature.
 use Rattle.std.specs.Prelude.{◌≡◌, ℕ, zero, suc, ◌<◌, ◌≤◌, List, [], ◌∷◌, slice_get, Some}
 use mathlib.Core.Option.{some}
 use lib.ListN.{get_elem?}

@@ -1,5 +1,5 @@
--- Finishing a line, which takes the ports of all its nodes. The definitions in this file were made for this project;
--- none is taken from the literature.
+-- How a program finishes a line. The program must have the ports of all nodes. The definitions in this file were made
+-- for this project; none is taken from the literature.
 use Rattle.std.specs.Prelude.{◌≡◌, ◌≢◌, ℕ, zero, suc, ◌<◌, ◌≤◌, true, false, List, length, slice_get, Some}
 use Rattle.qolb_model.specs.declared.unfinished.FinishError.{FinishError}
 use Rattle.qolb_model.specs.declared.unfinished.FinishError.TheVariants.{Memory, Unquiet, Missing}

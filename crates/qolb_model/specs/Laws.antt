@@ -1,5 +1,6 @@
--- Theorems about histories, and about views of one history. The definitions must imply at least these theorems. The
--- theorems in this file were stated for this project; none is taken from the literature.
+-- Theorems about histories, and about several views that belong to one history. The definitions of this crate must
+-- imply at least these theorems. The theorems in this file were stated for this project; none is taken from the
+-- literature.
 use Rattle.std.specs.Prelude.{◌≡◌, ◌≢◌, ℕ, ◌+◌, ◌<◌, ◌≤◌, true, false, List, [], ◌∷◌, length, take, slice_get, filter, Option, None, Some}
 use Rattle.std.specs.List.{sum_by}
 use mathlib.Core.List.{IsPrefix}

@@ -1,5 +1,5 @@
--- Requesting the line in two calls: the first call makes the request, and the second call links it to the predecessor's
--- request. (The first call is the prepend of IEEE Std 1596-1992.)
+-- How a node requests the line with two calls. The first call makes the request, and the second call links the request
+-- to its predecessor. (The first call is the prepend of IEEE Std 1596-1992.)
 use Rattle.std.specs.Prelude.{◌≡◌}
 use Rattle.qolb_model.specs.declared.answer.PortState.TheVariants.{Linking}
 use Rattle.qolb_model.specs.declared.view.View.{View}

@@ -1,5 +1,5 @@
--- How two ports of a line merge their views. The definitions in this file were made for this project; none is taken
--- from the literature.
+-- How two ports of a line meet, which means that they merge their views. The definitions in this file were made for
+-- this project; none is taken from the literature.
 use Rattle.std.specs.Prelude.{◌≡◌, ◌||◌, ◌++◌, if◌then◌else◌, nat_lt, List, length}
 use Rattle.qolb_model.specs.declared.request.Request.{Request}
 use Rattle.qolb_model.specs.declared.view.View.{View}

@@ -1,5 +1,5 @@
--- Views of several ports that belong to one history, which means that this history makes all of them true. The
--- definitions in this file were made for this project; none is taken from the literature.
+-- Defines when the views of several ports belong to one history: a single history must make all of these views true.
+-- The definitions in this file were made for this project; none is taken from the literature.
 use Rattle.std.specs.Prelude.{◌≡◌, ℕ, ◌≤◌, false, List, [], length, slice_get, Some}
 use mathlib.Core.List.{IsPrefix}
 use Rattle.qolb_model.specs.declared.answer.PortState.TheVariants.{Holding}

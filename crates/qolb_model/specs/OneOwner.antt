@@ -1,6 +1,6 @@
--- The answer of each call, and how the call moves the queue, if one owner makes all calls on a line one after another.
--- These definitions determine the answers to a script. The definitions in this file were made for this project; none is
--- taken from the literature.
+-- Defines the answer of each call, and the moves of the queue, on a line with a single owner that makes all calls one
+-- after another. These definitions determine the answers to a script of calls. The definitions in this file were made
+-- for this project; none is taken from the literature.
 use Rattle.std.specs.Prelude.{ℕ, ◌+◌, Bool, true, false, not, ◌&&◌, if◌then◌else◌, List, [], ◌∷◌, length, drop, map, take_while, bit_or}
 use Rattle.std.specs.Option.{option_map_or}
 use Rattle.line_lanes.specs.Line.{merged}

@@ -1,5 +1,5 @@
--- Opening a line, and the first views of its ports. The definitions in this file were made for this project; none is
--- taken from the literature.
+-- How a line is opened, and what its ports know at first. The definitions in this file were made for this project; none
+-- is taken from the literature.
 use Rattle.std.specs.Prelude.{◌≡◌, ◌⊎◌, ℕ, ◌+◌, ◌<◌, ◌≤◌, List, [], length, map, slice_get, Some}
 use Rattle.std.specs.List.{All}
 use Rattle.qolb_model.specs.declared.answer.OpenError.{OpenError}

@@ -1,4 +1,4 @@
--- The model of a plain line, and the condition for its agreement with a state of the queue machine.
+-- An abstract model of a plain line, and the condition under which the model agrees with a state of the queue machine.
 use Rattle.std.specs.Prelude.{◌≡◌, ℕ, ◌<◌, ◌≤◌, ◌==◌, Bool, true, false, ◌&&◌, if◌then◌else◌, List, [], ◌∷◌, map, length, Option, Some, None, slice_get, find}
 use Rattle.std.specs.Option.{option_map_or}
 use Rattle.std.specs.List.{list_any}

@@ -1,5 +1,5 @@
--- The queue of a line as a state machine: requests are made, marked as withdrawn, and ended in order. (The queue is
--- from Goodman, Vernon and Woest, 1989; withdrawal by a mark and closing are this project's own.)
+-- The queue of a line as a state machine. Requests are made, may be marked as withdrawn, and end in order. (The queue
+-- is from Goodman, Vernon and Woest, 1989. Withdrawing a request by a mark and closing a line are this project's own.)
 use Rattle.std.specs.Prelude.{◌≡◌, ℕ, ◌<◌, ◌≤◌, true, false, List, [], ◌∷◌, ◌++◌, length, Option, Some, slice_get}
 use Rattle.qolb_model.specs.declared.request.Request.{Request}
 use Rattle.qolb_model.specs.declared.end.End.{End}

@@ -1,5 +1,5 @@
--- A holder releases the line, or a node that has been notified that the line is closed forwards it. (Handing over to
--- the next node in the list is from Goodman, Vernon and Woest, 1989; withdrawal and closing are this project's own.)
+-- How a holder releases the line, and how a node forwards a line that has been closed. (Handing the line over to the
+-- next node in the list is from Goodman, Vernon and Woest, 1989. Withdrawal and closing are this project's own.)
 use Rattle.std.specs.Prelude.{◌≡◌, ◌⊎◌, ℕ, ◌+◌, ◌<◌, ◌≤◌, true, List, ◌++◌, ◌∷◌, length, replicate, slice_get, Some}
 use Rattle.qolb_model.specs.declared.answer.PortState.{PortState}
 use Rattle.qolb_model.specs.declared.answer.PortState.TheVariants.{Left, Shut}

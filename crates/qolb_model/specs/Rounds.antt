@@ -1,5 +1,5 @@
--- A port meets other ports, one after another. The definitions in this file were made for this project; none is taken
--- from the literature.
+-- A round of meetings, in which a port merges its view with those of other ports, one after another. The definitions in
+-- this file were made for this project; none is taken from the literature.
 use Rattle.std.specs.Prelude.{◌≡◌, ℕ, List, [], ◌∷◌, ◌++◌, length}
 use Rattle.qolb_model.specs.Calls.{MergesViews}
 use Rattle.qolb_model.specs.Whole.{ViewAndTurn}

@@ -1,5 +1,5 @@
--- What is true of a port's view after each call, and therefore between calls. The definitions in this file were made
--- for this project; none is taken from the literature.
+-- Defines what is true of a port's view after each call, and therefore also between two calls. The definitions in this
+-- file were made for this project; none is taken from the literature.
 use Rattle.std.specs.Prelude.{◌≡◌, ◌⊎◌, ℕ, ◌+◌, ◌<◌, ◌≤◌, false, List, [], ◌∷◌, length, slice_get, Some}
 use Rattle.qolb_model.specs.declared.request.Request.{Request}
 use Rattle.qolb_model.specs.declared.config.LineConfig.{LineConfig}

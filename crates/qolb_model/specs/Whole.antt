@@ -1,5 +1,6 @@
--- Ports that know the whole history of their line, as a single owner would. All ports know it if they meet after each
--- call. The definitions in this file were made for this project; none is taken from the literature.
+-- Defines when ports know the whole history of their line, as a single owner would. All ports know the whole history if
+-- they meet (exchange what they know) after each call. The definitions in this file were made for this project; none is
+-- taken from the literature.
 use Rattle.std.specs.Prelude.{◌≡◌, ◌⊎◌, ℕ, ◌+◌, ◌≤◌, List, length, Some, slice_get}
 use Rattle.qolb_model.specs.declared.answer.PortState.{PortState}
 use Rattle.qolb_model.specs.declared.answer.PortState.TheVariants.{Idle, Linking, Queued, Holding, Left, Rolled, Shut}

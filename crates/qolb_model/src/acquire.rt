@@ -1,4 +1,4 @@
-//! Acquires a line with a bounded number of polls.
+//! Acquires a line with a limit on the number of polls.
 ghost use Rattle.std.specs.Prelude.{◌≡◌, ◌≤◌, ◌+◌, IsTrue};
 ghost use Rattle.qolb_model.specs.PortStates.{may_ask};
 ghost use Rattle.qolb_model.specs.Calls.{Withdraws};

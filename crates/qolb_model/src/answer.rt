@@ -1,4 +1,4 @@
-//! The answers of the calls on a line, and the states of a port.
+//! The answers that the calls on a line return, and the states of a port.
 ghost use Rattle.std.specs.Prelude.{◌≡◌};
 ghost use Rattle.qolb_model.specs.PortStates.{may_ask};
 
@@ -11,7 +11,8 @@ pub enum Enq {
     Queued,
     /// The line is closed, and the request has ended.
     Closed,
-    /// The node made no request: its last one has ended or was withdrawn, and the node's entry is not clear yet.
+    /// The node made no request, because its entry is not clear yet. The node's last request has ended or was
+    /// withdrawn.
     Busy,
 }
 
@@ -22,9 +23,10 @@ pub enum Prep {
     Granted,
     /// The line is closed, and the request has ended.
     Closed,
-    /// The node made no request: its last one has ended or was withdrawn, and the node's entry is not clear yet.
+    /// The node made no request, because its entry is not clear yet. The node's last request has ended or was
+    /// withdrawn.
     Busy,
-    /// The request is behind another request, and not linked to its predecessor's yet.
+    /// The request is behind another request, and is not linked to its predecessor yet.
     Linking,
 }
 
@@ -42,7 +44,7 @@ pub enum Poll {
 /// The answer of `withdraw`.
 #[derive(Clone, Copy, Debug, PartialEq, Eq)]
 pub enum Out {
-    /// The request is withdrawn: the release that reaches it will pass it.
+    /// The request is withdrawn. The release that reaches the request will skip it.
     Withdrawn,
     /// The request had already reached its turn, and the node holds the line.
     Granted,
@@ -50,7 +52,7 @@ pub enum Out {
     Closed,
 }
 
-/// The state of a node at a line after its last call.
+/// The state of a node of a line, after the node's last call.
 #[derive(Clone, Copy, Debug, PartialEq, Eq)]
 pub enum PortState {
     /// The node has no open request, and may make one.

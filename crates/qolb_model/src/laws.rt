@@ -1,5 +1,5 @@
-//! The theorems about lines that follow from the definitions in the contracts. Each theorem is the contract of a
-//! function that does nothing.
+//! Theorems about lines that follow from the definitions in the contracts. Each theorem is the contract of a function
+//! that does nothing.
 ghost use Rattle.std.specs.Prelude.{◌≡◌};
 ghost use Rattle.qolb_model.specs.Laws.{NoRequestStandsTwice, NoneIsServedAfterClosing, LeaseBounds, OpenLineHasTurns, OnlyServedEndsWrite, GoodStaysGood, ClearPortIsNotBusy, ExtendsThrough, PartIsOfOneHistory, EachTwoAreOfOneHistory, FewerEndsBegin, SameEndsSameBytes, OneNodeHolds, BoundedBypass, FewTurnsBefore, FewWaitAtOnce, NewPortsAreOfOneHistory, PortsThatMetKnowTheSame, SumsAreOfEachPort, ClosedByLeaseAlone, NoneIsTold};
 
@@ -41,17 +41,17 @@ pub fn clear_port_is_not_busy<K: Keep>()
     ensures { ClearPortIsNotBusy K.allows }
 {}
 
-/// Extending a view is transitive. Call after call, a port therefore forgets nothing.
+/// Extending a view is transitive. Therefore a port forgets nothing over a sequence of calls.
 pub fn extends_through()
     ensures { ExtendsThrough }
 {}
 
-/// Any subset of the views of one history is of one history.
+/// If some views belong to one history, any subset of these views belongs to one history.
 pub fn part_is_of_one_history()
     ensures { PartIsOfOneHistory }
 {}
 
-/// Any two views of one history are of one history.
+/// If some views belong to one history, any two of these views belong to one history.
 pub fn each_two_are_of_one_history()
     ensures { EachTwoAreOfOneHistory }
 {}
@@ -76,7 +76,7 @@ pub fn bounded_bypass()
     ensures { BoundedBypass }
 {}
 
-/// At its turn, a request has seen fewer ends since its wait began than the line has nodes.
+/// From the time when a request begins to wait until its turn, fewer requests end than the line has nodes.
 pub fn few_turns_before()
     ensures { FewTurnsBefore }
 {}
@@ -91,7 +91,7 @@ pub fn most_nodes()
     ensures { MAX_NODES ≡ 200 }
 {}
 
-/// The ports that `open` returns are of one history.
+/// The views of the ports that `open` returns belong to one history.
 pub fn new_ports_are_of_one_history()
     ensures { NewPortsAreOfOneHistory }
 {}
@@ -101,7 +101,7 @@ pub fn ports_that_met_know_the_same()
     ensures { PortsThatMetKnowTheSame }
 {}
 
-/// The changes by all turns of a finished line are the sum of the changes by each port's own turns.
+/// The total change by all turns of a finished line is the sum of the changes by each port's own turns.
 pub fn sums_are_of_each_port<K: Keep>()
     ensures { SumsAreOfEachPort K.good K.allows }
 {}

@@ -1,8 +1,10 @@
-//! The specification of a queued line. Every kind of line is proved to satisfy it.
+//! The specification of a queued line, which is a block of 64 bytes that nodes share and queue for. Every kind of line
+//! is proved to satisfy this specification.
 //!
-//! The crate defines requests, the ways in which they end, and the bytes of the line after these ends. It defines the
-//! queue as a state machine, and a plain line with one owner, which executes that machine. The trait `LineSync` has the
-//! calls of a shared line, and its contracts state what each call guarantees to the node that makes it.
+//! The crate defines requests, the ways in which requests end, and the bytes of the line after each end. The crate also
+//! defines the queue as a state machine, and a plain line, which has one owner and executes this machine. The trait
+//! `LineSync` declares the calls of a shared line. The contracts of the trait state what each call guarantees to the
+//! calling node.
 #![tactic(auto)]
 
 mod acquire;

@@ -1,4 +1,4 @@
-//! The trait for lines that a program can open.
+//! The trait `OpenLine` for lines that a program can open.
 ghost use Rattle.std.specs.Prelude.{IfOk, IfErr};
 ghost use Rattle.qolb_model.specs.Opening.{MayOpen, MayNotOpen, Opens};
 

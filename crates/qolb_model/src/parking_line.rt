@@ -1,4 +1,4 @@
-//! The trait for lines on which a waiting thread can park.
+//! The trait `ParkingLine` for lines on which a waiting thread can park.
 ghost use Rattle.std.specs.Prelude.{◌≡◌};
 
 use crate::answer::PortState;

@@ -1,5 +1,5 @@
-//! The plain line, which is the reference for all other kinds: it has one owner, uses no threads, and allocates no
-//! memory.
+//! The plain line, which is the reference for all other kinds of line. A plain line has one owner, uses no threads, and
+//! allocates no memory.
 ghost use Rattle.std.specs.Prelude.{◌≡◌, ◌≢◌, ℕ, ◌≤◌, Bool, true, false, IsTrue, IfOk, IfErr, MatchResult, ◌<◌, length, map, find, Option, Some, None};
 ghost use Rattle.qolb_model.specs.Queue.{Runs};
 ghost use Rattle.qolb_model.specs.OneOwner.{OwnerState, opened, state_of, shown, enq_answer, enq_moves, after_enq, clear_answer, poll_answer, poll_moves, after_poll, as_enq, out_answer, out_moves, after_out, release_moves, after_release, after_write};

@@ -1,5 +1,5 @@
-//! The trait `LineSync` of a shared line, with the calls, the contract of each call, and the statements about a port
-//! that hold between calls.
+//! The trait `LineSync` of a shared line. The trait declares the calls, the contract of each call, and what is true of
+//! a port between two calls.
 ghost use Rattle.std.specs.Prelude.{◌≡◌, ◌≢◌, ◌↔◌, ℕ, true, false, All, Some, IsTrue, IfOk, IfErr, map};
 ghost use Rattle.qolb_model.specs.declared.config.LineConfig.{LineConfig};
 ghost use Rattle.qolb_model.specs.declared.answer.PortState.{PortState};

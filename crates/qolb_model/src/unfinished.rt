@@ -1,4 +1,4 @@
-//! What `finish` returns if it could not finish a line: the line, its ports, and the reason.
+//! What `finish` returns if it could not finish a line: the line, the ports, and the reason.
 ghost use Rattle.std.specs.Prelude.{◌≡◌, ℕ};
 
 /// Why a line could not be finished.

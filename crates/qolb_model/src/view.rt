@@ -1,4 +1,4 @@
-//! The view of a port, which is what the port knows about its line. The contracts of all calls refer to it.
+//! The view of a port, which is what the port knows about its line. The contracts of all calls refer to this view.
 use crate::answer::PortState;
 use crate::config::LineConfig;
 use crate::end::End;
@@ -25,7 +25,7 @@ pub struct View {
     pub ends: LinkedList<End>,
     /// The requests whose nodes may make another request.
     pub clear: LinkedList<Request>,
-    /// The requests that are linked to their predecessor's, or were at their turn when they were made.
+    /// The requests that are linked to their predecessors, or were at their turn when they were made.
     pub joined: LinkedList<Request>,
     /// The requests that were withdrawn.
     pub marked: LinkedList<Request>,

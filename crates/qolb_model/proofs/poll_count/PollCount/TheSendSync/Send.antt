@@ -1,4 +1,4 @@
--- A `PollCount` may move to another thread, because it owns nothing.
+-- Proof that a `PollCount` may move to another thread, because it owns nothing.
 use denote.Param.Send.{IsSend, owning_send}
 use Rattle.qolb_model.specs.contracts.poll_count.PollCount.{the_row, the_type}
 

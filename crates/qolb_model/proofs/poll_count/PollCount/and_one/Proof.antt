@@ -1,4 +1,4 @@
--- Proof that `and_one` returns the value without bytes, and that its count is greater by one.
+-- Proof that `and_one` returns a zero-sized value whose ghost count is greater by one.
 use Rattle.std.proofs.Common.{◌+◌, [], ◌∷◌, refl}
 use Rattle.std.proofs.raw_atomic.Walks.{proved}
 use base.Fml.{ftrue}

@@ -1,4 +1,4 @@
--- Proof that `none` returns the value without bytes, and that its count is 0.
+-- Proof that `none` returns a zero-sized value whose ghost count is 0.
 use Rattle.std.proofs.Common.{[], ◌∷◌, refl}
 use Rattle.std.proofs.raw_atomic.Walks.{proved}
 use base.Fml.{ftrue}
