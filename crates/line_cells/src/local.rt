@@ -1,4 +1,4 @@
-//! The ghost state of a node of an array lock, which exists only in proofs.
+//! The ghost state of an array lock's node. Ghost state exists only in proofs.
 use std::collections::LinkedList;
 
 /// The progress of a node in its calls.

@@ -1,7 +1,7 @@
 //! Implements the calls of `LineSync` once for all kinds of lines.
 //!
-//! The queue algorithm (`Discipline`) of the line determines the atomic steps of each call. A call that releases the
-//! line then wakes waiters according to the line's wake policy.
+//! The queue algorithm (`Discipline`) of the line determines the atomic steps of each call. After a call has released
+//! the line, it wakes waiters according to the line's wake policy.
 ghost use Rattle.std.specs.Prelude.{◌≡◌, ◌+◌, IfOk, IfErr, true, false};
 ghost use Rattle.qolb_model.specs.Calls.{MergesViews};
 ghost use Rattle.qolb_model.specs.OneOwner.{turn_after};

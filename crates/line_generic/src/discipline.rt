@@ -1,5 +1,5 @@
-//! The traits that a queue algorithm implements. They contain everything in which one kind of line differs from the
-//! others; the code that all kinds share is in the other files of this crate.
+//! The traits that a queue algorithm implements. The kinds of lines differ only in their implementations of these
+//! traits. The code that all kinds of lines share is in the other files of this crate.
 ghost use Rattle.std.specs.Prelude.{◌≡◌, ℕ, List, ◌<◌, ◌≤◌, ◌^◌, length, Bool, IfOk};
 ghost use Rattle.line_generic.specs.Laws.{HasAllowedStates, HasHolderWord, HasClosedWord, HasPollOutcome, HasFirstSplit, HasEmptySplit, HasJoin, HasSlots, HasOpening, HasMeeting, HasSlotReturn, HasFinalLine};
 ghost use mathlib.Core.Option.{some};

@@ -1,7 +1,7 @@
-//! The wake policy for waiters that sleep outside the library. The line reports the words on which they wait, and the
-//! code that called the line wakes them.
+//! The wake policy for waiters that the caller parks and unparks, instead of this library. A release only records the
+//! words on which the next waiters wait. The caller reads these words after the release, and unparks the waiters.
 //!
-//! The nodes for C (`qolb_nodes`) use this policy.
+//! The nodes of the C library (`qolb_nodes`) use this policy.
 ghost use Rattle.std.specs.Prelude.{◌≡◌, Some};
 ghost use Rattle.qolb_model.specs.declared.answer.PortState.TheVariants as port_state;
 ghost use Rattle.qolb_model.specs.declared.view.View.{View};

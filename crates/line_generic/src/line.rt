@@ -1,4 +1,4 @@
-//! The type of a line, which owns a table of atomic words.
+//! The type `Line`. A line owns a table of atomic words.
 ghost use Rattle.std.specs.Prelude.{◌≡◌, ◌*◌, ◌<◌, ◌≤◌};
 ghost use Rattle.line_lanes.specs.Lane.{with_lane_of};
 ghost use Rattle.line_lanes.specs.Mask.{placed_mask};

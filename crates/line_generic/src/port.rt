@@ -1,4 +1,4 @@
-//! The port of a node, with which the node's owner makes calls on the line.
+//! The port of a node. A port is the object through which the owner of a node calls the line.
 ghost use Rattle.std.specs.Prelude.{◌≡◌, ◌↔◌, IsTrue};
 
 use crate::discipline::DisciplineSpec;

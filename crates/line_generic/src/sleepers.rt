@@ -1,8 +1,9 @@
 //! Counts a line's sleepers, which are the waiters that are parked or are about to park. This file contains what a
 //! waiter does before it parks, and what a release does before it returns.
 //!
-//! The waiter and the release follow a Dekker handshake: the waiter counts itself and then looks at its word, and the
-//! release grants the line and then looks at the count. So one of them sees the other.
+//! The waiter and the releasing thread follow a Dekker handshake. The waiter adds itself to the count, and then reads
+//! the word on which it waits. The releasing thread grants the line, and then reads the count. Therefore either the
+//! waiter sees the grant, or the releasing thread sees the waiter.
 ghost use Rattle.std.specs.Prelude.{◌≡◌, ℕ, ◌<◌, ◌/◌, ◌%◌, ◌^◌};
 
 use crate::discipline::Discipline;

@@ -1,4 +1,5 @@
-//! Requests the line in two calls, on lines whose queue is a linked list.
+//! Splits a request for a line into two calls, `prepend` and `link`. Only lines whose queue is a linked list have these
+//! calls.
 ghost use Rattle.line_generic.specs.PortCalls.{IsRestingPort, IsLinkingPort, HasPutRequest, HasLinkedRequest};
 
 use crate::accept::Arrival;

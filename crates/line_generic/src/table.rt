@@ -1,5 +1,5 @@
-//! The table of a line, which consists of words and slots. While no node holds the line, the line's bytes are in a
-//! slot.
+//! The table of a line. A table consists of atomic words and of slots. While no node holds the line, the line's bytes
+//! are in a slot.
 ghost use Rattle.std.specs.Prelude.{◌≡◌, ⊤};
 
 use crate::discipline::{DisciplineInvariant, DisciplineSpec};

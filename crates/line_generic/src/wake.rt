@@ -1,8 +1,9 @@
-//! The wake policies: waiters park, and releases unpark them. No call in this file changes the table.
+//! The wake policies, which determine whether waiters park and how a release wakes them. No call in this file changes
+//! the table of a line.
 //!
-//! A line has one of three wake policies. With `Parking`, a release unparks waiters. With `SpinOnly`, it wakes no
-//! thread. With `SleepersElsewhere`, it records the words on which the waiters wait, so that the code that called the
-//! line can wake them.
+//! A line has one of three wake policies. With `Parking`, a release unparks waiters. With `SpinOnly`, a release wakes
+//! no thread. With `SleepersElsewhere`, a release records the words on which the waiters wait, so that the caller of
+//! the release can wake them.
 ghost use Rattle.std.specs.Prelude.{◌≡◌, ℕ, ◌<◌, false, Option, None};
 ghost use Rattle.line_generic.specs.Answers.{IsSeatOfNode};
 ghost use Rattle.line_generic.specs.Steps.{IsInState};
