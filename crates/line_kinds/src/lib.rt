@@ -1,7 +1,7 @@
-//! The list of the kinds of lines, with their names. Code that works on any kind of line gets the kinds from this
+//! The list of the kinds of lines, with their names. Code that supports every kind of line takes the list from this
 //! crate.
 //!
-//! The section "Another lock" of docs/CHANGING.md lists the other files that name each kind.
+//! The section "Another kind of line" of docs/CHANGING.md lists the other files that name each kind.
 #![tactic(auto)]
 
 ghost use Rattle.std.specs.Prelude.{◌≡◌, ◌+◌, ◌*◌};

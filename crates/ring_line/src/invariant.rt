@@ -1,4 +1,5 @@
-//! The type that represents the ring's queue algorithm, its ghost state, and its invariant.
+//! The type `RingQueue`, which represents the queue algorithm of the ring. This file also defines the ghost state and
+//! the invariant of the queue algorithm.
 ghost use Rattle.line_generic.specs.Slots.{in_single_slot, open_in_single_slot};
 ghost use Rattle.ring_line.specs.Layout.{cell_of};
 ghost use Rattle.line_cells.specs.declared.layout.TheConstants.{CELLS};

@@ -1,4 +1,5 @@
-//! The type that represents the ticket line's queue algorithm, its ghost state, and its invariant.
+//! The type `TicketQueue`, which represents the queue algorithm of the ticket line. This file also defines the ghost
+//! state and the invariant of the queue algorithm.
 ghost use Rattle.ticket_line.specs.Slots as slots;
 ghost use Rattle.line_cells.specs.Layout.{ticket_of};
 ghost use Rattle.line_cells.specs.Counting.{cells_for};
