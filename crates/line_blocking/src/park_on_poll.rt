@@ -1,4 +1,4 @@
-//! A wrapper around a line. Its `poll` puts the calling thread to sleep until the node's turn may have come.
+//! Wraps a line so that its `poll` puts the calling thread to sleep until the node's turn may have come.
 ghost use Rattle.std.specs.Prelude.{◌≡◌, map, All, IfOk, IfErr};
 ghost use Rattle.qolb_model.specs.Finishing.{MayRefuse, IsFinished};
 

@@ -1,4 +1,4 @@
-//! Waits until a line is granted or closed, by polling with pauses between the polls.
+//! Waits for a line by polling, with pauses between the polls. The wait ends when the line is granted or closed.
 ghost use Rattle.std.specs.Prelude.{◌≡◌, IsTrue};
 ghost use Rattle.qolb_model.specs.PortStates.{may_ask};
 ghost use Rattle.line_blocking.specs.Acquiring.{Acquires, ComesSoon, EndsWait};

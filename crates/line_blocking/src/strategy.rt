@@ -1,5 +1,5 @@
-//! Waits without a timeout for a line whose request is already queued. A strategy decides what the waiter does between
-//! two polls.
+//! Waits, without a timeout, for a line that the port has already requested. A strategy decides what the waiter does
+//! between two polls.
 ghost use Rattle.std.specs.Prelude.{◌≡◌};
 ghost use Rattle.line_blocking.specs.Acquiring.{EndsWait};
 

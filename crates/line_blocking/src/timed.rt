@@ -1,4 +1,4 @@
-//! Calls that sleep until the node has the line, with and without a timeout.
+//! Calls that acquire a line, with or without a timeout, and sleep while they wait.
 ghost use Rattle.std.specs.Prelude.{◌≡◌, ◌⊎◌, ◌+◌, ◌≤◌, IsTrue, Option, min};
 ghost use Rattle.std.specs.Duration.{as_nanos};
 ghost use Rattle.std.specs.declared.time.Instant.{Instant};

@@ -1,4 +1,5 @@
--- Lemmas about an event after which its node neither has the line nor is about to link or to free others.
+-- Lemmas about an event of a node that does not have the line after the event. Such a node also need not link its
+-- request or free other nodes next.
 use Rattle.std.proofs.Common.{◌≡◌, ◌≢◌, ℕ, Bool, true, false, ◌||◌, List, [], ◌∷◌, sym, refl, ap, ◌∙◌, subst}
 use mathlib.Core.Option.{some}
 use lib.ListN.{get_elem?}

@@ -1,4 +1,5 @@
-//! The type that represents the link line's queue algorithm, its ghost state, and its invariant.
+//! The type `LinkQueue`, which represents the queue algorithm of the link line. This file also defines the ghost state
+//! and the invariant of the queue algorithm.
 ghost use Rattle.link_line.specs.Laws.PortModel as port_model;
 ghost use Rattle.link_line.specs.BetweenCalls as between_calls;
 ghost use Rattle.link_line.specs.Layout as layout;
