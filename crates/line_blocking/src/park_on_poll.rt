@@ -21,7 +21,7 @@ pub struct ParkOnPoll<'r, R, L> {
 }
 
 impl<'r, R, L> ParkOnPoll<'r, R, L> {
-    /// Wraps `line`. Its waiters then sleep by the handle `rt`.
+    /// Wraps `line`. The waiters of the line then sleep through the runtime handle `rt`.
     pub fn new(rt: &'r R, line: L) -> ParkOnPoll<'r, R, L>
         ensures { result.line ≡ line }
     {

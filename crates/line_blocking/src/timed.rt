@@ -27,7 +27,7 @@ const NAP_MICROS: u64 = 200;
 pub enum TimedAcquire {
     /// The node holds the line.
     Granted,
-    /// The line is closed, and the node was told so.
+    /// The line is closed, and the node was notified of this.
     Closed,
     /// The wait timed out. The node holds nothing and does not wait.
     TimedOut,

@@ -24,7 +24,7 @@ pub const TICKET_WORD: usize = 0;
 /// The number of all words of a table with the maximum number of cells.
 pub const WORDS: usize = STRIDE * CELLS as usize;
 
-/// Returns the number of words for `cells` cells, which are more than the nodes.
+/// Returns the number of words of a table with `cells` cells. There are more cells than nodes.
 pub fn word_count(cells: u64) -> usize
     requires { cells ≤ CELLS }
     ensures { result ≡ layout.word_count cells }

@@ -262,7 +262,8 @@ impl<K: Keep, Q: Discipline<K>, W: WakePolicy> LineSync<K> for Line<K, Q, W> {
 }
 
 impl<K: Keep, Q: Discipline<K>, W: WakePolicy> Line<K, Q, W> {
-    /// Releases the line, and closes it if `shut` is set: this is `shut` and `deqolb` in one call.
+    /// Releases the line, and closes it if `shut` is set. The calls `shut` and `deqolb` are both implemented by this
+    /// call.
     ///
     /// The call stores the holder's payload for the successor, as closed if `shut` is set or if the lease ends with
     /// this turn. Then it hands the line over and unparks the next holder. It takes at least one atomic step, at most

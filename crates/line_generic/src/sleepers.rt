@@ -16,8 +16,9 @@ use std::sync::atomic::{AtomicU64, Ordering};
 /// The duty to unpark the next holder, and the waiter behind it one turn early.
 ///
 /// `word` is the word on which the node that was granted the line may be parked, and `ahead` is the word of the waiter
-/// behind it. They are any number if there is no such node. This is a linear token: the type is not `Drop` and one
-/// field is private to this file, so a discipline can only return it, and a call can only pass it to the `WakePolicy`.
+/// behind it. If there is no such node, these may be any numbers. This is a linear token: the type is not `Drop` and
+/// one field is private to this file, so a queue algorithm can only return it, and a call can only pass it to the
+/// `WakePolicy`.
 pub struct UnparkHandle {
     pub(crate) word: usize,
     pub(crate) ahead: usize,

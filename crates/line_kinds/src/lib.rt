@@ -37,7 +37,7 @@ pub const LOCKS: usize = 3;
 /// All locks.
 pub static ALL: [Lock; LOCKS] = [Lock::Ring, Lock::Link, Lock::Ticket];
 
-/// Makes the names of the kinds on command lines, in the order of `ALL`, behind other texts. `lock_names!(array,
+/// Expands to the names of the kinds on command lines, in the order of `ALL`, after other texts. `lock_names!(array,
 /// "plain")` is an array of four names, and `lock_names!(text, "kinds: ")` is a text in which commas separate the
 /// names.
 #[macro_export]
@@ -51,7 +51,7 @@ macro_rules! lock_names {
 pub static NAMES: [&str; LOCKS] = lock_names!(array);
 
 impl Lock {
-    /// Returns the kind of this name, if there is one.
+    /// Returns the kind that has this name, or `None` if there is no such kind.
     pub fn named(name: &str) -> Option<Lock>
         ensures { result ≡ lock_named name.now }
     {
@@ -63,9 +63,9 @@ impl Lock {
         }
     }
 
-    /// Returns the number of bytes of a table for `nodes` nodes, which are its words and its slots.
+    /// Returns the number of bytes that the words and slots of a table for `nodes` nodes take.
     ///
-    /// A port takes 128 bytes more. Opening a line takes the table's bytes twice for a moment.
+    /// A port takes 128 bytes more. While a line is opened, the table's bytes are needed twice for a moment.
     pub fn bytes_for(self, nodes: u64) -> u64
         requires { AreNodes nodes }
         ensures bytes { result ≡ bytes_of self nodes }

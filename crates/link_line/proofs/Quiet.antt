@@ -1,5 +1,5 @@
--- Lemmas about an event of a node that does not have the line after the event. Such a node also need not link its
--- request or free other nodes next.
+-- Lemmas about an event after which the node of the event does not have the line, and is not about to link its request
+-- or to free other nodes.
 use Rattle.std.proofs.Common.{◌≡◌, ◌≢◌, ℕ, Bool, true, false, ◌||◌, List, [], ◌∷◌, sym, refl, ap, ◌∙◌, subst}
 use mathlib.Core.Option.{some}
 use lib.ListN.{get_elem?}
