@@ -250,8 +250,8 @@ pub fn wait_timeout<R: Wait + Clock, K: Keep, L: ParkingLine<K>>(
     unreachable!()
 }
 
-/// Withdraws the request, unless the node is at its turn. In that case the node is granted the line, or told that it is
-/// closed.
+/// Withdraws the request, unless the node is at its turn. In that case the node is granted the line, or is notified
+/// that the line is closed.
 fn give_up<K: Keep, L: LineSync<K>>(line: &L, port: &mut L::Port) -> TimedAcquire
     requires belongs { L.belongs line.now port.old }
     requires state { (L.view port.old).state ≡ PortState.Queued }

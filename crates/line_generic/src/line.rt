@@ -29,9 +29,9 @@ pub struct TableWidth<K: Keep, Q: Discipline<K>> {
 
 /// A queue lock with the queue algorithm `Q`, which hands 64 bytes from holder to holder.
 ///
-/// Between any two atomic steps, the line has one history, which consists of the order of the requests and of the ends
-/// of a prefix of them. While no node holds the line, its slot has the bytes after those ends. Each port's view is a
-/// prefix of this history, and each node has at most one open request.
+/// Between any two atomic steps, the line has one history, which lists the requests in their order, and the ends of a
+/// prefix of these requests. While no node holds the line, its slot has the bytes after those ends. Each port's view is
+/// a prefix of this history, and each node has at most one open request.
 #[derive(Drop)]
 pub struct Line<K: Keep, Q: Discipline<K>, W: WakePolicy = Parking> {
     pub(crate) table: LineTable<K, Q>,

@@ -14,14 +14,14 @@ pub use link_line::{LinkLine, LinkQueue};
 pub use ring_line::{RingLine, RingQueue};
 pub use ticket_line::{TicketLine, TicketQueue};
 
-/// A kind of line, which is the lock by which nodes share a line.
+/// A kind of line, which is the kind of lock through which nodes share the line.
 #[derive(Clone, Copy, Debug, PartialEq, Eq)]
 pub enum Lock {
-    /// Rings: an array queue of tickets and cells.
+    /// Rings. The queue is an array of cells, and nodes draw tickets.
     Ring,
-    /// Link lines: a home word and reversed links.
+    /// Link lines. The queue is a linked list, in which each node links itself to its predecessor.
     Link,
-    /// Ticket lines: tickets, and cells that are granted by a number.
+    /// Ticket lines. Nodes draw tickets, and a cell is granted to a ticket when it contains the ticket's number.
     Ticket,
 }
 

@@ -9,7 +9,7 @@ use line_generic::{DisciplineInvariant, DisciplineSpec, Line, LineSeat, NodeGhos
 use qolb_model::Keep;
 use std::collections::LinkedList;
 
-/// A list-based queue lock: an MCS swap of the home word, with links that the younger of two neighbours makes later.
+/// A queue lock whose queue is a linked list, as in an MCS lock. A node links itself to its predecessor.
 ///
 /// A request is one swap of the home word, which names the newest requester. Later the requester links itself: it adds
 /// its number to the predecessor's entry. A release looks at its own entry once and never waits for the link. If the

@@ -12,7 +12,7 @@ use line_cells::Local;
 use line_generic::{DisciplineInvariant, DisciplineSpec, LineSeat, Parking};
 use qolb_model::Keep;
 
-/// An array queue lock (Anderson 1990) that also hands over the line, with withdrawal.
+/// An array queue lock (Anderson 1990) that also hands over the line. Nodes can withdraw their requests.
 ///
 /// Nodes take tickets, and each node waits on a cell of its own. The invariant says: (1) The requests form one order,
 /// and a prefix of them has ended. (2) While no node has the line, its bytes after those ends are in the slot, and the
