@@ -21,7 +21,7 @@ pub enum Lock {
     Ring,
     /// Link lines. The queue is a linked list, in which each node links itself to its predecessor.
     Link,
-    /// Ticket lines. Nodes draw tickets, and a cell is granted to a ticket when it contains the ticket's number.
+    /// Ticket lines. Nodes draw tickets, and a grant writes the ticket's number into a cell.
     Ticket,
 }
 
