@@ -1,4 +1,4 @@
--- Lemmas about ports of several lines, where lines are added one at a time.
+-- Lemmas about lists of ports on several lines, where the lines are added one after another.
 use Rattle.std.proofs.Common.{◌≡◌, ◌+◌, ◌<◌, ◌≤◌, inl, inr, ℕ, List, [], ◌∷◌, ◌++◌, length, map, drop, All, Option, Some, None, option_map, Vec, Global, slice_get, slice_index_or, refl, sym, ap, subst, ◌∙◌, arith, append-nil, length-append}
 use Rattle.std.proofs.Math.ListN.{set}
 use Rattle.std.proofs.lemmas.List.{length-map}

@@ -1,4 +1,4 @@
--- Lemmas about transfers between accounts on two lines.
+-- Lemmas about transfers between two accounts that are on different lines.
 use Rattle.std.proofs.Common.{◌≡◌, ◌<◌, ℕ, length}
 use Rattle.qolb_model.specs.declared.view.View.{View}
 use Rattle.qolb_model.specs.declared.write.Write.{Write}

@@ -1,4 +1,4 @@
--- Lemmas about two elements of a list that is split into two parts, one element in each part.
+-- Lemmas about reading and writing two elements of a list that is split between the two elements.
 use Rattle.std.specs.Global.{Global}
 use Rattle.std.specs.Vec.{with_items}
 use Rattle.std.proofs.lemmas.List.{with_items_is, length-set}

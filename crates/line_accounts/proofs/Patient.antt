@@ -1,4 +1,4 @@
--- Lemmas about how often the ports of a desk have polled.
+-- Lemmas about the number of polls that the ports of a desk have made.
 use Rattle.std.proofs.Common.{◌≡◌, ◌≢◌, ◌⊎◌, ℕ, ◌+◌, ◌≤◌, List, set, slice_get, Some, sym, ap, ◌∙◌, ⊎_elim, arith}
 use mathlib.Core.Logic.{dite}
 use native.Mathlib.Decide.{ℕ_discrete}

@@ -1,4 +1,4 @@
--- Lemmas about answers other than `Late`.
+-- Lemmas which show that several other answers of a call differ from the answer `Late`.
 use Rattle.std.proofs.Common.{◌≡◌}
 use Rattle.line_accounts.specs.declared.answer.Reply.TheVariants.{Done, Short, Over, Late, NoAccount}
 

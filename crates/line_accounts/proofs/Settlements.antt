@@ -1,4 +1,5 @@
--- Lemmas about finishing lines one by one: the last line is finished first, with the last port of each desk.
+-- Lemmas about finishing several lines one after another. Each step finishes the last remaining line, with the last
+-- remaining port of each desk.
 use Rattle.std.proofs.Common.{◌≡◌, ◌+◌, ◌*◌, ◌^◌, ◌<◌, ◌≤◌, inl, inr, ℕ, suc, List, [], ◌∷◌, ◌++◌, length, map, get_or, Some, None, slice_get, refl, sym, ap, subst, ◌∙◌, arith, zero-add, length-append}
 use Rattle.std.specs.List.{sum_by, range_with_len}
 use Rattle.std.proofs.Math.ListN.{set}

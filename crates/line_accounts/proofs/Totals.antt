@@ -1,4 +1,4 @@
--- Lemmas about the lanes and the total of a line in which one lane was written.
+-- Lemmas about how the balances in a line, and the sum of these balances, change when a lane of the line is written.
 use Rattle.std.proofs.Common.{◌≡◌, ◌≢◌, ℕ, ◌+◌, ◌-◌, ◌<◌, ◌≤◌, ◌^◌, inl, inr, List, length, get_or, ap, sym, zero-add, ◌∙◌, subst, arith}
 use Rattle.std.specs.List.{sum, sum_by, range_with_len}
 use Rattle.std.proofs.Math.ListN.{set}

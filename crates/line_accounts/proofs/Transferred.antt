@@ -1,4 +1,4 @@
--- Lemmas about transfers that a desk has made.
+-- Lemmas about a desk after a transfer, both within one line and between two lines.
 use Rattle.std.proofs.Common.{◌≡◌, ◌≢◌, ◌⊎◌, ◌+◌, ◌*◌, ◌<◌, ◌≤◌, inl, inr, Bool, true, false, ℕ, List, Some, slice_get, refl, sym, ap, subst, ◌∙◌, arith}
 use Rattle.std.proofs.Math.ListN.{set}
 use Rattle.qolb_model.specs.declared.view.View.{View}

@@ -1,4 +1,4 @@
--- Lemmas about how the turns of its ports change the total of a line.
+-- Lemmas about how the turns of a line's ports change the sum of the balances in the line.
 use Rattle.std.proofs.Common.{◌≡◌, ℕ, zero, suc, ◌+◌, ◌-◌, ◌≤◌, List, [], ◌∷◌, length, take, Some, slice_get, refl, ap, sym, ◌∙◌, arith}
 use Rattle.std.proofs.lemmas.List.{take-append-le}
 use Rattle.std.specs.List.{sum_by}

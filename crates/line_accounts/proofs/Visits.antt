@@ -1,4 +1,5 @@
--- Lemmas about the sums that a port has paid, after a request that was refused or served.
+-- Lemmas about the sums that a port has paid into its line and drawn from it, after a call in which the port had a turn
+-- or was refused one.
 use Rattle.std.proofs.Common.{◌≡◌, ℕ, ◌+◌, ◌⊎◌, inl, inr, Bool, true, false, List, [], ◌∷◌, ◌++◌, length, take, replicate, Some, slice_get, refl, ap, sym, ◌∙◌, subst, arith}
 use Rattle.std.proofs.Math.Seq.{take-append_seam, take-append-add}
 use Rattle.qolb_model.specs.declared.answer.PortState.{PortState}

@@ -1,4 +1,4 @@
--- Lemmas about the atomic steps that the ports of a desk take.
+-- Lemmas about the number of atomic steps that the ports of a desk have taken.
 use Rattle.std.proofs.Common.{◌≡◌, ◌≢◌, ℕ, List, set, slice_get, Some, sym, ap, ◌∙◌, subst}
 use mathlib.Core.Logic.{dite}
 use native.Mathlib.Decide.{ℕ_discrete}

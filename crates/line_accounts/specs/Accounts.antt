@@ -1,5 +1,6 @@
--- Accounts that are stored in lines: account a is lane a mod 8 of line a / 8, and the number in a lane is the balance
--- of its account. The definitions in this file were made for this project; none is taken from the literature.
+-- How accounts are stored in lines. Account a is stored in lane a mod 8 of line a / 8, and the number in this lane is
+-- the balance of the account. The definitions in this file were made for this project; none is taken from the
+-- literature.
 use Rattle.std.specs.Prelude.{ℕ, ◌+◌, ◌-◌, ◌/◌, ◌%◌, ◌<◌, ◌≤◌, List}
 use Rattle.line_lanes.specs.Lane.{lane_of, with_lane_of}
 use Rattle.line_accounts.specs.declared.law.TheConstants.{MAX_BALANCE}

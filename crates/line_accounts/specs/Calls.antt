@@ -1,6 +1,6 @@
--- The calls on a desk. For each call, a record states how the call changes the desk; the record has one field for each
--- answer, or for a part of an answer. The definitions in this file were made for this project; none is taken from the
--- literature.
+-- What each call on a desk guarantees. There is one record for each call, which states how the call changes the desk.
+-- The record has one field for each answer of the call, or for a part of an answer. The definitions in this file were
+-- made for this project; none is taken from the literature.
 use Rattle.std.specs.Prelude.{◌≡◌, ◌≢◌, ◌⊎◌, ℕ, ◌*◌, ◌<◌, ◌≤◌, List, slice_set, slice_get, Some}
 use Rattle.qolb_model.specs.declared.view.View.{View}
 use Rattle.line_accounts.specs.declared.answer.Reply.{Reply}

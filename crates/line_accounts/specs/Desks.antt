@@ -1,5 +1,5 @@
--- Desks: the ports of one node on several lines, and the sums that were paid in and out through these ports. The
--- definitions in this file were made for this project; none is taken from the literature.
+-- A desk consists of the ports that one node has on several lines, and of the sums that were paid in and out through
+-- these ports. The definitions in this file were made for this project; none is taken from the literature.
 use Rattle.std.specs.Prelude.{◌≡◌, ◌≤◌, ℕ, ◌+◌, true, List, length, Some, slice_get}
 use Rattle.std.specs.List.{sum_by}
 use Rattle.qolb_model.specs.declared.answer.PortState.TheVariants.{Rolled}

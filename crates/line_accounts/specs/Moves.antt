@@ -1,5 +1,5 @@
--- How a call on a desk changes a port's view of its line. The definitions in this file were made for this project; none
--- is taken from the literature.
+-- How a call on a desk changes what a port knows about its line (the port's view). The definitions in this file were
+-- made for this project; none is taken from the literature.
 use Rattle.std.specs.Prelude.{◌≡◌, ◌⊎◌, ℕ, ◌+◌, ◌<◌, ◌≤◌, ◌^◌, Bool, true, false, List, take, slice_get, Some}
 use Rattle.line_lanes.specs.Lane.{lane_of}
 use Rattle.qolb_model.specs.declared.write.Write.{Write}

@@ -1,5 +1,5 @@
--- New desks on lines that were just opened. The definitions in this file were made for this project; none is taken from
--- the literature.
+-- The state of new desks on lines that were just opened. The definitions in this file were made for this project; none
+-- is taken from the literature.
 use Rattle.std.specs.Prelude.{◌≡◌, ℕ, ◌<◌, ◌≤◌, List, [], ◌∷◌, ◌++◌, All, Vec, vec_len, slice_get, Some}
 use Rattle.std.specs.Global.{Global}
 use Rattle.qolb_model.specs.declared.answer.PortState.TheVariants.{Idle}

@@ -1,4 +1,4 @@
--- The sums that a port has paid into its line and drawn from it, computed from the ends of the port's own requests. The
+-- The sums that a port has paid into its line and drawn from it, computed from how the port's own requests ended. The
 -- definitions in this file were made for this project; none is taken from the literature.
 use Rattle.std.specs.Prelude.{ℕ, ◌-◌, List}
 use Rattle.line_lanes.specs.Lane.{lanes_total}

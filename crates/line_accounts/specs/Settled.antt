@@ -1,5 +1,5 @@
--- Settling: all lines are finished, together with all desks that have ports on them. The definitions in this file were
--- made for this project; none is taken from the literature.
+-- What holds after the accounts were settled: all lines are finished, together with the desks that have ports on them.
+-- The definitions in this file were made for this project; none is taken from the literature.
 use Rattle.std.specs.Prelude.{◌≡◌, ◌≢◌, ℕ, ◌<◌, List, ◌++◌, ◌∷◌, [], length, map, slice_get, Option, Some, None}
 use Rattle.std.specs.List.{sum_by}
 use Rattle.line_lanes.specs.Lane.{lanes_total}

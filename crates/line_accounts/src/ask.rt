@@ -1,4 +1,4 @@
-//! Acquires a line of accounts for a port, with a bounded number of polls.
+//! Requests a line of accounts for a port, and polls a bounded number of times.
 ghost use Rattle.std.specs.Prelude.{◌≡◌, ◌≤◌, ◌+◌, Err, IfOk, IfErr, IsTrue};
 ghost use Rattle.qolb_model.specs.Counting.{IsWithinCalls};
 ghost use Rattle.line_accounts.specs.Desks.{IsAtRest, HasWaited};

@@ -1,4 +1,4 @@
-//! The balances in a line, and the lane in which each account is stored.
+//! Finds the line and the lane in which an account is stored, and changes the balance in a lane.
 ghost use Rattle.std.specs.Prelude.{◌≡◌, ℕ, ◌+◌, ◌*◌, ◌<◌, ◌≤◌, MatchOption};
 ghost use Rattle.line_lanes.specs.Lane.{lane_of};
 ghost use Rattle.line_accounts.specs.Accounts.{line_of, lane_in, HasRoom, credited, debited};

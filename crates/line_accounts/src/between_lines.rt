@@ -1,5 +1,5 @@
-//! Transfers between accounts on two lines. The desk requests the lower-numbered line first, and checks both balances
-//! before it writes to either line.
+//! Transfers an amount between two accounts that are on different lines. The desk requests the lower-numbered line
+//! first, and checks both balances before it writes to either line.
 ghost use Rattle.std.specs.Prelude.{◌≡◌, ◌≢◌, ◌⊎◌, ◌<◌, ◌≤◌, ◌+◌, Err, IfOk, IfErr, length};
 ghost use Rattle.qolb_model.specs.Counting.{IsWithinCalls};
 ghost use Rattle.qolb_model.specs.AtTurn.{IsGranted};

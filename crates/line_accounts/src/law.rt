@@ -1,4 +1,4 @@
-//! The data invariant of a line of accounts.
+//! The data invariant of a line of accounts, which limits each balance to `MAX_BALANCE`.
 use qolb_model::Keep;
 
 /// The largest balance of an account: 2^48.

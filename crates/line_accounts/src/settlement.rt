@@ -1,4 +1,4 @@
-//! Settles the accounts: all lines are finished, and their balances are added up.
+//! Settles the accounts, which means that all lines are finished and their balances are added up.
 ghost use Rattle.std.specs.Prelude.{◌≡◌, ◌+◌, ◌<◌, ◌≤◌, ℕ, All, List, length, map, slice_get, Some, IfOk, IfErr, IfSome, MatchBool, MatchOption};
 ghost use Rattle.qolb_model.specs.Finishing.{EachNode, IsLeast};
 ghost use Rattle.line_accounts.specs.Desks.{DeskOf, AreOver, IsDeskOver};

@@ -1,4 +1,5 @@
-//! What a port does while it holds a line: it reads and writes the balances, and releases the line.
+//! The turn of a port that holds a line of accounts. The port reads and writes the balances, and then releases the
+//! line.
 ghost use Rattle.std.specs.Prelude.{◌≡◌, ◌≢◌, ◌<◌, ◌≤◌, ◌+◌, length};
 ghost use Rattle.qolb_model.specs.Counting.{IsWithinCalls};
 ghost use Rattle.qolb_model.specs.AtTurn.{IsGranted};

@@ -1,4 +1,5 @@
--- Lemmas about a thread that waits for a line: it makes one request, after attempts that found the port busy.
+-- Lemmas about a thread that waits for a line. The thread makes a single request, possibly after attempts that were
+-- answered `Busy`.
 use Rattle.std.proofs.Common.{◌≡◌, ◌≢◌, ◌⊎◌, inl, inr, ℕ, ◌+◌, ◌<◌, ◌≤◌, true, List, length, refl, sym, ap, ◌∙◌, arith}
 use Rattle.qolb_model.specs.declared.answer.Enq.{Enq}
 use Rattle.qolb_model.specs.declared.answer.Enq.TheVariants as enq

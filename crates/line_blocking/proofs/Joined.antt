@@ -1,4 +1,4 @@
--- Lemmas about the threads that have been joined, and about what each of them guaranteed for its place.
+-- Lemmas about threads that have been joined, and about what is guaranteed for the output of each thread.
 use Rattle.std.proofs.Common.{◌≡◌, ℕ, ◌<◌, length, sym, subst, arith}
 use Rattle.std.specs.Prelude.{Vec}
 use Rattle.std.specs.Global.{Global}

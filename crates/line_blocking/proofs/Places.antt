@@ -1,5 +1,5 @@
--- Lemmas about a property that each element of a list has at its place: for the first element, for the rest of the
--- list, and for a list with one more element.
+-- Lemmas about a property that each element of a list has and that may depend on the element's place. They concern the
+-- first element, the rest of the list, and a list to which one element is appended.
 use Rattle.std.proofs.Common.{◌≡◌, ℕ, zero, suc, ◌+◌, List, [], ◌∷◌, ◌++◌, length, slice_index_or, subst, arith}
 use Rattle.line_blocking.specs.Places.{AllAt}
 

@@ -1,4 +1,5 @@
--- Lemmas about a port that meets other ports in order, one after another.
+-- Lemmas about a port that meets the other ports of a line one after another. Two ports that meet merge what they know
+-- about the line's history.
 use Rattle.std.proofs.Common.{◌≡◌, ℕ, zero, suc, ◌+◌, ◌<◌, ◌≤◌, inl, inr, List, [], ◌∷◌, ◌++◌, length, map, take, drop, get_or, set, All, Some, slice_get, refl, sym, ap, ◌∙◌, subst, arith, length-append, length-set, get_or-set_same, get_or-set_other}
 use Rattle.std.proofs.lemmas.Bool.{cases_eq}
 use Rattle.std.proofs.lemmas.List.{length-map, map-append, take_all}

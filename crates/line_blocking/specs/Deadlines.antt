@@ -1,4 +1,4 @@
--- Spans of time, measured between readings of the clock. The definitions in this file were made for this project; none
+-- Spans of time, which are measured by reading the clock. The definitions in this file were made for this project; none
 -- is taken from the literature.
 use Rattle.std.specs.Prelude.{◌≡◌, ◌≢◌, ℕ, ◌-◌, Option, Some, None}
 use Rattle.std.specs.declared.time.Duration.{Duration}

@@ -1,5 +1,5 @@
--- Ports all of which have met each other. The definitions in this file were made for this project; none is taken from
--- the literature.
+-- Defines when all ports of a list have met each other, which means that they have merged what they know about their
+-- line. The definitions in this file were made for this project; none is taken from the literature.
 use Rattle.std.specs.Prelude.{ℕ, ◌+◌, List}
 use Rattle.qolb_model.specs.Rounds.{MeetsOthers}
 use Rattle.qolb_model.specs.Whole.{ViewAndTurn}

@@ -1,5 +1,5 @@
--- A property of the elements of a list that may depend on the place of the element. The definitions in this file were
--- made for this project; none is taken from the literature.
+-- A property of the elements of a list that may depend on the place of an element in the list. The definitions in this
+-- file were made for this project; none is taken from the literature.
 use Rattle.std.specs.Prelude.{ℕ, ◌<◌, List, length, slice_index_or}
 
 -- P holds of each place, counted from 0, and the element at that place

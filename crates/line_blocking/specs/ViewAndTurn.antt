@@ -1,4 +1,5 @@
--- The two parts of a port that the definitions of this crate use: its view, and the writes of its turn.
+-- The two parts of a port that the definitions of this crate use: what the port knows about the line (its view), and
+-- what the port has written in its turn.
 use Rattle.qolb_model.specs.declared.view.View.{View}
 use Rattle.qolb_model.specs.declared.write.Write.{Write}
 use Rattle.qolb_model.specs.Whole.{ViewAndTurn}

@@ -1,5 +1,5 @@
-//! Blocking calls for threads that share lines: a thread can wait for a line, start scoped threads, and let ports merge
-//! their views.
+//! Calls for threads that share lines. A thread can wait for a line, start scoped threads, and let ports merge what
+//! they know about a line.
 #![tactic(auto)]
 
 mod meetings;

@@ -1,4 +1,5 @@
-//! Lets all ports of a line meet, so that proofs may use what each port knows. These calls change nothing at run time.
+//! Lets all ports of a line meet, which merges what the ports know about the line's history. Only proofs use this
+//! knowledge, and the calls change nothing at run time.
 ghost use Rattle.std.specs.Prelude.{◌≡◌, ◌<◌, length, map, All};
 ghost use Rattle.qolb_model.specs.Rounds.{MeetsEach, MeetsOthers};
 ghost use Rattle.line_blocking.specs.Meetings.{HaveMet};

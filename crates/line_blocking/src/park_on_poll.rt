@@ -1,4 +1,4 @@
-//! A wrapper around a line. Its `poll` puts the calling thread to sleep until the node's turn may have come.
+//! Wraps a line so that its `poll` puts the calling thread to sleep until the node's turn may have come.
 ghost use Rattle.std.specs.Prelude.{◌≡◌, map, All, IfOk, IfErr};
 ghost use Rattle.qolb_model.specs.Finishing.{MayRefuse, IsFinished};
 
@@ -21,7 +21,7 @@ pub struct ParkOnPoll<'r, R, L> {
 }
 
 impl<'r, R, L> ParkOnPoll<'r, R, L> {
-    /// Wraps `line`. Its waiters then sleep by the handle `rt`.
+    /// Wraps `line`. The waiters of the line then sleep through the runtime handle `rt`.
     pub fn new(rt: &'r R, line: L) -> ParkOnPoll<'r, R, L>
         ensures { result.line ≡ line }
     {

@@ -1,4 +1,4 @@
-//! Runs scoped threads that share one value. In addition, each thread owns a value of its own.
+//! Runs scoped threads. The threads share one value, and each thread also owns a value of its own.
 ghost use Rattle.std.specs.Prelude.{◌≡◌, ◌+◌, ◌^◌, ◌<◌, ◌≤◌, ℕ, IfSome, vec_len, vec_capacity};
 ghost use Rattle.std.specs.PromisedHandle.{KeepsEach};
 ghost use Rattle.std.specs.Thread.{IsSync, IsSend};

@@ -1,4 +1,4 @@
-//! Waits until a line is granted or closed, by polling with pauses between the polls.
+//! Waits for a line by polling, with pauses between the polls. The wait ends when the line is granted or closed.
 ghost use Rattle.std.specs.Prelude.{◌≡◌, IsTrue};
 ghost use Rattle.qolb_model.specs.PortStates.{may_ask};
 ghost use Rattle.line_blocking.specs.Acquiring.{Acquires, ComesSoon, EndsWait};
@@ -23,7 +23,7 @@ pub(crate) const SPIN_POLLS: u32 = SPIN_LIMIT / PAUSES_A_POLL;
 pub enum Got {
     /// The node holds the line.
     Granted,
-    /// The line is closed, and the node was told so.
+    /// The line is closed, and the node was notified of this.
     Closed,
 }
 
@@ -70,8 +70,8 @@ pub(crate) fn pause_between_polls() {
     }
 }
 
-/// Acquires the line: requests it until the port is not busy, and then polls until the request ends. Blocks: the caller
-/// pauses between two polls, and after 256 pauses yields its processor. Does not allocate.
+/// Acquires the line. The call requests the line until the port is not busy, and then polls until the request ends. It
+/// blocks: the caller pauses between two polls, and after 256 pauses yields its processor. It does not allocate.
 ///
 /// Returns `Granted` if the port holds the line, and `Closed` if the line is closed.
 pub fn acquire<R: Wait, K: Keep, L: LineSync<K>>(rt: &R, line: &L, port: &mut L::Port) -> Got
@@ -94,8 +94,8 @@ pub fn acquire<R: Wait, K: Keep, L: LineSync<K>>(rt: &R, line: &L, port: &mut L:
     unreachable!()
 }
 
-/// Polls until the request is granted or told that the line is closed. This is the wait of `acquire`, for a port that
-/// has already made its request. Blocks, and does not allocate.
+/// Polls until the line is granted to the port, or the port is notified that the line is closed. This is the wait of
+/// `acquire`, for a port that has already made its request. Blocks, and does not allocate.
 ///
 /// Returns `Granted` if the port holds the line, and `Closed` if the line is closed.
 pub fn wait<R: Wait, K: Keep, L: LineSync<K>>(rt: &R, line: &L, port: &mut L::Port) -> Got

@@ -1,5 +1,5 @@
-//! Waits without a timeout for a line whose request is already queued. A strategy decides what the waiter does between
-//! two polls.
+//! Waits, without a timeout, for a line that the port has already requested. A strategy decides what the waiter does
+//! between two polls.
 ghost use Rattle.std.specs.Prelude.{◌≡◌};
 ghost use Rattle.line_blocking.specs.Acquiring.{EndsWait};
 
@@ -16,8 +16,8 @@ pub trait WaitStrategy<K: Keep, L: LineSync<K>> {
         requires state { (L.view port.now).state ≡ PortState.Queued };
 }
 
-/// Polls until the request is granted or told that the line is closed. Between two polls, `strategy` decides how it
-/// waits. Blocks, and allocates no more than `strategy` does.
+/// Polls until the line is granted to the port, or the port is notified that the line is closed. Between two polls,
+/// `strategy` decides how the caller waits. Blocks, and allocates no more than `strategy` does.
 ///
 /// Returns `Granted` if the port holds the line, and `Closed` if the line is closed.
 pub fn wait_by<R: Wait, K: Keep, L: LineSync<K>, W: WaitStrategy<K, L>>(

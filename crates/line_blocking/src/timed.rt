@@ -1,4 +1,4 @@
-//! Calls that sleep until the node has the line, with and without a timeout.
+//! Calls that acquire a line, with or without a timeout, and sleep while they wait.
 ghost use Rattle.std.specs.Prelude.{◌≡◌, ◌⊎◌, ◌+◌, ◌≤◌, IsTrue, Option, min};
 ghost use Rattle.std.specs.Duration.{as_nanos};
 ghost use Rattle.std.specs.declared.time.Instant.{Instant};
@@ -27,7 +27,7 @@ const NAP_MICROS: u64 = 200;
 pub enum TimedAcquire {
     /// The node holds the line.
     Granted,
-    /// The line is closed, and the node was told so.
+    /// The line is closed, and the node was notified of this.
     Closed,
     /// The wait timed out. The node holds nothing and does not wait.
     TimedOut,
@@ -250,8 +250,8 @@ pub fn wait_timeout<R: Wait + Clock, K: Keep, L: ParkingLine<K>>(
     unreachable!()
 }
 
-/// Withdraws the request, unless the node is at its turn. In that case the node is granted the line, or told that it is
-/// closed.
+/// Withdraws the request, unless the node is at its turn. In that case the node is granted the line, or is notified
+/// that the line is closed.
 fn give_up<K: Keep, L: LineSync<K>>(line: &L, port: &mut L::Port) -> TimedAcquire
     requires belongs { L.belongs line.now port.old }
     requires state { (L.view port.old).state ≡ PortState.Queued }

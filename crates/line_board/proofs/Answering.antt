@@ -1,4 +1,4 @@
--- Lemmas about the answer of a call on a board, depending on whether the line was granted.
+-- Lemmas about the answers of the calls on a board, both if the line was granted and if it was not.
 use Rattle.std.proofs.Common.{◌≡◌, ℕ, ◌+◌, true, length, ap, ◌∙◌, subst, refl}
 use Rattle.qolb_model.specs.declared.view.View.{View}
 use Rattle.qolb_model.specs.declared.write.Write.{Write}

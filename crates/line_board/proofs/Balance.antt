@@ -1,4 +1,5 @@
--- Proof that the tasks that were put are the tasks that were taken, followed by the tasks that are left.
+-- Proof that a board which was opened empty is a queue. The tasks that were put on the board are the tasks that were
+-- taken from it, followed by the tasks that are still on it.
 use Rattle.std.proofs.Common.{◌≡◌, ℕ, List, [], ◌∷◌, ◌++◌, zero, suc, replicate, refl, ap, sym, ◌∙◌, append-nil, append_assoc}
 use Rattle.line_lanes.specs.Line.{zeros}
 use Rattle.qolb_model.specs.declared.end.End.{End}

@@ -1,4 +1,4 @@
--- Lemmas about the encoding of a board, which is written lane by lane.
+-- Lemmas about how a board is encoded as the bytes of a line, one lane of eight bytes after another.
 use Rattle.std.proofs.Common.{◌≡◌, ◌≢◌, ℕ, zero, suc, ◌+◌, ◌-◌, ◌*◌, ◌/◌, ◌%◌, ◌^◌, ◌<◌, ◌≤◌, ◌⊎◌, inl, inr, List, length, take, drop, get_or, refl, ap, sym, ◌∙◌, arith, eq-eqb, ne_eqb, if◌then◌else◌}
 use Rattle.std.specs.Prelude.{slice_index, slice_range}
 use Rattle.std.specs.List.{All}

@@ -1,4 +1,4 @@
--- Lemmas about the answer of a call in which one step failed.
+-- Lemmas about the answer of a call when one of its steps returned `None` or an error.
 use Rattle.std.proofs.Common.{◌≡◌, ℕ, List, [], ◌∷◌, Option, Some, None, slice_get, refl, sym, ◌∙◌}
 use Rattle.std.specs.Prelude.{MatchOption, OnErr}
 use Rattle.std.specs.Result.{result_ok}

@@ -1,4 +1,4 @@
--- Lemmas about what one turn puts and takes.
+-- Lemmas about which tasks are put on a board and taken from it in a single turn.
 use Rattle.std.proofs.Common.{◌≡◌, inl, inr, ℕ, suc, ◌-◌, List, [], ◌∷◌, ◌++◌, length, take, drop, refl, ap, arith, append-nil, length-append}
 use Rattle.std.proofs.Math.Nat.{sub_self}
 use Rattle.std.proofs.Math.Seq.{drop-length, drop-append_seam}

@@ -1,4 +1,4 @@
--- Lemmas about the turn of a port that was granted the line.
+-- Lemmas about the turn of a port on a board, from the grant of the line to its release.
 use Rattle.std.proofs.Common.{◌≡◌, ℕ, ◌+◌, ◌<◌, false, Bool, List, [], ◌∷◌, ◌++◌, length, replicate, refl, ap, sym, ◌∙◌, subst, arith, append-nil}
 use Rattle.std.proofs.lemmas.Option.{slice_get_within}
 use Rattle.std.specs.Prelude.{bit_or}

@@ -1,4 +1,4 @@
--- Lemmas about writes that change only the bytes that differ.
+-- Lemmas about writing only those bytes of a line that differ between its old and its new contents.
 use Rattle.std.proofs.Common.{◌≡◌, ℕ, ◌==◌, false, not, List, length, refl, ap, sym, ◌∙◌, arith, if◌then◌else◌, inl, inr, eq-eqb, ne_eqb}
 use Rattle.std.proofs.lemmas.Bool.{cases_eq}
 use Rattle.std.specs.Prelude.{slice_index}

@@ -1,5 +1,5 @@
--- The format of a board: a line of 64 bytes that contains at most `MAX_TASKS` tasks, the oldest first. The definitions
--- in this file were made for this project; none is taken from the literature.
+-- The format of a board, which is a line of 64 bytes that contains at most `MAX_TASKS` tasks, with the oldest task
+-- first. The definitions in this file were made for this project; none is taken from the literature.
 use Rattle.std.specs.Prelude.{◌≡◌, ℕ, ◌+◌, ◌==◌, ◌&&◌, nat_le, Bool, if◌then◌else◌, List, take, drop, slice_index, slice_range, Option, Some, None}
 use Rattle.std.specs.List.{list_all}
 use Rattle.line_lanes.specs.Lane.{lanes_of}

@@ -1,6 +1,6 @@
--- What each call on a board guarantees: one record for each call, with one field for each answer. `old` and `new` are
--- the port's view before and after the call. The definitions in this file were made for this project; none is taken
--- from the literature.
+-- What each call on a board guarantees. There is one record for each call, with one field for each answer. In these
+-- records, `old` and `new` are the port's view before and after the call. The definitions in this file were made for
+-- this project; none is taken from the literature.
 use Rattle.std.specs.Prelude.{◌≡◌, ◌≢◌, ℕ, ◌+◌, true, false, List, [], ◌∷◌, ◌++◌, length, replicate, slice_get, Some}
 use Rattle.line_lanes.specs.Mask.{changed_mask}
 use Rattle.qolb_model.specs.declared.write.Write.{Write}

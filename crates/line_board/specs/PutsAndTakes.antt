@@ -1,5 +1,5 @@
--- The puts and takes of a board, as they follow from the ends of its line. The definitions in this file were made for
--- this project; none is taken from the literature.
+-- The tasks that were put on a board and taken from it, computed from how the requests of its line ended. The
+-- definitions in this file were made for this project; none is taken from the literature.
 use Rattle.std.specs.Prelude.{◌≡◌, ℕ, ◌-◌, List, [], ◌∷◌, ◌++◌, length, take, drop}
 use Rattle.std.specs.Option.{unwrap_or}
 use Rattle.qolb_model.specs.declared.end.End.{End}

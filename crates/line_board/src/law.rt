@@ -1,4 +1,4 @@
-//! The data invariant of a board.
+//! The data invariant of a board, which states how a holder may change the tasks on the board.
 use qolb_model::Keep;
 
 /// The data invariant of a board: a turn keeps the tasks, appends one task, or removes the first.

@@ -1,5 +1,5 @@
-//! A task board: a queue of at most seven tasks in the 64 bytes of a line. Each put and each take acquires the line
-//! once. No task is lost, duplicated or overtaken.
+//! A task board, which is a queue of at most seven tasks in the 64 bytes of a line. Each put and each take requests the
+//! line once. No task is lost, duplicated or overtaken.
 #![tactic(auto)]
 
 mod answer;

@@ -1,4 +1,4 @@
-//! The end of a turn in which a port holds a board: the port writes the new board or leaves the board unchanged, and
+//! Ends the turn of a port that holds a board. The port writes the new board or leaves the board unchanged, and then
 //! releases the line.
 ghost use Rattle.std.specs.Prelude.{◌≡◌, ℕ, List, length, false, IsTrue};
 ghost use Rattle.qolb_model.specs.PortStates.{may_ask};

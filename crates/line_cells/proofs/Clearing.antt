@@ -1,4 +1,5 @@
--- Lemmas about requests that are added to the clear list.
+-- Lemmas about adding a request to the list of clear requests. A node can make its next request once its last request
+-- is clear.
 use Rattle.std.proofs.Common.{◌≡◌, ◌≢◌, ℕ, ◌<◌, List, [], ◌∷◌, ◌++◌, length, true, false, sym, refl}
 use Rattle.qolb_model.specs.declared.request.Request.{Request}
 use Rattle.qolb_model.specs.Requests.{Has, Lacks}

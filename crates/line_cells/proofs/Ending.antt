@@ -1,4 +1,4 @@
--- Lemmas about the end that a grant adds to the history.
+-- Lemmas about how a grant appends the end of a request to the history of the line.
 use Rattle.std.proofs.Common.{◌≡◌, ◌≢◌, ℕ, ◌+◌, ◌<◌, List, [], ◌∷◌, ◌++◌, length, Bool, true, false, sym, refl, ap, ◌∙◌, subst, ⊎_elim, arith, length-append}
 use Rattle.qolb_model.specs.declared.answer.PortState.TheVariants as port_state
 use Rattle.qolb_model.specs.declared.request.Request.{Request}

@@ -1,4 +1,5 @@
--- Proof about the step with which a release frees the node of the first request that it skipped.
+-- Proof about the atomic step with which a release frees the node of the first request that the release has skipped.
+-- Once a node is freed, it can request the line again.
 use Rattle.std.proofs.Common.{◌≡◌, ◌≢◌, ℕ, suc, ◌+◌, ◌<◌, ◌≤◌, List, [], ◌∷◌, ◌++◌, length, set, true, sym, refl, ap, ◌∙◌, subst, ⊎_elim, arith}
 use mathlib.Core.List.{IsPrefix}
 use mathlib.Core.Option.{none, some}

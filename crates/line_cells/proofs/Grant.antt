@@ -1,6 +1,6 @@
--- Proof about the step with which a release grants the next cell, which ends the request at its turn. If the next
--- request is not withdrawn, the line is then at home. Otherwise the releasing node still has the line, and skips that
--- request.
+-- Proof about the atomic step with which a release grants the next cell, and thereby ends the request whose turn it is.
+-- If no request was withdrawn at the next cell, no node has the line after this step. Otherwise the releasing node
+-- still has the line, and skips the withdrawn request.
 use Rattle.std.proofs.Common.{◌≡◌, ◌≢◌, ◌⊎◌, ℕ, ◌+◌, ◌<◌, ◌≤◌, List, [], ◌∷◌, ◌++◌, length, set, slice_index, Bool, true, false, Option, None, Some, ◌||◌, sym, refl, ap, ◌∙◌, subst, inl, inr, ⊎_elim, arith, length-append, mod-lt}
 use mathlib.Core.Logic.{dite}
 use mathlib.Core.List.{IsPrefix}

@@ -1,4 +1,5 @@
--- Proof that, by the invariant of the nodes, the views of their ports agree with one history.
+-- Proof that what the ports know about a line (their views) agrees with a single history of the line. The proof uses
+-- the invariant of each node.
 use Rattle.std.proofs.Common.{◌≡◌, ◌⊎◌, ℕ, ◌<◌, ◌≤◌, inl, inr, Bool, false, List, [], ◌∷◌, length, true, sym, refl, ap, ◌∙◌, subst, Some, arith}
 use mathlib.Core.List.{IsPrefix}
 use Rattle.qolb_model.specs.declared.request.Request.{Request}

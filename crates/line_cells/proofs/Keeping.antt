@@ -1,4 +1,4 @@
--- Lemmas which show that a step of one node preserves the invariant.
+-- Lemmas which show that an atomic step of one node preserves the invariant of the table.
 use Rattle.std.proofs.Common.{◌≡◌, ◌≢◌, ℕ, ◌+◌, ◌<◌, ◌≤◌, List, [], ◌∷◌, length, drop, set, slice_index, Bool, sym, refl, ap, ◌∙◌, subst, arith, length-drop, length-set, get_or-set_same, get_or-set_other}
 use mathlib.Core.Logic.{dite}
 use mathlib.Core.Option.{some}

@@ -1,4 +1,5 @@
--- Lemmas about the final table, in which one seat has all entries, and no request is open.
+-- Lemmas about the table of a line that is being finished. One seat then has the ghost states of all nodes, and no
+-- request is open.
 use Rattle.std.proofs.Common.{◌≡◌, ◌⊎◌, inl, inr, ⊎_elim, ℕ, ◌<◌, ◌≤◌, List, length, slice_index, map, true, sym, refl, ap, ◌∙◌, subst, arith}
 use mathlib.Core.Logic.{dite}
 use mathlib.Core.Option.{some}

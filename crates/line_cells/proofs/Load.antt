@@ -1,5 +1,4 @@
--- Proof about the step with which a waiting node loads its cell, and finds that its request's turn has come or has not
--- come yet.
+-- Proof about the atomic step with which a waiting node loads its cell, and finds out whether its turn has come.
 use Rattle.std.proofs.Common.{◌≡◌, ◌≢◌, ℕ, ◌%◌, ◌^◌, Bool, true, false, Option, List, [], ◌∷◌, length, set, slice_index, sym, refl, ap, ◌∙◌, subst, arith}
 use mathlib.Core.Logic.{dite}
 use mathlib.Core.Option.{none, some}

@@ -1,4 +1,4 @@
--- Lemmas about how two entries in one seat are related.
+-- Lemmas about the ghost states of two nodes that are in the same seat, and about merging what the two nodes know.
 use Rattle.std.proofs.Common.{◌≡◌, ◌≢◌, ℕ, inl, inr, Option, List, [], ◌∷◌, length, set, slice_index, sym, refl, ap, ◌∙◌, subst, ⊎_elim, arith}
 use mathlib.Core.List.{IsPrefix}
 use mathlib.Core.Option.{none, some}

@@ -1,4 +1,5 @@
--- Proof that a release skips fewer nodes than the line has, so that its number of steps is bounded.
+-- Proof that a release skips fewer requests than the line has nodes. Therefore the number of atomic steps of a release
+-- is bounded.
 use Rattle.std.proofs.Common.{◌≡◌, ℕ, zero, suc, ◌+◌, ◌<◌, ◌≤◌, List, [], ◌∷◌, length, true, sym, refl, ap, ◌∙◌, subst, arith}
 use mathlib.Core.Option.{some}
 use lib.ListN.{get_elem?}

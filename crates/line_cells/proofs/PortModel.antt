@@ -1,4 +1,4 @@
--- Lemmas about what each phase of a node guarantees.
+-- Lemmas about the phases in which a node can be between two calls, and about what each phase guarantees.
 use Rattle.std.proofs.Common.{ℕ, ◌≡◌, ◌∙◌, length, refl, sym, ap}
 use Rattle.qolb_model.specs.declared.answer.PortState.{PortState}
 use Rattle.qolb_model.specs.declared.answer.PortState.TheVariants as port_state

@@ -1,4 +1,5 @@
--- Proof about a node whose withdrawn request was skipped: before its next request it reads its own word, and clears it.
+-- Proof about what a node with a withdrawn request does before its next request. The node reads its own word. If this
+-- word shows that a release has skipped the withdrawn request, the node sets the word back to 0.
 use Rattle.std.proofs.Common.{◌≡◌, ◌≢◌, ℕ, ◌<◌, ◌≤◌, List, [], ◌∷◌, length, set, slice_index, Bool, true, false, if◌then◌else◌, sym, refl, ap, ◌∙◌, subst, arith}
 use mathlib.Core.Option.{none, some}
 use lib.ListN.{get_elem?}

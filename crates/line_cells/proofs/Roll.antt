@@ -1,5 +1,5 @@
--- Proof about the step with which a waiting node writes its withdrawal into its cell. After this step, either its
--- request's turn has come, or the request is withdrawn.
+-- Proof about the atomic step with which a waiting node writes a withdrawal into its cell. After this step, either the
+-- node's turn has come, or the node's request is withdrawn.
 use Rattle.std.proofs.Common.{◌≡◌, ◌≢◌, ℕ, ◌+◌, ◌<◌, ◌≤◌, List, [], ◌∷◌, ◌++◌, length, set, slice_index, Bool, if◌then◌else◌, sym, refl, ap, ◌∙◌, subst, ⊎_elim, arith, mod-lt}
 use mathlib.Core.Logic.{dite}
 use mathlib.Core.Option.{none, some}

@@ -1,4 +1,4 @@
--- Lemmas about how seats are created, split, and joined.
+-- Lemmas about how seats are created, split, and joined. A seat is a node's access to the line's table.
 use Rattle.std.proofs.Common.{◌≡◌, ℕ, ◌-◌, ◌<◌, List, [], ◌++◌, length, replicate, refl, ◌∙◌, arith, false}
 use Rattle.atomic_table.specs.Table.{Splits, Joins, opening}
 use Rattle.qolb_model.specs.Histories.{none}

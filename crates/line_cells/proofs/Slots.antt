@@ -1,4 +1,5 @@
--- What a queue algorithm must prove about its slots. The case of one slot for all turns is proved here.
+-- The theorems that must be proved about the slots of each queue algorithm. They are proved here for algorithms that
+-- use a single slot.
 use Rattle.std.proofs.Common.{◌≡◌, ℕ, zero, suc, ◌+◌, ◌<◌, List, [], ◌∷◌, length, set, slice_index, map, Bool, false, Option, replicate, refl, ap, sym, ◌∙◌, subst, arith, length-set}
 use mathlib.Core.Option.{none, some, some-ne-none}
 use mathlib.Core.Logic.{dite}

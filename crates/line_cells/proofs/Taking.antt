@@ -1,5 +1,5 @@
--- Proof about the step with which a waiting node accepts the line: the line is at home, and the request at its turn is
--- the node's own.
+-- Proof about the atomic step with which a waiting node takes the line. Before this step, no node has the line, and the
+-- turn of the waiting node has come.
 use Rattle.std.proofs.Common.{◌≡◌, ◌≢◌, ℕ, ◌+◌, ◌<◌, ◌≤◌, List, [], ◌∷◌, length, set, slice_index, Bool, true, false, Option, sym, refl, ap, ◌∙◌, subst, inl, ⊎_elim, arith, mod-lt}
 use mathlib.Core.Logic.{dite}
 use mathlib.Core.Option.{some}

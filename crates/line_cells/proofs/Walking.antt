@@ -1,4 +1,4 @@
--- Lemmas about a release that skips withdrawn requests and frees their nodes.
+-- Lemmas about a release that skips withdrawn requests and then frees the nodes of these requests.
 use Rattle.std.proofs.Common.{◌≡◌, ◌≢◌, ℕ, zero, suc, ◌+◌, ◌-◌, ◌≤◌, ◌<◌, ◌⊎◌, inl, inr, Bool, false, ◌||◌, length, drop, List, [], ◌∷◌, ◌++◌, sym, refl, ap, ◌∙◌, subst, Some, None, get_or, slice_get, arith, replicate, append-nil, append_assoc, length-append}
 use Rattle.std.proofs.Math.Bool.{or-false}
 use Rattle.qolb_model.specs.Kept.{AreAllowed}

@@ -1,4 +1,5 @@
--- The invariant of a table whose nodes draw tickets and wait on the cells of an array.
+-- The invariant of the table of an array lock. The nodes of an array lock draw tickets, and wait on the cells of an
+-- array.
 use Rattle.std.specs.Prelude.{◌≡◌, ◌≢◌, ◌⊎◌, ℕ, ◌+◌, ◌<◌, ◌≤◌, List, [], length, slice_index, slice_get, Bool, true, false, if◌then◌else◌, Some}
 use mathlib.Core.List.{IsPrefix}
 use mathlib.Core.Option.{some}

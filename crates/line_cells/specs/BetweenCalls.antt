@@ -1,5 +1,5 @@
--- How the phase of a node between its calls depends on the state of its port, and how many atomic steps each call
--- takes.
+-- Defines the phase of a node between two calls, for each state of the node's port. This file also defines how many
+-- atomic steps each call takes.
 use Rattle.std.specs.Prelude.{◌≡◌, ◌≢◌, ℕ, ◌+◌, ◌*◌, [], length, Option}
 use Rattle.qolb_model.specs.declared.answer.PortState.{PortState}
 use Rattle.qolb_model.specs.declared.answer.PortState.TheVariants as port_state

@@ -1,4 +1,5 @@
--- The number of cells of a line that has only as many cells as its nodes need.
+-- Defines `cells_for`, the number of cells of a line that has only as many cells as its nodes need. This number is the
+-- least power of two that is greater than the number of nodes.
 use Rattle.std.specs.Prelude.{ℕ, zero, suc, ◌+◌, ◌-◌, ◌^◌, if◌then◌else◌}
 use lib.Dec.{ltb}
 

@@ -1,5 +1,6 @@
--- The places of a table's words: the ticket counter, a word for each node, and the cells in between, each on a cache
--- line of its own. The places do not depend on the number of nodes.
+-- Defines where the words of a table are. The table has a ticket counter, a word for each node, and the cells, which
+-- are placed between the words of the nodes. Each word is on a cache line of its own. The place of a word does not
+-- depend on the number of nodes.
 use Rattle.std.specs.Prelude.{◌≡◌, ◌≢◌, ℕ, ◌+◌, ◌*◌, ◌%◌, ◌^◌, ◌<◌, ◌≤◌, List, slice_index}
 use Rattle.qolb_model.specs.declared.config.TheConstants.{MAX_NODES}
 use Rattle.line_cells.specs.declared.layout.TheConstants.{STRIDE, BEHIND}

@@ -1,4 +1,5 @@
--- The slots of an array lock: for example, one slot for all turns, or one slot for each cell.
+-- The slots of an array lock, which store the bytes of the line. An array lock has one slot for all turns, for example,
+-- or one slot for each cell.
 use Rattle.std.specs.Prelude.{◌≡◌, ◌<◌, ℕ, List, [], ◌∷◌, Bool, false, Option, None}
 use mathlib.Core.Option.{some}
 use mathlib.Core.Option as maybe

@@ -1,5 +1,5 @@
-//! The layout of an array lock's table: the ticket counter, a word for each node, and the cells. Any two words are at
-//! least 64 bytes apart, so no two of them share a cache line of 64 bytes.
+//! The layout of an array lock's table, which has a ticket counter, a word for each node, and the cells. Any two words
+//! are at least 64 bytes apart, so no two of them share a cache line of 64 bytes.
 ghost use Rattle.std.specs.Prelude.{◌≡◌, ◌≢◌, ℕ, ◌+◌, ◌<◌, ◌≤◌, MatchBool};
 ghost use Rattle.qolb_model.specs.declared.config.TheConstants.{MAX_NODES};
 ghost use Rattle.line_cells.specs.declared.layout.TheConstants.{CELLS};
@@ -24,7 +24,7 @@ pub const TICKET_WORD: usize = 0;
 /// The number of all words of a table with the maximum number of cells.
 pub const WORDS: usize = STRIDE * CELLS as usize;
 
-/// Returns the number of words for `cells` cells, which are more than the nodes.
+/// Returns the number of words of a table with `cells` cells. There are more cells than nodes.
 pub fn word_count(cells: u64) -> usize
     requires { cells ≤ CELLS }
     ensures { result ≡ layout.word_count cells }

@@ -1,6 +1,5 @@
-//! The common part of the two array locks, whose nodes draw tickets and wait on the cells of an array.
-//!
-//! `ring_line` and `ticket_line` use this crate.
+//! The code that the two array locks, `ring_line` and `ticket_line`, share. The nodes of an array lock draw tickets,
+//! and wait on the cells of an array.
 #![tactic(auto)]
 
 mod layout;

@@ -1,4 +1,4 @@
-//! The ghost state of a node of an array lock, which exists only in proofs.
+//! The ghost state of an array lock's node. Ghost state exists only in proofs.
 use std::collections::LinkedList;
 
 /// The progress of a node in its calls.
@@ -20,8 +20,8 @@ pub enum Point {
     Rolled,
 }
 
-/// What the invariant knows of a node besides its port's view. It is ghost state, and the program makes no value of
-/// this type.
+/// What the invariant records about a node in addition to the view of the node's port. It is ghost state, and the
+/// program makes no value of this type.
 pub struct Local {
     /// The node's progress in its calls.
     pub point: Point,

@@ -1,4 +1,5 @@
-//! The kinds of atomic steps on words other than cells, each with the change of ghost state that it makes.
+//! The kinds of atomic steps on the ticket counter and on the words of nodes. Each kind determines how the step changes
+//! the ghost state.
 ghost use Rattle.line_cells.specs.Steps.{drawn, freed, loaded_node, reset};
 
 use crate::local::Local;

@@ -1,4 +1,5 @@
--- Lemmas about a port that was notified that the line is closed, and has forwarded it.
+-- Lemmas about a port whose turn came on a closed line. Such a port is notified that the line is closed, and has
+-- forwarded the line to the next node.
 use Rattle.std.proofs.Common.{◌≡◌, ◌≢◌, ℕ, List, ◌∙◌}
 use Rattle.atomic_table.specs.Seated.{TableId}
 use Rattle.qolb_model.specs.declared.answer.PortState.{PortState}

@@ -1,4 +1,4 @@
--- Lemmas about the fields of a port after a call, and what the contract of the call states about them.
+-- Lemmas which relate the fields of a port after a call to what the call's contract states about the port.
 use Rattle.std.proofs.Common.{◌≡◌, ◌≢◌, ℕ, length, List, Option, None, Some, refl, true, false, sym, ap, ◌∙◌, subst, Bool, ◌||◌, bit_or}
 use lib.Dec.{eqb}
 use Rattle.std.specs.Option.{option_eq}

@@ -1,4 +1,5 @@
--- Lemmas about how `finish` joins the seats of all ports.
+-- Lemmas about the part of `finish` that joins the seats of all ports into one. A seat is a port's access to the line's
+-- table.
 use Rattle.std.proofs.Common.{Option, Some, slice_get, ◌≡◌, ℕ, suc, List, [], ◌∷◌, ◌++◌, length, map, true, false, sym, ap, ◌∙◌, subst, ⊎_elim, arith, append_assoc, append-nil}
 use Rattle.std.specs.List.{All}
 use Rattle.std.proofs.lemmas.List.{map-append}

@@ -1,4 +1,5 @@
--- Lemmas about a port that has checked whether its last request is clear.
+-- Lemmas about a port that has checked whether its last request is clear. A port whose last request is not clear cannot
+-- make another request yet.
 use Rattle.std.proofs.Common.{◌≡◌, ◌≢◌, ℕ, List, Option, Bool, true, false, inl, inr, sym, ap, ◌∙◌, ⊎_elim}
 use Rattle.atomic_table.specs.Seated.{TableId}
 use Rattle.qolb_model.specs.declared.answer.PortState.{PortState}

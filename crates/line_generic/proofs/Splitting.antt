@@ -1,4 +1,4 @@
--- Lemmas about how the entries of all nodes are split into ports.
+-- Lemmas about opening a line: the ghost states of all nodes are distributed over the ports of these nodes.
 use Rattle.std.proofs.Common.{◌≡◌, ℕ, ◌+◌, ◌-◌, ◌<◌, Option, List, [], ◌∷◌, ◌++◌, sym, ap, ◌∙◌, subst, ⊎_elim, length-append}
 use Rattle.std.proofs.lemmas.Option.{get_or_from_slice_get}
 use Rattle.atomic_table.specs.Seated.{TableId}

@@ -1,4 +1,4 @@
--- Lemmas about how a seat changes, step by step.
+-- Lemmas about how a node's seat changes over several atomic steps. A seat is a node's access to the line's table.
 use Rattle.std.proofs.Common.{◌≡◌, ℕ, ◌+◌, ◌-◌, ◌≤◌, List, sym, ◌∙◌, subst, arith}
 use Rattle.qolb_model.specs.Views.{Extends}
 use Rattle.qolb_model.specs.Sound.{Continues}

@@ -1,5 +1,6 @@
--- What each call of a queue algorithm requires of a node and ensures for it. These conditions refer to the number of
--- nodes of the line and to the token of the node's port.
+-- What each call of a queue algorithm requires of the calling node, and what the call ensures for this node. These
+-- conditions refer to the number of the line's nodes and to the token of the node's port, which is a number that the
+-- queue algorithm stores there.
 use Rattle.std.specs.Prelude.{◌≡◌, ◌≢◌, ◌⊎◌, ◌≤◌, ℕ, List, [], ◌∷◌, Bool, true, false}
 use Rattle.atomic_table.specs.Seated.{TableId}
 use Rattle.qolb_model.specs.declared.answer.PortState.{PortState}

@@ -1,4 +1,4 @@
--- What a port knows once its turn has come.
+-- What a port knows about the line once the turn of its request has come.
 use Rattle.std.specs.Prelude.{◌≡◌, ℕ, length, Option, Some}
 use Rattle.qolb_model.specs.declared.view.View.{View}
 use Rattle.qolb_model.specs.Histories.{turn_of}

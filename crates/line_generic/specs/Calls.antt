@@ -1,5 +1,7 @@
--- What each call of a queue algorithm requires of its node's seat and ensures for it. There is one record for each
--- call. The parameters are the phases `q` of the algorithm's nodes, or all its ghost state `d`, and the table `t`.
+-- What each call of a queue algorithm requires of the calling node's seat (the node's access to the line's table), and
+-- what the call ensures for this seat. There is one record for each call. The parameter `t` of a record is the table. A
+-- record also has a parameter `q`, the phases in which a node can be between two calls, or a parameter `d`, the whole
+-- ghost state of the queue algorithm.
 use Rattle.std.specs.Prelude.{◌≡◌, ◌≢◌, ℕ, ◌+◌, ◌<◌, ◌≤◌, List, length, Bool, Some, IsTrue}
 use Rattle.atomic_table.specs.declared.shared.Shared.{Shared}
 use Rattle.qolb_model.specs.declared.answer.PortState.{PortState}

@@ -1,4 +1,5 @@
--- Finishing a line: no port has an open request, and the seats of all ports are joined into one.
+-- What holds when a line is finished. No port then has an open request, and the seats of all ports (their access to the
+-- line's table) are joined into one.
 use Rattle.std.specs.Prelude.{◌≡◌, ℕ, List, ◌++◌, map, true, slice_get, Some}
 use Rattle.std.specs.List.{All}
 use Rattle.atomic_table.specs.Seated.{TableId}

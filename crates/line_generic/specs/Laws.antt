@@ -1,5 +1,5 @@
--- The theorems that each queue algorithm must prove about its words, its invariant and its slots. This file gives each
--- theorem a name.
+-- Names for the theorems that must be proved for each queue algorithm. They concern the words of the algorithm's table,
+-- its invariant, and its slots.
 use Rattle.std.specs.Prelude.{◌≡◌, ℕ, List, [], ◌∷◌, ◌++◌, replicate, length, Bool, false, Option}
 use mathlib.Core.Option.{some, none}
 use lib.ListN.{get_elem?}

@@ -1,4 +1,5 @@
--- The contents of a line's seats: the ghost states of nodes, and slots.
+-- The contents of a seat, which is a node's access to the line's table. A seat contains the ghost states of nodes, and
+-- the slots that these nodes have.
 use Rattle.std.specs.Prelude.{◌≡◌, map, ℕ, true, List, [], None}
 use Rattle.atomic_table.specs.Table.{Me}
 use Rattle.atomic_table.specs.declared.shared.Seat.{Seat}

@@ -1,5 +1,5 @@
--- What each call on a port requires and ensures. There is one record for each call, with parameters for the line's data
--- invariant `k`, the ghost state `d` of its queue algorithm, and its table `t`.
+-- What each call on a port requires and ensures. There is one record for each call. Its parameters are the data
+-- invariant `k` of the line, the ghost state `d` of the queue algorithm, and the table `t`.
 use Rattle.std.specs.Prelude.{◌≡◌, ◌≢◌, ◌⊎◌, ℕ, ◌+◌, ◌≤◌, List, map, Bool, Option, IsTrue}
 use Rattle.std.specs.List.{All}
 use Rattle.qolb_model.specs.declared.keep.Keep as keep

@@ -1,4 +1,4 @@
--- The phases that a node can have between its calls, and the slots that the node has in each phase.
+-- The phases in which a node can be between two calls, and the slots that the node has in each phase.
 use Rattle.std.specs.Prelude.{ℕ, Option}
 use Rattle.qolb_model.specs.declared.answer.PortState.{PortState}
 use Rattle.qolb_model.specs.declared.view.View.{View}

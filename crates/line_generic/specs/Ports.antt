@@ -1,4 +1,4 @@
--- What a port knows about its line, and what it holds.
+-- The state of a port: what the port knows about its line, and which bytes and slots of the line it has.
 use Rattle.std.specs.Prelude.{◌≡◌, ◌≢◌, ◌⊎◌, ℕ, ◌+◌, ◌-◌, ◌≤◌, length, slice_get, Bool, false, List, [], Option, Some}
 use Rattle.std.specs.List.{All}
 use Rattle.atomic_table.specs.Seated.{TableId}

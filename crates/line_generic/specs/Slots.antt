@@ -1,4 +1,4 @@
--- The slots of a seat, and when they contain a line.
+-- The slots that a node's seat has taken from the table, and the conditions under which these slots contain the line.
 use Rattle.std.specs.Prelude.{◌≡◌, ℕ, List, [], ◌∷◌, Option, false}
 use Rattle.line_generic.specs.declared.table.LocalCopy.{LocalCopy}
 use Rattle.line_generic.specs.declared.table.Payload.{Payload}

@@ -1,4 +1,4 @@
--- What each atomic step reveals to the port that takes it.
+-- What a port learns from each atomic step that it takes.
 use Rattle.std.specs.Prelude.{◌%◌, ◌^◌, ◌≡◌, ◌≢◌, ℕ, ◌+◌, ◌<◌, ◌≤◌, List, [], ◌∷◌, ◌++◌, length, slice_get, Bool, true, false, Some}
 use Rattle.atomic_table.specs.Table.{Step}
 use Rattle.atomic_table.specs.Seated.{TableId}

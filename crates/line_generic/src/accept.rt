@@ -1,5 +1,5 @@
-//! Accepts a line when the request's turn has come. If the line is closed, the node forwards it to the next node
-//! instead.
+//! Accepts the line for a port whose turn has come. If the line is closed, the port does not keep the line, but
+//! forwards it to the next node.
 ghost use Rattle.std.specs.Prelude.{◌≡◌, ◌≢◌, ℕ, ◌+◌, ◌-◌, ◌≤◌};
 ghost use Rattle.qolb_model.specs.Calls.{IsGrantedOrTold};
 ghost use Rattle.line_generic.specs.Steps.{ghost_of, SeatAdvances};

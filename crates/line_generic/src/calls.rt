@@ -1,7 +1,7 @@
 //! Implements the calls of `LineSync` once for all kinds of lines.
 //!
-//! The queue algorithm (`Discipline`) of the line determines the atomic steps of each call. A call that releases the
-//! line then wakes waiters according to the line's wake policy.
+//! The queue algorithm (`Discipline`) of the line determines the atomic steps of each call. After a call has released
+//! the line, it wakes waiters according to the line's wake policy.
 ghost use Rattle.std.specs.Prelude.{◌≡◌, ◌+◌, IfOk, IfErr, true, false};
 ghost use Rattle.qolb_model.specs.Calls.{MergesViews};
 ghost use Rattle.qolb_model.specs.OneOwner.{turn_after};
@@ -262,7 +262,8 @@ impl<K: Keep, Q: Discipline<K>, W: WakePolicy> LineSync<K> for Line<K, Q, W> {
 }
 
 impl<K: Keep, Q: Discipline<K>, W: WakePolicy> Line<K, Q, W> {
-    /// Releases the line, and closes it if `shut` is set: this is `shut` and `deqolb` in one call.
+    /// Releases the line, and closes it if `shut` is set. The calls `shut` and `deqolb` are both implemented by this
+    /// call.
     ///
     /// The call stores the holder's payload for the successor, as closed if `shut` is set or if the lease ends with
     /// this turn. Then it hands the line over and unparks the next holder. It takes at least one atomic step, at most

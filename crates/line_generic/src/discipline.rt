@@ -1,5 +1,5 @@
-//! The traits that a queue algorithm implements. They contain everything in which one kind of line differs from the
-//! others; the code that all kinds share is in the other files of this crate.
+//! The traits that a queue algorithm implements. The kinds of lines differ only in their implementations of these
+//! traits. The code that all kinds of lines share is in the other files of this crate.
 ghost use Rattle.std.specs.Prelude.{◌≡◌, ℕ, List, ◌<◌, ◌≤◌, ◌^◌, length, Bool, IfOk};
 ghost use Rattle.line_generic.specs.Laws.{HasAllowedStates, HasHolderWord, HasClosedWord, HasPollOutcome, HasFirstSplit, HasEmptySplit, HasJoin, HasSlots, HasOpening, HasMeeting, HasSlotReturn, HasFinalLine};
 ghost use mathlib.Core.Option.{some};
@@ -35,7 +35,7 @@ pub enum Enqueued {
     Busy,
 }
 
-/// The outcome of making a request: the answer, the port's new token, and the atomic steps taken.
+/// The outcome of making a request: the answer, the port's new token, and the number of atomic steps.
 #[derive(Clone, Copy)]
 pub struct EnqueueResult {
     pub answer: Enqueued,
@@ -43,7 +43,7 @@ pub struct EnqueueResult {
     pub steps: u64,
 }
 
-/// The result of a poll of a node at rest.
+/// The result of a poll by a node that neither waits for the line nor holds it.
 ///
 /// `clear` says whether the last request is clear, `state` is the state in which the port is left, and `steps` is the
 /// number of atomic steps taken.
@@ -54,19 +54,19 @@ pub struct Rested {
     pub steps: u64,
 }
 
-/// The outcome of a release: the port's new state, the atomic steps taken, and the duty to unpark.
+/// The outcome of a release: the port's new state, the number of atomic steps, and the duty to unpark waiters.
 pub struct Released {
     pub state: PortState,
     pub steps: u64,
     pub unpark: UnparkHandle,
 }
 
-/// The ghost state of a queue's nodes, independent of the line's data invariant.
+/// The ghost state of the nodes of a queue, which does not depend on the line's data invariant.
 ///
 /// A port stores one number for its discipline, its *token*: the cell of its request, for example, or the predecessor's
 /// node.
 pub trait DisciplineSpec {
-    /// What the invariant knows of a node besides its port's view.
+    /// What the invariant records about a node in addition to the view of the node's port.
     type Local;
 
     /// The phases of a node, and the slots that the node has in each.
@@ -119,16 +119,16 @@ pub trait DisciplineSpec {
     ghost max_steps_fits: { (nodes : ℕ) → nodes ≤ MAX_NODES → max_steps nodes < 2 ^ 32 };
 }
 
-/// The invariant of a queue's table under the data invariant `K`. This trait is apart from `Discipline`, because the
-/// calls of a discipline step by this invariant.
+/// The invariant of the table of a line with the data invariant `K`. This trait is separate from `Discipline`, because
+/// the calls of `Discipline` take atomic steps on a table with this invariant.
 pub trait DisciplineInvariant<K: Keep>: DisciplineSpec {
     /// The invariant that holds between any two atomic steps, in every interleaving.
     ghost holds: { TableKey → State Payload (List (NodeGhost Self.Local)) → Type 0 };
 }
 
-/// A queue discipline: how requests are ordered, and how a release hands over the line.
+/// A queue algorithm, which determines how requests are ordered and how a release hands over the line.
 ///
-/// A kind of line is only its discipline and the body that all kinds share.
+/// A kind of line consists of its queue algorithm and of the code that all kinds share.
 pub trait Discipline<K: Keep>: DisciplineInvariant<K> {
     ghost use Rattle.line_generic.specs.Calls.{MayTake, MayPut, IsRequester, IsNodeAtRest, IsWaiter, IsReleaser, HasRequested, HasLookedAtRest, HasLooked, HasRolled, HasReleased};
 

@@ -1,7 +1,7 @@
-//! The wake policy for waiters that sleep outside the library. The line reports the words on which they wait, and the
-//! code that called the line wakes them.
+//! The wake policy for waiters that the caller parks and unparks, instead of this library. A release only records the
+//! words on which the next waiters wait. The caller reads these words after the release, and unparks the waiters.
 //!
-//! The nodes for C (`qolb_nodes`) use this policy.
+//! The nodes of the C library (`qolb_nodes`) use this policy.
 ghost use Rattle.std.specs.Prelude.{◌≡◌, Some};
 ghost use Rattle.qolb_model.specs.declared.answer.PortState.TheVariants as port_state;
 ghost use Rattle.qolb_model.specs.declared.view.View.{View};
@@ -19,19 +19,19 @@ use qolb_model::Keep;
 /// A number that is not a word of any line, so no node waits there.
 pub const NO_WORD: usize = usize::MAX;
 
-/// The words of the next holder and of the waiter behind it, as a release noted them.
+/// The words of the next holder and of the waiter behind it, as a release has recorded them.
 ///
-/// If there is no such waiter, `ahead` is any number on which no node waits.
+/// If there is no such waiter, `ahead` is a number on which no node waits.
 #[derive(Clone, Copy)]
 pub struct WentTo {
     word: usize,
     ahead: usize,
 }
 
-/// A wake policy for waiters that the caller parks and unparks. A release notes their words in its port.
+/// A wake policy for waiters that the caller parks and unparks. A release records their words in its port.
 ///
-/// A program uses it if the lock may not call the system. After each call that released the line, the caller asks for
-/// `went_to` and `went_ahead`, and unparks the waiters of these words.
+/// A program uses this policy if the lock may not make system calls. After each call that released the line, the caller
+/// reads `went_to` and `went_ahead`, and unparks the waiters of these words.
 #[derive(Drop)]
 pub struct SleepersElsewhere;
 

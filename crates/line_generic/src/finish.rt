@@ -1,4 +1,4 @@
-//! Finishes a line: the program hands back the line and all its ports, and gets the bytes.
+//! Finishes a line. The caller gives back the line and all its ports, and gets the bytes that the line contains.
 ghost use Rattle.std.specs.Prelude.{◌≡◌, ◌<◌, length, All, IfOk, IfErr, true};
 ghost use Rattle.qolb_model.specs.Finishing.{IsFinalLine};
 ghost use Rattle.qolb_model.specs.PortStates.{may_ask};

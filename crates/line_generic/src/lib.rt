@@ -1,5 +1,5 @@
-//! A queue lock on atomic words. The crate is generic over the queue algorithm (`Discipline`) and contains the code
-//! that all kinds of lines share.
+//! A queue lock that is built from atomic words. This crate contains the code that all kinds of lines share. It is
+//! generic over the queue algorithm (`Discipline`).
 #![tactic(auto)]
 
 mod accept;

@@ -1,4 +1,4 @@
-//! The type of a line, which owns a table of atomic words.
+//! The type `Line`. A line owns a table of atomic words.
 ghost use Rattle.std.specs.Prelude.{◌≡◌, ◌*◌, ◌<◌, ◌≤◌};
 ghost use Rattle.line_lanes.specs.Lane.{with_lane_of};
 ghost use Rattle.line_lanes.specs.Mask.{placed_mask};
@@ -14,7 +14,7 @@ use line_lanes::set_lane;
 use qolb_model::{Keep, PortState};
 use std::marker::PhantomData;
 
-/// The numbers of words and nodes of a line's table, and the mask of its discipline.
+/// The number of words and the number of nodes of a line's table, and the mask of the line's queue algorithm.
 #[derive(Drop)]
 pub struct TableWidth<K: Keep, Q: Discipline<K>> {
     pub(crate) words: usize,
@@ -27,11 +27,11 @@ pub struct TableWidth<K: Keep, Q: Discipline<K>> {
     ghost some: { 0 < words },
 }
 
-/// A queue lock that hands 64 bytes from holder to holder, by the discipline `Q`.
+/// A queue lock with the queue algorithm `Q`, which hands 64 bytes from holder to holder.
 ///
-/// Between any two atomic steps the line has one history: an order of requests, and the ends of a prefix of them. While
-/// no node holds the line, its slot has the bytes after those ends. Each port's view is a prefix of this history, and
-/// each node has at most one open request.
+/// Between any two atomic steps, the line has one history, which lists the requests in their order, and the ends of a
+/// prefix of these requests. While no node holds the line, its slot has the bytes after those ends. Each port's view is
+/// a prefix of this history, and each node has at most one open request.
 #[derive(Drop)]
 pub struct Line<K: Keep, Q: Discipline<K>, W: WakePolicy = Parking> {
     pub(crate) table: LineTable<K, Q>,
@@ -57,7 +57,8 @@ impl<K: Keep, Q: Discipline<K>, W: WakePolicy> Line<K, Q, W> {
         port.steps
     }
 
-    /// Writes lane `k` of the holder's line, as a store of eight bytes: `write` with the mask of that lane.
+    /// Writes lane `k` of the line that the port holds, as a store of eight bytes. This is `write` with the mask of
+    /// that lane.
     #[inline(always)]
     pub fn write_lane(port: &mut Port<Q, W>, k: usize, value: u64)
         requires state { port.old.view.state ≡ PortState.Holding }

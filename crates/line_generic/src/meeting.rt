@@ -1,5 +1,5 @@
-//! Lets two ports of a line meet: their seats are joined for one step, which merges what the two ports know, and are
-//! then split again.
+//! Implements `meet`, with which two ports of a line merge what they know about the line's history. For one step, the
+//! seats of the two ports are joined into a single seat, which is then split again.
 ghost use Rattle.line_generic.specs.Answers.{HaveMet};
 ghost use Rattle.line_generic.specs.Steps.{IsSeatOf, HasNoSlot, IsOfOneNode};
 

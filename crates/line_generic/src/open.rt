@@ -24,7 +24,7 @@ impl<K: Keep, Q: Discipline<K>, W: WakePolicy> Line<K, Q, W> {
     /// Opens a line, and returns it with the ports of nodes 1 to `nodes`, in order.
     ///
     /// The first holder finds the bytes `opening`. The call allocates the table and the ports. It fails if `nodes` is
-    /// out of range or memory is short.
+    /// out of range, or if there is not enough memory.
     pub fn open(
         alloc: Global,
         label: u64,
@@ -44,7 +44,8 @@ impl<K: Keep, Q: Discipline<K>, W: WakePolicy> Line<K, Q, W> {
         Line::<K, Q, W>::with_config(alloc, label, config)
     }
 
-    /// Opens a line as `open` does, for `lease` served turns. The last of them closes the line.
+    /// Opens a line as `open` does, with a limit (`lease`) on the number of served turns. The last of these turns
+    /// closes the line.
     pub fn open_leased(
         alloc: Global,
         label: u64,

@@ -1,5 +1,5 @@
-//! Operations on seats that only change ghost state: seats are split and joined, views are merged, and slots are
-//! returned.
+//! Operations on seats that change only ghost state. They split a seat, join two seats, merge the views of two ports,
+//! or return slots to the table.
 ghost use Rattle.std.specs.Prelude.{[], ◌++◌};
 ghost use Rattle.qolb_model.specs.Entries.{front, behind};
 ghost use Rattle.line_generic.specs.Steps.{after_meet, slots_returned};

@@ -1,4 +1,4 @@
-//! The port of a node, with which the node's owner makes calls on the line.
+//! The port of a node. A port is the object through which the owner of a node calls the line.
 ghost use Rattle.std.specs.Prelude.{◌≡◌, ◌↔◌, IsTrue};
 
 use crate::discipline::DisciplineSpec;
@@ -8,21 +8,22 @@ use crate::wake::WakePolicy;
 use qolb_model::{LinePort, PollCount, PortState};
 use std::marker::Model;
 
-/// A node's port: the value by which the node's owner calls the line.
+/// A node's port, which is the value through which the node's owner calls the line.
 ///
 /// `payload` is the line if the port holds it, and otherwise the port's last copy. It is the first field, so that its
-/// bytes are copied from an aligned place; `state` is the last field.
+/// bytes are copied from an aligned place. `state` is the last field that exists at run time, because `poll_count` is
+/// ghost state.
 #[derive(Drop)]
 pub struct Port<Q: DisciplineSpec, W: WakePolicy = Parking> {
     pub(crate) payload: LocalCopy,
     pub(crate) seat: LineSeat<Q::Local>,
-    /// The number that the discipline has stored for the last request.
+    /// The number that the queue algorithm has stored for the last request.
     pub(crate) token: u64,
     pub(crate) label: u64,
     pub(crate) node: u64,
     /// The number of atomic steps of the last call.
     pub(crate) steps: u64,
-    /// The words of the next holder, if the line's wake policy notes them.
+    /// The words of the next holder, if the line's wake policy records them.
     pub(crate) note: W::Note,
     pub(crate) state: PortState,
     /// The number of polls, which is ghost state.

@@ -1,6 +1,6 @@
-//! The slot of a line that stores its bytes in the same slot for all turns.
+//! Loads and stores the bytes of a line that has only one slot.
 //!
-//! The ring and the link line use one slot. The ticket line has one slot for each cell.
+//! Rings and link lines have only one slot. A ticket line has one slot for each of its cells.
 ghost use Rattle.std.specs.Prelude.{◌≡◌, ◌≢◌, ℕ, Option, [], Some, false};
 ghost use mathlib.Core.Option.{some};
 ghost use lib.ListN.{get_elem?};

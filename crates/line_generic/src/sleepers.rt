@@ -1,8 +1,9 @@
 //! Counts a line's sleepers, which are the waiters that are parked or are about to park. This file contains what a
 //! waiter does before it parks, and what a release does before it returns.
 //!
-//! The waiter and the release follow a Dekker handshake: the waiter counts itself and then looks at its word, and the
-//! release grants the line and then looks at the count. So one of them sees the other.
+//! The waiter and the releasing thread follow a Dekker handshake. The waiter adds itself to the count, and then reads
+//! the word on which it waits. The releasing thread grants the line, and then reads the count. Therefore either the
+//! waiter sees the grant, or the releasing thread sees the waiter.
 ghost use Rattle.std.specs.Prelude.{◌≡◌, ℕ, ◌<◌, ◌/◌, ◌%◌, ◌^◌};
 
 use crate::discipline::Discipline;
@@ -15,8 +16,9 @@ use std::sync::atomic::{AtomicU64, Ordering};
 /// The duty to unpark the next holder, and the waiter behind it one turn early.
 ///
 /// `word` is the word on which the node that was granted the line may be parked, and `ahead` is the word of the waiter
-/// behind it. They are any number if there is no such node. This is a linear token: the type is not `Drop` and one
-/// field is private to this file, so a discipline can only return it, and a call can only pass it to the `WakePolicy`.
+/// behind it. If there is no such node, these may be any numbers. This is a linear token: the type is not `Drop` and
+/// one field is private to this file, so a queue algorithm can only return it, and a call can only pass it to the
+/// `WakePolicy`.
 pub struct UnparkHandle {
     pub(crate) word: usize,
     pub(crate) ahead: usize,

@@ -1,4 +1,5 @@
-//! Requests the line in two calls, on lines whose queue is a linked list.
+//! Splits a request for a line into two calls, `prepend` and `link`. Only lines whose queue is a linked list have these
+//! calls.
 ghost use Rattle.line_generic.specs.PortCalls.{IsRestingPort, IsLinkingPort, HasPutRequest, HasLinkedRequest};
 
 use crate::accept::Arrival;
@@ -11,7 +12,7 @@ use qolb_model::{Enq, Keep, LineSync, PortState, Prep};
 impl<K: Keep, Q: SplitEnqueue<K>, W: WakePolicy> Line<K, Q, W> {
     /// Makes a request, as the first half of `enqolb`.
     ///
-    /// A request behind a predecessor is `Linking`, and must then be linked.
+    /// If the request has a predecessor, the port is then `Linking`, and the request must still be linked.
     pub fn prepend(&self, port: &mut Port<Q, W>) -> Prep
         requires { IsRestingPort K.Keep self.now.table.shared port.old }
         ensures { HasPutRequest K.Keep Q.DisciplineSpec self.now.table.shared Q.prepend_steps

@@ -1,5 +1,5 @@
-//! The table of a line, which consists of words and slots. While no node holds the line, the line's bytes are in a
-//! slot.
+//! The table of a line. A table consists of atomic words and of slots. While no node holds the line, the line's bytes
+//! are in a slot.
 ghost use Rattle.std.specs.Prelude.{◌≡◌, ⊤};
 
 use crate::discipline::{DisciplineInvariant, DisciplineSpec};
@@ -57,7 +57,7 @@ impl Clone for Payload {
     }
 }
 
-/// A port's own copy of the line: the bytes that a holder writes, and a slot's other fields.
+/// A port's own copy of the line, which consists of the bytes that a holder writes and of the other fields of a slot.
 #[derive(Drop)]
 pub struct LocalCopy {
     pub bytes: Line64,
@@ -66,17 +66,17 @@ pub struct LocalCopy {
     pub closed: bool,
 }
 
-/// What the table's invariant knows of a node. It is ghost state, and the program makes no value of this type.
+/// What the table's invariant records about a node. It is ghost state, and the program makes no value of this type.
 pub struct NodeGhost<O> {
     /// The view of the node's port.
     pub view: View,
-    /// The discipline's own ghost state of the node.
+    /// The ghost state that the queue algorithm defines for the node.
     pub own: O,
-    /// The number of atomic steps that the node took in its calls of all kinds.
+    /// The number of atomic steps that the node has taken in all its calls.
     pub steps: u64,
 }
 
-/// The table rule of a line under the data invariant `K`, which is the invariant of the discipline.
+/// The rule for the table of a line with the data invariant `K`. It is the invariant that the queue algorithm defines.
 pub struct Rule<K, Q> {
     law: PhantomData<(K, Q)>,
 }

@@ -1,5 +1,5 @@
-//! The mask of the bytes that a holder has written during its turn. The mask is ghost state, which exists only in
-//! proofs.
+//! The mask that shows which bytes a holder has written since it acquired the line. The mask is ghost state, which
+//! exists only in proofs.
 ghost use Rattle.std.specs.Prelude.{◌≡◌, ℕ, bit_or};
 ghost use Rattle.std.specs.Borrow.{ftrue};
 

@@ -1,8 +1,9 @@
-//! The wake policies: waiters park, and releases unpark them. No call in this file changes the table.
+//! The wake policies, which determine whether waiters park and how a release wakes them. No call in this file changes
+//! the table of a line.
 //!
-//! A line has one of three wake policies. With `Parking`, a release unparks waiters. With `SpinOnly`, it wakes no
-//! thread. With `SleepersElsewhere`, it records the words on which the waiters wait, so that the code that called the
-//! line can wake them.
+//! A line has one of three wake policies. With `Parking`, a release unparks waiters. With `SpinOnly`, a release wakes
+//! no thread. With `SleepersElsewhere`, a release records the words on which the waiters wait, so that the caller of
+//! the release can wake them.
 ghost use Rattle.std.specs.Prelude.{◌≡◌, ℕ, ◌<◌, false, Option, None};
 ghost use Rattle.line_generic.specs.Answers.{IsSeatOfNode};
 ghost use Rattle.line_generic.specs.Steps.{IsInState};
@@ -20,7 +21,7 @@ use std::time::Duration;
 
 /// How a line's releases unpark its waiters, if at all.
 pub trait WakePolicy: Drop {
-    /// What a release notes in its port about the next holder.
+    /// What a release records in its port about the next holder.
     type Note: Copy + Drop;
 
     /// The word of the next holder, if the note has it.
@@ -29,12 +30,12 @@ pub trait WakePolicy: Drop {
     /// Returns the policy's state for a new line, which has no waiters.
     fn none() -> Self;
 
-    /// Returns the note of a new port, which has not released yet and names no word.
+    /// Returns the note of a new port. The port has not released the line yet, and the note names no word.
     fn blank() -> Self::Note
         ensures { Names NO_WORD (went_to result) };
 
-    /// Unparks the waiters on the granted word and on the word ahead, or notes both words. A number that is not a word
-    /// of the table is ignored.
+    /// Unparks the waiters on the granted word and on the word ahead, or records both words. A number that is not a
+    /// word of the table is ignored.
     fn wake<K: Keep, Q: Discipline<K>>(
         &self,
         table: &LineTable<K, Q>,
@@ -44,8 +45,8 @@ pub trait WakePolicy: Drop {
         ensures { Names unpark.word (went_to note.new) };
 }
 
-/// A wake policy without parking: waiters spin, and a release wakes nobody. A program uses it if the lock may not call
-/// the system.
+/// A wake policy without parking: waiters spin, and a release wakes nobody. A program uses this policy if the lock may
+/// not make system calls.
 #[derive(Drop)]
 pub struct SpinOnly;
 

@@ -1,5 +1,5 @@
--- The kinds of lines: their names on command lines, and the amount of memory that the table of a line takes. The
--- definitions in this file were made for this project; none is taken from the literature.
+-- The kinds of lines, with the name of each kind on command lines, and the amount of memory that the table of a line
+-- takes. The definitions in this file were made for this project; none is taken from the literature.
 use Rattle.std.specs.Prelude.{if◌then◌else◌, List, [], ◌∷◌, Option, Some, None, codes, ℕ, ◌+◌, ◌*◌}
 use Rattle.std.specs.Str.{bytes_eq}
 use Rattle.line_cells.specs.Counting.{cells_for}

@@ -1,7 +1,7 @@
-//! The list of the kinds of lines, with their names. Code that works on any kind of line gets the kinds from this
+//! The list of the kinds of lines, with their names. Code that supports every kind of line takes the list from this
 //! crate.
 //!
-//! The section "Another lock" of docs/CHANGING.md lists the other files that name each kind.
+//! The section "Another kind of line" of docs/CHANGING.md lists the other files that name each kind.
 #![tactic(auto)]
 
 ghost use Rattle.std.specs.Prelude.{◌≡◌, ◌+◌, ◌*◌};
@@ -14,14 +14,14 @@ pub use link_line::{LinkLine, LinkQueue};
 pub use ring_line::{RingLine, RingQueue};
 pub use ticket_line::{TicketLine, TicketQueue};
 
-/// A kind of line, which is the lock by which nodes share a line.
+/// A kind of line, which is the kind of lock through which nodes share the line.
 #[derive(Clone, Copy, Debug, PartialEq, Eq)]
 pub enum Lock {
-    /// Rings: an array queue of tickets and cells.
+    /// Rings. The queue is an array of cells, and nodes draw tickets.
     Ring,
-    /// Link lines: a home word and reversed links.
+    /// Link lines. The queue is a linked list, in which each node links itself to its predecessor.
     Link,
-    /// Ticket lines: tickets, and cells that are granted by a number.
+    /// Ticket lines. Nodes draw tickets, and a grant writes the ticket's number into a cell.
     Ticket,
 }
 
@@ -37,7 +37,7 @@ pub const LOCKS: usize = 3;
 /// All locks.
 pub static ALL: [Lock; LOCKS] = [Lock::Ring, Lock::Link, Lock::Ticket];
 
-/// Makes the names of the kinds on command lines, in the order of `ALL`, behind other texts. `lock_names!(array,
+/// Expands to the names of the kinds on command lines, in the order of `ALL`, after other texts. `lock_names!(array,
 /// "plain")` is an array of four names, and `lock_names!(text, "kinds: ")` is a text in which commas separate the
 /// names.
 #[macro_export]
@@ -51,7 +51,7 @@ macro_rules! lock_names {
 pub static NAMES: [&str; LOCKS] = lock_names!(array);
 
 impl Lock {
-    /// Returns the kind of this name, if there is one.
+    /// Returns the kind that has this name, or `None` if there is no such kind.
     pub fn named(name: &str) -> Option<Lock>
         ensures { result ≡ lock_named name.now }
     {
@@ -63,9 +63,9 @@ impl Lock {
         }
     }
 
-    /// Returns the number of bytes of a table for `nodes` nodes, which are its words and its slots.
+    /// Returns the number of bytes that the words and slots of a table for `nodes` nodes take.
     ///
-    /// A port takes 128 bytes more. Opening a line takes the table's bytes twice for a moment.
+    /// A port takes 128 bytes more. While a line is opened, the table's bytes are needed twice for a moment.
     pub fn bytes_for(self, nodes: u64) -> u64
         requires { AreNodes nodes }
         ensures bytes { result ≡ bytes_of self nodes }

@@ -1,4 +1,5 @@
--- Proof about a node that accepts the line with an event which takes the line out of the slot.
+-- Proof about an atomic step with which a node accepts the line. The event that belongs to this step takes the line out
+-- of the slot.
 use Rattle.std.proofs.Common.{◌≡◌, ◌≢◌, ℕ, ◌≤◌, Bool, true, false, List, [], ◌∷◌, length, sym, refl, ap, ◌∙◌, subst, arith}
 use mathlib.Core.Option.{some}
 use lib.ListN.{get_elem?}

@@ -1,4 +1,4 @@
--- Proof that a release frees the nodes of all requests that it has skipped.
+-- Proof that a release frees the nodes of all requests that the release has skipped.
 use Rattle.std.proofs.Common.{◌≡◌, ◌≢◌, ℕ, zero, suc, ◌+◌, ◌≤◌, ◌<◌, ◌⊎◌, inl, inr, ⊎_elim, length, drop, List, [], ◌∷◌, sym, refl, ap, ◌∙◌, subst, get_or, slice_get, arith}
 use Rattle.std.proofs.lemmas.Option.{slice_get_within, slice_get-get_or}
 use Rattle.qolb_model.specs.declared.answer.PortState.{PortState}

@@ -1,4 +1,4 @@
--- Proof about the step with which a release frees the first of the nodes that it has skipped.
+-- Proof about the atomic step with which a release frees the first of the nodes whose requests it has skipped.
 use Rattle.std.proofs.Common.{◌≡◌, ◌≢◌, ◌⊎◌, inl, inr, ℕ, suc, ◌+◌, ◌%◌, ◌^◌, ◌<◌, ◌≤◌, Bool, List, [], ◌∷◌, ◌++◌, length, map, set, slice_index, slice_get, true, false, sym, refl, ap, ◌∙◌, subst, arith, get_or-set_same, get_or-set_other, ne_eqb, drop}
 use Rattle.std.specs.Prelude.{not, slice_index_or}
 use mathlib.Core.Option.{some, none}

@@ -1,4 +1,5 @@
--- Lemmas about what an event of the core does not change in the past, or for the other nodes.
+-- Lemmas about what an event of one node leaves unchanged in the history of the line, and for the other nodes. An event
+-- is a transition of the core, which is a state machine that models the link line.
 use Rattle.std.proofs.Common.{◌≡◌, ◌≢◌, ◌⊎◌, ℕ, zero, suc, ◌+◌, ◌<◌, ◌≤◌, inl, inr, true, false, List, [], ◌∷◌, length, map, sym, refl, ap, ◌∙◌, subst, Option, Some, None, arith, get_or-set_other}
 use Rattle.std.specs.Prelude.{slice_index_or, slice_set}
 use Rattle.std.proofs.lemmas.Bool.{cases_lt}

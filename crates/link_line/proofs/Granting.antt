@@ -1,5 +1,5 @@
--- Proof about the step with which a release grants the next entry: either the line goes to that node, or the release
--- skips the node's withdrawn request.
+-- Proof about the atomic step with which a release grants the next node's entry. Either this node then gets the line,
+-- or the release skips the node's withdrawn request.
 use Rattle.std.proofs.Common.{◌≡◌, ◌⊎◌, ℕ, ◌+◌, ◌%◌, ◌^◌, ◌<◌, ◌≤◌, Option, List, [], ◌∷◌, ◌++◌, length, map, set, slice_index, true, false, sym, refl, ap, ◌∙◌, subst, inl, inr, arith, length-set, get_or-set_same}
 use mathlib.Core.Option.{some, none}
 use lib.ListN.{get_elem?}

@@ -1,4 +1,5 @@
--- Proof about a handoff at an entry, which takes up to three steps: home, done, grant.
+-- Proof about one attempt of a release to hand the line over from an entry. The attempt takes up to three atomic steps,
+-- which are called home, done and grant.
 use Rattle.std.proofs.Common.{ℕ, length, List, [], ◌∷◌, ◌++◌, refl, ap, ◌∙◌, subst, inr, arith}
 use Rattle.qolb_model.specs.declared.config.LineConfig.{LineConfig}
 use Rattle.qolb_model.specs.PortStates.{state_after}

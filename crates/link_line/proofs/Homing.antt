@@ -1,5 +1,5 @@
--- Proof about the step with which a release tries to return the line home. The attempt succeeds if the home word names
--- the entry that the release has reached.
+-- Proof about the atomic step with which a release tries to set the home word to 0, after which no node has the line.
+-- The attempt succeeds if the home word names the node whose entry the release has reached.
 use Rattle.std.proofs.Common.{◌≡◌, ◌≢◌, ℕ, ◌+◌, ◌<◌, ◌≤◌, List, [], ◌∷◌, length, set, slice_index, true, false, sym, refl, ap, ◌∙◌, subst, inl, inr, arith, eqb, length-set, get_or-set_same}
 use mathlib.Core.Option.{some, none}
 use mathlib.Core.Logic.{dite}

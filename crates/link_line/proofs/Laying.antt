@@ -1,4 +1,5 @@
--- Lemmas about the words and the slot after a step that preserves the invariant.
+-- Lemmas which show that the words and the slot of the table still represent the state of the core after an atomic
+-- step. The core is a state machine that models the link line.
 use Rattle.std.proofs.Common.{◌≡◌, ◌≢◌, ℕ, ◌<◌, ◌≤◌, List, [], ◌∷◌, length, set, slice_index, sym, ap, ◌∙◌, subst, arith, length-set, get_or-set_same, get_or-set_other}
 use mathlib.Core.Logic.{dite}
 use mathlib.Core.Option.{some, none}

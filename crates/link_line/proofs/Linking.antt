@@ -1,5 +1,5 @@
--- Proof about the step with which a node links its request to the previous one: the node adds its number to the entry
--- of that request's node.
+-- Proof about the atomic step with which a node links its request to the previous request. The node adds its own number
+-- to the entry of the node that made the previous request.
 use Rattle.std.proofs.Common.{◌≡◌, ℕ, ◌+◌, ◌*◌, ◌%◌, ◌^◌, ◌<◌, ◌≤◌, List, [], ◌∷◌, ◌++◌, length, set, slice_index, true, false, sym, refl, ap, ◌∙◌, subst, inl, inr, arith, get_or-set_same}
 use mathlib.Core.Option.{some, none}
 use lib.ListN.{get_elem?}

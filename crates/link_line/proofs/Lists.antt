@@ -1,4 +1,4 @@
--- Lemmas about lists in which one value at a time is replaced.
+-- Lemmas about lists in which a single element is replaced.
 use Rattle.std.proofs.Common.{◌≡◌, ◌≢◌, ℕ, zero, suc, ◌<◌, ◌≤◌, List, [], ◌∷◌, set, sym, refl, ap, ◌∙◌, subst, ⊎_elim, Some, None}
 use mathlib.Core.Option.{some}
 use lib.ListN.{get_elem?}

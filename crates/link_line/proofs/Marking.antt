@@ -1,5 +1,6 @@
--- Proof about the step with which a release adds the flag done to the entry that it has reached. The release then
--- continues with the node that is linked there, or leaves the line for a node that links later.
+-- Proof about the atomic step with which a release sets the flag done in the entry that it has reached. If a node is
+-- already linked to this entry, the release continues with that node. Otherwise, the release leaves the line for a node
+-- that links later.
 use Rattle.std.proofs.Common.{◌≡◌, ◌≢◌, ◌⊎◌, ℕ, ◌+◌, ◌%◌, ◌^◌, ◌<◌, ◌≤◌, List, [], ◌∷◌, ◌++◌, length, map, set, slice_index, true, sym, refl, ap, ◌∙◌, subst, inl, inr, arith, length-set, get_or-set_same}
 use mathlib.Core.Option.{some, none}
 use mathlib.Core.Logic.{dite}

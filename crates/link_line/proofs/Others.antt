@@ -1,4 +1,4 @@
--- Proof that the requests which a release has skipped belong to other nodes, each to a different one.
+-- Proof that the requests which a release has skipped belong to different nodes, none of which is the releasing node.
 use Rattle.std.proofs.Common.{◌≡◌, ℕ, zero, suc, ◌<◌, List, [], ◌∷◌, length, map, sym, ap, ◌∙◌, Some, slice_get, arith}
 use Rattle.std.specs.Prelude.{slice_index_or}
 use Rattle.std.proofs.lemmas.Option.{slice_get_within}

@@ -1,4 +1,5 @@
--- Lemmas about how an addition changes the word of an entry, and about the fields of this word.
+-- Lemmas about the word of an entry, in which several fields are packed, and about how an addition changes these
+-- fields.
 use Rattle.std.proofs.Common.{◌≡◌, ℕ, ◌+◌, ◌*◌, ◌%◌, ◌^◌, ◌<◌, ◌≤◌, Bool, true, false, refl, ap, arith, eq-eqb, ne_eqb}
 use Rattle.std.specs.Prelude.{◌==◌}
 use Rattle.qolb_model.specs.declared.config.TheConstants.{MAX_NODES}

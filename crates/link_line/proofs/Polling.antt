@@ -1,5 +1,5 @@
--- Proof about the steps with which a waiting node polls its entry or withdraws. If the entry is granted, the node
--- accepts the line.
+-- Proof about the atomic steps with which a waiting node polls its entry or withdraws its request. If the entry is
+-- granted, the node accepts the line.
 use Rattle.std.proofs.Common.{◌≡◌, ◌≢◌, ℕ, ◌+◌, ◌%◌, ◌^◌, ◌<◌, ◌≤◌, List, [], ◌∷◌, length, set, slice_index, true, false, sym, refl, ap, ◌∙◌, subst, inl, inr, arith, get_or-set_same}
 use mathlib.Core.Option.{some, none}
 use lib.ListN.{get_elem?}

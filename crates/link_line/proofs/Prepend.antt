@@ -1,5 +1,6 @@
--- Proof about the step with which a node makes a request: the node swaps its number into the home word. If that word
--- was 0, the request has the turn. Otherwise the node must still link the request.
+-- Proof about the atomic step with which a node makes a request: the node swaps its number into the home word. If the
+-- home word was 0, the turn of the request has come. Otherwise, the node must still link the request to the previous
+-- one.
 use Rattle.std.proofs.Common.{◌≡◌, ◌≢◌, ◌||◌, slice_get, ℕ, ◌+◌, ◌<◌, ◌≤◌, List, [], ◌∷◌, ◌++◌, length, set, slice_index, true, sym, refl, ap, ◌∙◌, subst, arith, Some, get_or-set_same}
 use mathlib.Core.Option.{some, none}
 use mathlib.Core.Logic.{dite}

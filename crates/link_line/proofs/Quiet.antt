@@ -1,4 +1,5 @@
--- Lemmas about an event after which its node neither has the line nor is about to link or to free others.
+-- Lemmas about an event after which the node of the event does not have the line, and is not about to link its request
+-- or to free other nodes.
 use Rattle.std.proofs.Common.{◌≡◌, ◌≢◌, ℕ, Bool, true, false, ◌||◌, List, [], ◌∷◌, sym, refl, ap, ◌∙◌, subst}
 use mathlib.Core.Option.{some}
 use lib.ListN.{get_elem?}

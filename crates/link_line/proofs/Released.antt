@@ -1,4 +1,4 @@
--- Lemmas about a complete release: its first state, and the state after it.
+-- Lemmas about the state in which a release begins, and the state in which it is over.
 use Rattle.std.proofs.Common.{◌≡◌, inl, inr, ℕ, suc, ◌+◌, ◌≤◌, Bool, false, length, List, [], ◌∷◌, ◌++◌, sym, refl, ap, ◌∙◌, subst, Some, arith, replicate, append_assoc, length-append}
 use Rattle.std.proofs.lemmas.Bool.{cases_Bool}
 use Rattle.qolb_model.specs.declared.answer.PortState.TheVariants as port_state

@@ -1,5 +1,5 @@
--- Lemmas shared by the proofs of a release's steps: after each step, either the turn has ended, or the line is still in
--- the node's hand.
+-- Lemmas that the proofs about the steps of a release share. After each of these steps, either the turn of the
+-- releasing node has ended, or this node still has the line.
 use Rattle.std.proofs.Common.{◌≡◌, ◌≢◌, ◌⊎◌, inl, inr, ℕ, ◌+◌, ◌<◌, ◌≤◌, Bool, true, false, List, [], ◌∷◌, ◌++◌, length, map, sym, refl, ap, ◌∙◌, subst, Some, slice_get, arith, length-append}
 use mathlib.Core.Option.{some}
 use lib.ListN.{get_elem?}

@@ -1,4 +1,5 @@
--- Proof about a node that, before its next request, clears its entry and checks whether its last request is clear.
+-- Proof about what a node does before its next request. The node checks whether its last request is clear, and sets its
+-- entry back to 0.
 use Rattle.std.proofs.Common.{◌≡◌, ◌⊎◌, ℕ, ◌≤◌, List, [], ◌∷◌, set, slice_index, true, false, sym, refl, ap, ◌∙◌, subst, inl, inr, arith, get_or-set_same}
 use mathlib.Core.Option.{some, none}
 use lib.ListN.{get_elem?}

@@ -1,4 +1,4 @@
--- Lemmas which combine several consecutive steps into one.
+-- Lemmas which combine several consecutive atomic steps of a node into one.
 use Rattle.std.proofs.Common.{ℕ, ◌+◌, ◌∙◌, List, sym, ap, arith}
 use Rattle.qolb_model.proofs.Agreeing.{extends_trans}
 use Rattle.qolb_model.proofs.Going.{extends_self}

@@ -1,4 +1,5 @@
--- Lemmas about how an event of the core changes the seat of its node.
+-- Lemmas about how an event of the core changes the seat of the node to which the event belongs. The core is a state
+-- machine that models the link line.
 use Rattle.std.proofs.Common.{◌≡◌, ◌≢◌, ℕ, ◌+◌, ◌<◌, ◌≤◌, inl, inr, Bool, true, false, List, [], ◌∷◌, length, map, ◌++◌, set, sym, refl, ap, ◌∙◌, subst, Some, None, slice_get}
 use mathlib.Core.Option.{some}
 use mathlib.Core.List.{IsPrefix}

@@ -1,4 +1,4 @@
--- How the phase of a node between its calls depends on the state of its port.
+-- Defines the phase of a node between two calls, for each state of the node's port.
 use Rattle.std.specs.Prelude.{◌≡◌, ℕ, ◌+◌, ◌-◌, ◌*◌, ◌≤◌, List, [], Option, Some, None, if◌then◌else◌}
 use Rattle.qolb_model.specs.declared.answer.PortState.{PortState}
 use Rattle.qolb_model.specs.declared.answer.PortState.TheVariants as port_state

@@ -1,6 +1,6 @@
--- What a release requires of the holder's seat and ensures for it, and the effect of the part of a release that skips
--- withdrawn requests. There is one record for each of the two. The line has `many` nodes, and its table has the number
--- `id`.
+-- What a release requires of the seat of the node that holds the line, and what the release ensures for this seat. The
+-- file states the same for the part of a release that skips withdrawn requests. In the records, `many` is the number of
+-- the line's nodes, and `id` is the number of its table.
 use Rattle.std.specs.Prelude.{◌≡◌, ℕ, ◌+◌, ◌*◌, ◌<◌, ◌≤◌, List, [], ◌∷◌, length, Bool}
 use Rattle.atomic_table.specs.Seated.{TableId}
 use Rattle.qolb_model.specs.declared.config.TheConstants.{MAX_NODES}

@@ -1,4 +1,4 @@
--- The ghost state of a node of the link line, to which the invariant refers.
+-- The ghost state of a node of the link line. The invariant of the table refers to this ghost state.
 use Rattle.std.specs.Prelude.{false, [], None}
 use Rattle.line_lanes.specs.declared.line.Mask.{Mask}
 use Rattle.line_generic.specs.declared.table.NodeGhost.{NodeGhost}

@@ -1,4 +1,4 @@
--- The theorems that every queue algorithm must prove, stated for the link line.
+-- The theorems that must be proved for every queue algorithm, here for the link line.
 pub mod PortModel
 pub mod Histories
 pub mod Nodes

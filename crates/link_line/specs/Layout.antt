@@ -1,4 +1,4 @@
--- The words of the table: their places, and the contents of an entry.
+-- The places of the words in the table of a link line, and the fields of the word that is a node's entry.
 use Rattle.std.specs.Prelude.{◌≡◌, ℕ, ◌+◌, ◌*◌, ◌/◌, ◌%◌, ◌<◌, ◌≤◌, ◌==◌, Bool, true, false, List, slice_index}
 use Rattle.qolb_model.specs.declared.config.TheConstants.{MAX_NODES}
 use Rattle.link_core.specs.declared.entry.Entry.{Entry}

@@ -1,5 +1,5 @@
--- The invariant of the link line's table: its words and its slot are those of a core, and the core shows one queue of
--- the line (a refinement mapping).
+-- The invariant of the link line's table. The words and the slot of the table represent a state of the core, and this
+-- state represents a single queue of requests (a refinement mapping).
 use Rattle.std.specs.Prelude.{◌≡◌, ◌⊎◌, ℕ, ◌+◌, ◌<◌, ◌≤◌, Bool, true, false, List, [], ◌∷◌, map, length, slice_index, slice_get, Some}
 use mathlib.Core.List.{IsPrefix}
 use mathlib.Core.Option.{some}

@@ -1,4 +1,4 @@
-//! Makes a request for a node, with one call or with two.
+//! Makes a request for a node, either in a single call or in two calls.
 ghost use Rattle.std.specs.Prelude.{◌≡◌, ◌≢◌, ℕ, ◌+◌, ◌≤◌, IsTrue, true, false};
 ghost use Rattle.qolb_model.specs.Enqueueing.{IsBusy, Asks, IsJoined};
 ghost use Rattle.qolb_model.specs.PortStates as states;

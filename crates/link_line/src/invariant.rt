@@ -1,4 +1,5 @@
-//! The type that represents the link line's queue algorithm, its ghost state, and its invariant.
+//! The type `LinkQueue`, which represents the queue algorithm of the link line. This file also defines the ghost state
+//! and the invariant of the queue algorithm.
 ghost use Rattle.link_line.specs.Laws.PortModel as port_model;
 ghost use Rattle.link_line.specs.BetweenCalls as between_calls;
 ghost use Rattle.link_line.specs.Layout as layout;
@@ -8,7 +9,7 @@ use line_generic::{DisciplineInvariant, DisciplineSpec, Line, LineSeat, NodeGhos
 use qolb_model::Keep;
 use std::collections::LinkedList;
 
-/// A list-based queue lock: an MCS swap of the home word, with links that the younger of two neighbours makes later.
+/// A queue lock whose queue is a linked list, as in an MCS lock. A node links itself to its predecessor.
 ///
 /// A request is one swap of the home word, which names the newest requester. Later the requester links itself: it adds
 /// its number to the predecessor's entry. A release looks at its own entry once and never waits for the link. If the

@@ -1,5 +1,5 @@
-//! The words of a link line's table and what they contain. Any two words are at least 64 bytes apart, so no two of them
-//! share a cache line of 64 bytes.
+//! The words of a link line's table, and what these words contain. Any two words are at least 64 bytes apart, so no two
+//! of them share a cache line of 64 bytes.
 ghost use Rattle.std.specs.Prelude.{◌≡◌, ◌≢◌, ℕ, ◌+◌, ◌<◌, ◌≤◌};
 ghost use Rattle.qolb_model.specs.declared.config.TheConstants.{MAX_NODES};
 ghost use Rattle.line_generic.specs.declared.elsewhere.TheConstants.{NO_WORD};

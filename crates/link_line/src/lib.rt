@@ -1,8 +1,8 @@
-//! The link line: its waiting nodes form a linked list, and the line is handed over along this list. Of two neighbours
-//! in the list, the node that came later makes the link.
+//! The link line is a queue lock whose waiting nodes form a linked list. The line is handed over from node to node
+//! along this list. Each node links itself to the node before it.
 //!
-//! A release never waits for a missing link. Instead it leaves the line in its own entry, and the node that links later
-//! takes the line from there.
+//! A release never waits for a missing link. Instead, the releasing node leaves the line in its own entry, and the node
+//! that links later takes the line from there.
 #![tactic(auto)]
 
 mod discipline;

@@ -1,4 +1,4 @@
-//! The ghost state of a node of the link line, which exists only in proofs.
+//! The ghost state of a link line's node. Ghost state exists only in proofs.
 use line_generic::Payload;
 use link_core::NodeCall;
 use std::collections::LinkedList;

@@ -1,4 +1,4 @@
-//! The kinds of atomic steps, each with the change of ghost state that it makes.
+//! The kinds of atomic steps of a link line. Each kind determines how the step changes the ghost state.
 ghost use Rattle.link_line.specs.Steps.{readied, prepended, linked, loaded, loaded_last, homed, marked, granted, rolled, freed};
 
 use crate::invariant::NodeGhosts;

@@ -1,7 +1,7 @@
-//! Releases the line: it hands the line to the next node, or skips withdrawn successors first.
+//! Releases the line. A release skips successors that have withdrawn, and hands the line to the next node.
 //!
-//! The releasing node's request ends with the atomic step that gives up the line or skips a successor. That step is a
-//! `home` that finds no successor, a `done` that finds no link, or the first `grant`.
+//! The request of the releasing node ends with the first atomic step that gives up the line or skips a successor. This
+//! is a step `home` that finds no successor, a step `done` that finds no link, or the first step `grant`.
 ghost use Rattle.std.specs.Prelude.{◌≡◌, ◌≢◌, ℕ, ◌+◌, ◌*◌, ◌<◌, ◌≤◌, [], length};
 ghost use Rattle.qolb_model.specs.declared.config.TheConstants.{MAX_NODES};
 ghost use Rattle.qolb_model.specs.PortStates as states;

@@ -1,24 +1,27 @@
-//! The atomic steps of the link line. Each step is one sequentially consistent operation on one word. This operation
-//! takes a type argument from the module `plays`, which is the change of ghost state that belongs to the step.
+//! The atomic steps of the link line. Each step is one sequentially consistent operation on one word. The operation has
+//! a type argument from the module `plays`, which determines how the step changes the ghost state.
 //!
-//! - A *node* is a user of the line. What an MCS lock calls the queue node is one word here, which is called the node's
-//!   *entry*.
-//! - A *seat* is a node's access to the shared table. A seat contains the ghost state of the node (`me.0`, a list with
-//!   one element: `IsOfOneNode`), and the slot with the line while the seat has the line (`me.1`).
-//! - The *home word* names the last node of the queue, as the tail of an MCS lock does, and is 0 if the line is at
-//!   home. The line's 64 bytes stay in one slot: "at home" and "left in an entry" only determine whose next step takes
-//!   them. A holder works on a copy in its port, and its release stores the copy back before its first step.
-//! - A *late linker* is a node that has swapped the home word, but has not yet linked to its predecessor.
-//! - A request is *at its turn* once the line was granted to it, left for it, or found at home. From the step that
-//!   finds this on, the seat of the request's node *has* the line. The node's port *holds* the line only if the line is
-//!   not closed.
+//! - A *node* is a user of the line. The *entry* of a node is a single word, which corresponds to the queue node of an
+//!   MCS lock.
+//! - A *seat* is a node's access to the shared table. The part `me.0` of a seat is the ghost state of the node, as a
+//!   list with one element (`IsOfOneNode`). The part `me.1` contains the slot while the seat has the line.
+//! - The *home word* corresponds to the tail of an MCS lock. It names the last node of the queue, and is 0 if the line
+//!   is at home.
+//! - The line's 64 bytes always stay in the same slot. Whether the line is "at home" or "left in an entry" only
+//!   determines which node's next step takes the bytes. A holder works on a copy of the bytes in its port, and stores
+//!   this copy back into the slot before the first step of its release.
+//! - A *late linker* is a node that has swapped its number into the home word, but has not yet linked its request to
+//!   the previous one.
+//! - A request is *at its turn* once the line was granted to the request, left for it, or found at home. Once a step of
+//!   the request's node has found this, the node's seat *has* the line. The node's port *holds* the line only if the
+//!   line is not closed.
 //! - A request is *joined* once it no longer needs a link, because it found the line at home or is already linked.
-//! - The *current request* of a release is at first the releasing node's own. To *pass* a withdrawn successor is to
-//!   make the successor's request the current one, and to continue from its entry with the line. The step that passes
-//!   the next successor or gives up the line ends the current request.
-//! - A node's last request is *clear* once no other node will use the node's entry because of it. Then the answer to
-//!   the node's next request is not `Busy`.
-//! - The `count` of a view is the number of its node's requests.
+//! - The *current request* of a release is at first the releasing node's own request. When a release *passes* a
+//!   withdrawn successor, the successor's request becomes the current one, and the release continues with the line from
+//!   the successor's entry. The current request ends with the step that passes the next successor or gives up the line.
+//! - A node's last request is *clear* once no other node will use the node's entry because of this request. From then
+//!   on, the answer to the node's next request is not `Busy`.
+//! - The `count` of a view is the number of requests that the node of the view has made.
 //! - A node's *point* determines which step the node takes next:
 //!
 //! ```text

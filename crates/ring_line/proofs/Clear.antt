@@ -1,4 +1,4 @@
--- Proof about the step with which a node that has the line clears the cell at its turn.
+-- Proof about the atomic step with which the node that has the line clears the cell of the request whose turn it is.
 use Rattle.std.proofs.Common.{◌≡◌, ◌≢◌, ◌⊎◌, ℕ, ◌+◌, ◌<◌, List, [], ◌∷◌, length, set, true, sym, refl, ap, ◌∙◌, ⊎_elim, arith, mod-lt}
 use mathlib.Core.Option.{none, some}
 use lib.ListN.{get_elem?}

@@ -1,4 +1,4 @@
--- Lemmas about a release that skips withdrawn requests, and clears each cell before it grants the next one.
+-- Lemmas about a release that skips withdrawn requests. The release clears each cell before it grants the next cell.
 use Rattle.std.proofs.Common.{◌≡◌, ◌≢◌, ℕ, ◌+◌, ◌*◌, ◌≤◌, List, [], ◌∷◌, ◌++◌, length, sym, ap, ◌∙◌, subst, arith, refl, length-append}
 use Rattle.qolb_model.specs.declared.config.TheConstants.{MAX_NODES}
 use Rattle.qolb_model.specs.PortStates.{state_after}

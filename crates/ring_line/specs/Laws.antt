@@ -1,5 +1,5 @@
--- The theorems about tables of tickets and cells that are specific to a ring. This file is in `specs`, because the
--- proof of a theorem may not name anything from `proofs`.
+-- The theorems about the tables of array locks that are specific to the ring. This file is in `specs`, because the
+-- proof of a theorem may not refer to anything in `proofs`.
 use Rattle.std.proofs.Common.{◌≡◌, ℕ, ◌+◌, ◌^◌, ◌<◌, ◌≤◌, List, false, arith}
 use Rattle.qolb_model.specs.declared.config.TheConstants.{MAX_NODES}
 use Rattle.line_cells.specs.declared.layout.TheConstants.{CELLS}

@@ -1,4 +1,4 @@
--- The contents of the words in a ring's table.
+-- The contents of the words in the table of a ring.
 use Rattle.std.specs.Prelude.{ℕ, ◌/◌, List, Bool, not, ◌==◌}
 use Rattle.line_cells.specs.declared.layout.TheConstants.{CELLS}
 use Rattle.line_cells.specs.Layout as array

@@ -1,4 +1,4 @@
--- The invariant of a ring's table.
+-- The invariant of the table of a ring.
 use Rattle.std.specs.Prelude.{◌≡◌, ℕ, ◌+◌, ◌*◌, ◌<◌, List, Bool, true}
 use Rattle.line_generic.specs.declared.table.TableKey.{TableKey}
 use Rattle.line_cells.specs.declared.layout.TheConstants.{CELLS}

@@ -1,4 +1,4 @@
--- What each atomic step reveals to the port that takes it, as far as that is specific to the ring.
+-- What a port of a ring learns from each atomic step that it takes, as far as this differs from other array locks.
 use Rattle.std.specs.Prelude.{◌≡◌, ◌≢◌, ℕ, ◌+◌, ◌%◌, ◌^◌, List, [], ◌∷◌, length}
 use Rattle.atomic_table.specs.Table.{Step}
 use Rattle.atomic_table.specs.Seated.{TableId}

@@ -1,4 +1,5 @@
-//! The type that represents the ring's queue algorithm, its ghost state, and its invariant.
+//! The type `RingQueue`, which represents the queue algorithm of the ring. This file also defines the ghost state and
+//! the invariant of the queue algorithm.
 ghost use Rattle.line_generic.specs.Slots.{in_single_slot, open_in_single_slot};
 ghost use Rattle.ring_line.specs.Layout.{cell_of};
 ghost use Rattle.line_cells.specs.declared.layout.TheConstants.{CELLS};
@@ -11,7 +12,7 @@ use line_cells::Local;
 use line_generic::{DisciplineInvariant, DisciplineSpec, LineSeat, Parking};
 use qolb_model::Keep;
 
-/// An array queue lock (Anderson 1990) that also hands over the line, with withdrawal.
+/// An array queue lock (Anderson 1990) that also hands over the line. Nodes can withdraw their requests.
 ///
 /// Nodes take tickets, and each node waits on a cell of its own. The invariant says: (1) The requests form one order,
 /// and a prefix of them has ended. (2) While no node has the line, its bytes after those ends are in the slot, and the

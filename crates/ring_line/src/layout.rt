@@ -1,4 +1,4 @@
-//! The contents of the words in a ring's table.
+//! The contents of the words in the table of a ring.
 ghost use Rattle.std.specs.Prelude.{◌≡◌, ◌≢◌, ◌+◌, ◌<◌, length, MatchBool, IfOk};
 ghost use Rattle.line_cells.specs.declared.layout.TheConstants.{CELLS};
 ghost use Rattle.line_cells.specs.Layout as array;

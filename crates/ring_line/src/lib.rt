@@ -1,7 +1,8 @@
-//! The ring: an array lock that hands over a line. A node draws a ticket, and waits on a cell of its own.
+//! The ring is an array lock that hands over a line, which consists of 64 bytes, together with the lock. A node draws a
+//! ticket, and waits on a cell of its own.
 //!
-//! The holder clears its cell and then grants the next one. A node that withdraws leaves its number in its cell, where
-//! a later release finds it.
+//! To release the line, the holder clears its cell and then grants the next cell. A node that withdraws its request
+//! writes its number into its cell, where a later release finds the number.
 #![tactic(auto)]
 
 mod discipline;

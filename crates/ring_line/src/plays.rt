@@ -1,4 +1,4 @@
-//! The kinds of atomic steps on a cell, each with the change of ghost state that it makes.
+//! The kinds of atomic steps on a cell. Each kind determines how the step changes the ghost state.
 ghost use Rattle.ring_line.specs.Steps.{loaded, rolled, cleared, granted};
 
 use atomic_table::Play;

@@ -1,4 +1,5 @@
-//! Releases the line: the holder clears its cell, grants the next cell, and skips withdrawn requests.
+//! Releases the line. The holder clears its cell and grants the next cell. If the request at that cell is withdrawn,
+//! the release skips the request and continues from there.
 ghost use Rattle.std.specs.Prelude.{◌≡◌, ◌≢◌, ◌+◌, [], length};
 ghost use Rattle.qolb_model.specs.declared.config.TheConstants.{MAX_NODES};
 ghost use Rattle.line_generic.specs.Steps.{IsSeatOf};

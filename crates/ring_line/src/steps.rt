@@ -1,20 +1,21 @@
-//! The atomic steps of the ring. Each step is one sequentially consistent operation on one word. This operation takes a
-//! type argument, its *play*, which is the change of ghost state that belongs to the step.
+//! The atomic steps of the ring. Each step is one sequentially consistent operation on one word. The operation has a
+//! type argument, called its *play*, which determines how the step changes the ghost state.
 //!
-//! - A *node* is a user of the line. To *free* a node is to set its *node word*, which is 0 until then. From then on
-//!   the node's withdrawn request is clear.
-//! - A *seat* is a node's access to the shared table. A seat contains the ghost state of the node (`me.0`, a list with
-//!   one element: `IsOfOneNode`), and the slot with the line while the seat has the line (`me.1`).
-//! - A *cell* is the word on which a request waits (a slot in Anderson's lock). A cell contains 0, `GRANTED`,
-//!   `WITHDRAWN_UNIT` times the number of the node that withdrew there, or the sum of the last two. The *slot* contains
-//!   the line's 64 bytes and a flag for a closed line.
-//! - A request is *at its turn* once its cell is granted. From the step that finds this grant on, the seat of the
-//!   request's node *has* the line. The node's port *holds* the line only if the line is not closed.
-//! - To *pass* a withdrawn request is to continue from its cell with the line. Each grant ends the request at its turn:
-//!   first the releasing node's own request, then each request that was passed.
-//! - A node's last request is *clear* once no other node will use the node's word because of it. Then the answer to the
-//!   node's next request is not `Busy`.
-//! - The `count` of a view is the number of its node's requests.
+//! - A *node* is a user of the line. Each node has a *node word*, which is 0 until a release *frees* the node by
+//!   setting this word. Once a node is freed, its withdrawn request is clear.
+//! - A *seat* is a node's access to the shared table. The part `me.0` of a seat is the ghost state of the node, as a
+//!   list with one element (`IsOfOneNode`). The part `me.1` contains the slot while the seat has the line.
+//! - A *cell* is the word on which a request waits. A cell contains 0, `GRANTED`, the product of `WITHDRAWN_UNIT` and
+//!   the number of the node that withdrew there, or the sum of `GRANTED` and this product.
+//! - The *slot* contains the line's 64 bytes, and a flag that is set if the line is closed.
+//! - A request is *at its turn* once its cell is granted. Once a step of the request's node has found this grant, the
+//!   node's seat *has* the line. The node's port *holds* the line only if the line is not closed.
+//! - A release *passes* a withdrawn request if it keeps the line and continues from the cell of this request. Each
+//!   grant ends the request at its turn. The first grant of a release ends the releasing node's own request, and each
+//!   further grant ends a request that the release has passed.
+//! - A node's last request is *clear* once no other node will use the node's word because of this request. From then
+//!   on, the answer to the node's next request is not `Busy`.
+//! - The `count` of a view is the number of requests that the node of the view has made.
 ghost use Rattle.std.specs.Prelude.{◌≡◌, ◌≢◌, ◌⊎◌, ℕ, ◌≤◌, ◌∷◌, [], List, true, false};
 ghost use Rattle.qolb_model.specs.declared.request.Request.{Request};
 ghost use Rattle.qolb_model.specs.Requests.{Has};

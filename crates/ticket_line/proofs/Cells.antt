@@ -1,4 +1,4 @@
--- Lemmas about the contents of a cell after each step on it.
+-- Lemmas about how each atomic step on a cell changes the contents of the cell.
 use Rattle.std.proofs.Math.Nat.{add-mod_right}
 use Rattle.std.proofs.Common.{◌≡◌, ◌≢◌, ℕ, ◌+◌, ◌-◌, ◌/◌, ◌%◌, ◌^◌, ◌<◌, ◌≤◌, Bool, sym, refl, ap, ◌∙◌, subst, arith}
 use mathlib.Core.Logic.{dite}

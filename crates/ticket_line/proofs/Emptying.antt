@@ -1,4 +1,4 @@
--- Lemmas about how the slots of a table are emptied, one after another, once no other thread shares the table.
+-- Lemmas about emptying the slots of a table one after another, once no other thread shares the table.
 use Rattle.std.proofs.Common.{◌≡◌, ◌≢◌, ℕ, zero, suc, ◌+◌, ◌<◌, ◌≤◌, List, [], ◌∷◌, Bool, true, false, set, slice_index, slice_index_or, sym, refl, ap, ◌∙◌, subst, arith, get_or-set_other}
 use mathlib.Core.Logic.{dite}
 use mathlib.Core.Option.{some, some-ne-none}

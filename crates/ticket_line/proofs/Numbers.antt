@@ -1,4 +1,4 @@
--- Lemmas about the numbers of tickets, and about what a cell reveals about them.
+-- Lemmas about the numbers of tickets, and about the ticket number that a cell contains.
 use Rattle.std.proofs.Common.{◌≡◌, ◌≢◌, ℕ, ◌+◌, ◌-◌, ◌*◌, ◌/◌, ◌%◌, ◌^◌, ◌<◌, ◌≤◌, Bool, if◌then◌else◌, sym, ap, ◌∙◌, arith, eq-eqb, ne_eqb}
 use native.Mathlib.Nat.{mod-add-mod}
 use lib.Pow.{mod-mod-pow}

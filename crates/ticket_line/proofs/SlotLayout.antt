@@ -1,4 +1,4 @@
--- What a ticket line proves about its slots.
+-- Proofs of the theorems that `line_cells` requires about the slots of an array lock, for the ticket line.
 use Rattle.std.proofs.Common.{◌≡◌, ◌≢◌, ℕ, ◌+◌, ◌<◌, [], ◌∷◌, length, set, refl, sym, ap, ◌∙◌, subst, inl, inr, ⊎_elim, arith, length-set, mod-lt}
 use mathlib.Core.Logic.{dite}
 use mathlib.Core.Option.{none, some}

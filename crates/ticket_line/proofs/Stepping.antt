@@ -1,4 +1,4 @@
--- Lemmas about the steps on cells that the table allows to a node which knows how many nodes the line has.
+-- Lemmas about the atomic steps on cells that a node may take if it knows how many nodes the line has.
 use Rattle.std.proofs.Common.{◌≡◌, ℕ, ◌+◌, ◌≤◌, true, List, [], ◌∷◌, length, sym, ap, ◌∙◌, subst}
 use mathlib.Core.Option.{none}
 use Rattle.atomic_table.specs.Table.{Allows, step}

@@ -1,4 +1,4 @@
--- Lemmas about a release that skips withdrawn requests, ticket by ticket.
+-- Lemmas about a release that skips withdrawn requests, one ticket after another.
 use Rattle.std.proofs.Common.{◌≡◌, ◌≢◌, ℕ, ◌+◌, ◌≤◌, List, [], ◌∷◌, ◌++◌, length, sym, ap, ◌∙◌, subst, length-append}
 use Rattle.qolb_model.specs.declared.config.TheConstants.{MAX_NODES}
 use Rattle.qolb_model.specs.PortStates.{state_after}

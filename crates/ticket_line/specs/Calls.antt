@@ -1,5 +1,6 @@
--- What each step of a release requires of the holder's seat and ensures for it. There is one record for each step, with
--- parameters for the table `t` and for the changes `allows` that the line's data invariant permits.
+-- What each part of a release requires of the seat of the releasing node, and what this part ensures for the seat.
+-- There is one record for each part. The parameters of the records are the table `t`, and the changes `allows` that the
+-- line's data invariant permits.
 use Rattle.std.specs.Prelude.{◌≡◌, ◌≢◌, ◌⊎◌, ℕ, ◌+◌, ◌*◌, ◌≤◌, List, [], ◌∷◌, length}
 use Rattle.qolb_model.specs.declared.config.TheConstants.{MAX_NODES}
 use Rattle.qolb_model.specs.declared.request.Request.{Request}

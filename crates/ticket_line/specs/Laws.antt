@@ -1,5 +1,5 @@
--- The theorems about tables of tickets and cells that are specific to the ticket line. This file is in `specs`, because
--- the proof of a theorem may not name anything from `proofs`.
+-- The theorems about the tables of array locks that are specific to the ticket line. This file is in `specs`, because
+-- the proof of a theorem may not refer to anything in `proofs`.
 use Rattle.std.proofs.Common.{◌≡◌, ℕ, ◌+◌, ◌-◌, ◌/◌, ◌%◌, ◌^◌, ◌<◌, ◌≤◌, List, [], ◌∷◌, Option, set, slice_index, false, refl, sym, ap, ◌∙◌, subst, arith, length-set, mod-lt}
 use Rattle.std.proofs.Math.Nat.{mod-eq_of_lt}
 use mathlib.Core.Option.{some}

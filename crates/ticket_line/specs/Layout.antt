@@ -1,4 +1,4 @@
--- The contents of the words in a ticket line's table.
+-- The contents of the words in the table of a ticket line.
 use Rattle.std.specs.Prelude.{◌≡◌, ◌<◌, ℕ, ◌+◌, ◌-◌, ◌*◌, ◌/◌, ◌%◌, ◌^◌, List, Bool, ◌==◌, if◌then◌else◌}
 use Rattle.line_cells.specs.Counting.{cells_for}
 use Rattle.line_cells.specs.Layout as array

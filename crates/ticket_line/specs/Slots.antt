@@ -1,4 +1,4 @@
--- The slots of a ticket line with n nodes: one slot for each cell.
+-- The slots of a ticket line. There is one slot for each cell, and the number of cells depends on the number of nodes.
 use Rattle.std.specs.Prelude.{◌≡◌, ◌⊎◌, ℕ, List, [], ◌∷◌, Option, slice_index, false}
 use Rattle.line_generic.specs.declared.table.Payload.{Payload}
 use Rattle.line_generic.specs.Slots.{Slots}

@@ -1,4 +1,4 @@
--- The invariant of a ticket line's table.
+-- The invariant of the table of a ticket line.
 use Rattle.std.specs.Prelude.{◌≡◌, ℕ, ◌+◌, ◌/◌, ◌<◌, List, Bool, false}
 use Rattle.line_generic.specs.declared.table.TableKey.{TableKey}
 use Rattle.line_cells.specs.Counting.{cells_for}

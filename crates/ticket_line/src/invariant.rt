@@ -1,4 +1,5 @@
-//! The type that represents the ticket line's queue algorithm, its ghost state, and its invariant.
+//! The type `TicketQueue`, which represents the queue algorithm of the ticket line. This file also defines the ghost
+//! state and the invariant of the queue algorithm.
 ghost use Rattle.ticket_line.specs.Slots as slots;
 ghost use Rattle.line_cells.specs.Layout.{ticket_of};
 ghost use Rattle.line_cells.specs.Counting.{cells_for};
@@ -11,7 +12,7 @@ use line_cells::Local;
 use line_generic::{DisciplineInvariant, DisciplineSpec, LineSeat, Parking};
 use qolb_model::Keep;
 
-/// A partitioned ticket lock (Dice 2011) that also hands over the line, with withdrawal.
+/// A partitioned ticket lock (Dice 2011) that also hands over the line. Nodes can withdraw their requests.
 ///
 /// Nodes take tickets, and each node waits on a cell of its own for its ticket's number. The invariant says: (1) The
 /// requests form one order, and a prefix of them has ended. (2) While no node has the line, its bytes after those ends

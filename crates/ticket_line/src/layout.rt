@@ -1,4 +1,4 @@
-//! The contents of the words in a ticket line's table.
+//! The contents of the words in the table of a ticket line.
 ghost use Rattle.std.specs.Prelude.{◌≡◌, ◌≢◌, ◌<◌, ◌≤◌, length, MatchBool, IfOk};
 ghost use Rattle.qolb_model.specs.declared.config.TheConstants.{MAX_NODES};
 ghost use Rattle.line_cells.specs.declared.layout.TheConstants.{CELLS};

@@ -1,8 +1,8 @@
-//! The ticket line: a partitioned ticket lock that hands over a line. A node draws a ticket, and waits on a cell until
-//! the cell contains the ticket's number.
+//! The ticket line is a partitioned ticket lock that hands over a line, which consists of 64 bytes, together with the
+//! lock. A node draws a ticket, and waits on a cell until this cell contains the number of the ticket.
 //!
-//! Several tickets share a cell, but at most one of them waits at any time. Cells are never cleared, so a release takes
-//! only one swap if no successor has withdrawn.
+//! Several tickets use the same cell, but at most one of them waits at any time. Cells are never cleared, so a release
+//! takes only one swap if no successor has withdrawn.
 #![tactic(auto)]
 
 mod discipline;

@@ -1,4 +1,4 @@
-//! Releases the line, and prepares the next request of a node that has withdrawn its last one.
+//! Releases the line. This file also contains what a node with a withdrawn request does before its next request.
 ghost use Rattle.std.specs.Prelude.{◌≡◌, ◌≢◌, ◌+◌, ◌*◌};
 ghost use Rattle.qolb_model.specs.declared.config.TheConstants.{MAX_NODES};
 ghost use Rattle.line_cells.specs.Steps.{IsAt, ghost_of, SeatAdvances};

@@ -1,4 +1,4 @@
-//! The slots of a ticket line: the copy that a holder has of its own slot, and the last slot of a table that is
+//! Copies the line from the slot of a holder's ticket, and takes the line out of the last slot when the line is
 //! finished.
 ghost use Rattle.std.specs.Prelude.{◌≡◌};
 ghost use mathlib.Core.Option.{some};

@@ -1,4 +1,5 @@
--- The invariant of the nodes implies that the views of their ports agree with one history.
+-- Proof that what the ports know about a line (their views) agrees with a single history of the line. The proof uses
+-- the invariant of each node.
 use Rattle.std.proofs.Common.{◌≡◌, ◌⊎◌, ℕ, ◌+◌, ◌<◌, ◌≤◌, inl, inr, ⊎_elim, Bool, true, false, List, [], ◌∷◌, length, sym, refl, ap, ◌∙◌, subst, Some, arith, ne_eqb}
 use Rattle.std.specs.Prelude.{not}
 use Rattle.std.proofs.lemmas.Bool.{cases_lt}

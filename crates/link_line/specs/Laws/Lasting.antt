@@ -1,4 +1,5 @@
--- The final table, in which one seat has the views of all nodes, and no request is open.
+-- Theorems about the table of a line that is being finished. One seat then has the views of all nodes, and no request
+-- is open.
 use Rattle.std.proofs.Common.{◌≡◌, ℕ, ◌≤◌, List, length, Bool, true, false, sym, refl, ap, ◌∙◌, subst}
 use mathlib.Core.Option.{some}
 use lib.ListN.{get_elem?}

@@ -1,5 +1,5 @@
--- Theorems about two ports whose views are in the same seat: what the view of one port implies about the view of the
--- other.
+-- Theorems about two ports whose views are in the same seat. They state what the view of one port implies about the
+-- view of the other port.
 use Rattle.std.proofs.Common.{◌≡◌, ◌≢◌, ℕ, ◌≤◌, inl, inr, List, [], ◌∷◌, ◌++◌, set, slice_index, sym, refl, ap, ◌∙◌, subst, arith, length-set}
 use mathlib.Core.List.{IsPrefix}
 use mathlib.Core.Option.{none, some}

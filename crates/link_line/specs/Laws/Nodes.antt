@@ -1,4 +1,4 @@
--- The part of the invariant that concerns the node of a seat with exactly one node.
+-- The part of the invariant that concerns a single node, for a seat that contains only this node.
 use Rattle.std.proofs.Common.{◌≡◌, ℕ, ◌<◌, ◌≤◌, List, [], ◌∷◌, sym, refl, subst}
 use mathlib.Core.Option.{some}
 use lib.ListN.{get_elem?}

@@ -1,4 +1,5 @@
--- Theorems which state that the phases of a node are consistent, and that its steps can be counted.
+-- Theorems about the phases of a node between two calls, the number of atomic steps that a call takes, and the word on
+-- which the next holder waits.
 use Rattle.std.proofs.Common.{◌≡◌, ◌^◌, ◌<◌, ◌≤◌, ℕ, Bool, Option, Some, None, if◌then◌else◌, length, refl, sym, ap, ◌∙◌, arith}
 use Rattle.qolb_model.specs.declared.answer.PortState.{PortState}
 use Rattle.qolb_model.specs.declared.answer.PortState.TheVariants as port_state

@@ -1,4 +1,4 @@
--- How seats are created when a line is opened, and how they are split and joined.
+-- Theorems about how seats are created when a line is opened, and how seats are split and joined.
 use Rattle.std.proofs.Common.{◌≡◌, ℕ, ◌-◌, List, [], ◌∷◌, ◌++◌, length, false, inl, inr, sym, refl, ap, ◌∙◌, subst, arith}
 use Rattle.std.proofs.lemmas.List.{length-replicate}
 use Rattle.atomic_table.specs.Table.{Splits, Joins, opening}

@@ -1,4 +1,4 @@
--- A `TurnMask` may move to another thread, because it owns nothing.
+-- A `TurnMask` may be sent to another thread, because it owns nothing.
 use denote.Param.Send.{IsSend, owning_send}
 use Rattle.line_generic.specs.contracts.turn_mask.TurnMask.{the_row, the_type}
 

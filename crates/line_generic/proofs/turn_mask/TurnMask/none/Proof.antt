@@ -1,4 +1,4 @@
--- Proof that `none` returns the value without bytes, and that its mask is empty.
+-- Proof that `none` returns a value without bytes, and that the mask of this value is empty.
 use Rattle.std.proofs.Common.{[], ◌∷◌, refl}
 use Rattle.std.proofs.raw_atomic.Walks.{proved}
 use base.Fml.{ftrue}

@@ -1,4 +1,4 @@
--- Proof that `same` returns the value without bytes, and that its mask is unchanged.
+-- Proof that `same` returns a value without bytes, and that this value has the same mask.
 use Rattle.std.proofs.Common.{[], ◌∷◌, refl}
 use Rattle.std.proofs.raw_atomic.Walks.{proved}
 use base.Fml.{ftrue}

@@ -1,4 +1,5 @@
--- Proof that `with` returns the value without bytes, and that the places of a write are added to its mask.
+-- Proof that `with` returns a value without bytes, and that the mask of this value also contains the places of the
+-- write.
 use Rattle.std.proofs.Common.{bit_or, [], ◌∷◌, refl}
 use Rattle.std.proofs.raw_atomic.Walks.{proved}
 use base.Fml.{ftrue}
