@@ -1,4 +1,4 @@
-//! The answers of the calls on locks, as C code receives them.
+//! The answers that calls on locks return to C code.
 
 /// The answer of a call. C reads it as this number.
 #[derive(Clone, Copy, Debug, PartialEq, Eq)]

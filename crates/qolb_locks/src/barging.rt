@@ -1,6 +1,7 @@
-//! Barging: a ticket takes the lock word without a number in the queue, and so its thread overtakes the queue.
+//! Barging: a thread takes the lock word without drawing a number in the queue, and thereby overtakes the waiting
+//! threads.
 //!
-//! A thread that barges is called a *newcomer* (`lock_core`).
+//! The crate `lock_core` calls a thread that barges a *newcomer*.
 ghost use Rattle.qolb_locks.specs.declared.answer.Answer.{Answer};
 ghost use Rattle.qolb_locks.specs.declared.ticket.State.{State};
 ghost use Rattle.qolb_locks.specs.Calls.{IsMisuse, OnlyEntry, StepsUpTo, StepsFirst, Barges};

@@ -1,4 +1,4 @@
-//! Requests: a ticket draws a number, which is its place in the order.
+//! Requests: a ticket draws a number, and the lock serves the tickets in the order of these numbers.
 ghost use Rattle.std.specs.Prelude.{◌≡◌};
 ghost use Rattle.qolb_locks.specs.declared.ticket.State.{State};
 ghost use Rattle.qolb_locks.specs.Calls.{IsMisuse, OnlyRequest, OnlySeat, StepsUpTo, StepsFirst, Learns, IfDrawn, IsBehind, Looks, DrawsAndChecks, Tries, DrawsNear};

@@ -1,7 +1,8 @@
-//! Exports the proved core of a lock, which many threads share, to C. `c/src/core.h` declares these functions.
+//! Exports the calls on the proved core of a lock to C. Many threads may share a lock. `c/src/core.h` declares the
+//! exported functions.
 //!
-//! C code refers to a lock by a reference, which it may copy, and to a request by a ticket, which belongs to one
-//! caller. The header core.h also lists what the C code must guarantee.
+//! C code refers to a lock by a reference, which may be copied. It represents a request by a ticket, which belongs to
+//! one caller. The header core.h also lists what the C code must guarantee.
 ghost use Rattle.std.specs.Prelude.{◌≡◌, ◌≢◌, true};
 ghost use Rattle.lock_core.specs.Views.{SameRequest};
 ghost use Rattle.qolb_locks.specs.declared.answer.Answer.{Answer};

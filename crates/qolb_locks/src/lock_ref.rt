@@ -1,4 +1,4 @@
-//! A reference to a lock, which C code may copy and share between threads. The lock itself is never freed.
+//! A reference to a lock. C code may copy the reference and share it between threads. No call frees the lock.
 ghost use Rattle.std.specs.Prelude.{◌≡◌};
 ghost use Rattle.std.specs.declared.option.Option.{Option};
 ghost use Rattle.std.specs.declared.option.Option.TheVariants.{None, Some};

@@ -1,4 +1,5 @@
-//! Releases: a ticket that has the turn grants the next number, and a ticket that holds the lock word leaves it.
+//! Releases: a ticket whose turn has come passes the turn to the next number, and a ticket that holds the lock word
+//! gives the word back.
 ghost use Rattle.std.specs.Prelude.{◌≡◌, ◌+◌, ◌%◌, ◌^◌, true, false};
 ghost use Rattle.lock_core.specs.Layout.{max_passed};
 ghost use Rattle.lock_core.specs.Views.{HasEnded, HasTurnOf, IsIdle};

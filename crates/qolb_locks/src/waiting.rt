@@ -1,4 +1,4 @@
-//! Waiting: a ticket polls, announces that its thread is about to sleep, and retracts the announcement.
+//! Waiting: a ticket polls, announces that its thread is about to sleep, and takes this announcement back.
 ghost use Rattle.lock_core.specs.Views.{SameRequest};
 ghost use Rattle.qolb_locks.specs.declared.ticket.State.{State};
 ghost use Rattle.qolb_locks.specs.Calls.{IsMisuse, OnlyRounds, OnlySleep, StepsUpTo, Learns, Looks, AnnouncesSleep};

@@ -1,4 +1,4 @@
-//! The handle by which C code refers to a node: a pointer, which is null if there is no node.
+//! The handle with which C code refers to a node. A handle is a pointer, which is null if the handle has no node.
 ghost use Rattle.std.specs.Prelude.{◌≡◌, true, false};
 ghost use Rattle.std.specs.Option.{MatchOption};
 ghost use Rattle.std.specs.declared.option.Option.{Option};

@@ -1,10 +1,10 @@
-//! Exports the nodes of lines of any kind to C, as a static library. `c/src/proved.h` declares these functions, and the
-//! files of `c/src` call them.
+//! A static library with which C code makes calls on nodes, whatever the kind of their line. `c/src/proved.h` declares
+//! the exported functions, and the files of `c/src` call them.
 //!
-//! C code has a handle for each node, which is a struct with one pointer that is null if there is no node. Each export
-//! calls the node of its handle. Each call on a node first checks the node's state. If that state does not allow the
-//! call, the answer is `Misuse` and nothing changes. Only `qolb_open_proved_` and `qolb_memory_proved_` take the kind of a
-//! line as an argument.
+//! C code refers to each node by a handle. A handle is a struct with one pointer, which is null if the handle has no
+//! node. An exported function receives a handle, and makes its call on the node of this handle. Each call on a node
+//! first checks the node's state. If this state does not allow the call, the call changes nothing and answers `Misuse`.
+//! Only `qolb_open_proved_` and `qolb_memory_proved_` take the kind of a line as an argument.
 #![tactic(auto)]
 
 ghost use Rattle.std.specs.Prelude.{◌≡◌, true, false, None};
