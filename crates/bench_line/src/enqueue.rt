@@ -1,5 +1,4 @@
-//! The two ways in which a node requests the line in the stress run: with one call, or with two calls and a pause
-//! between them.
+//! The two ways to request a line that the stress run uses: one call, or two calls with a pause between them.
 ghost use Rattle.std.specs.Prelude.{◌≡◌, ◌⊎◌, IsTrue};
 ghost use Rattle.qolb_model.specs.PortStates.{may_ask};
 ghost use Rattle.qolb_model.specs.AtTurn.{IsGranted};

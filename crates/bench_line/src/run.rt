@@ -1,5 +1,5 @@
-//! Runs one measurement: it opens a line, runs a task with all nodes of the line, merges the views of the ports, and
-//! finishes the line.
+//! Runs one measurement: opens a line, runs the same task on every node of the line, and finishes the line, which
+//! returns the line's last bytes.
 ghost use Rattle.std.specs.Prelude.{All, IfOk, IsTrue};
 ghost use Rattle.qolb_model.specs.PortStates.{may_ask};
 

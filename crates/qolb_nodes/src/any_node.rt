@@ -1,4 +1,4 @@
-//! A node of a line of any kind.
+//! The type of a node whose line may be of any kind: a ring, a link line or a ticket line.
 ghost use Rattle.std.specs.Prelude.{◌≡◌, ◌<◌, Some, MatchOption, map, IfOk, IfErr};
 ghost use Rattle.qolb_model.specs.Opening.{MayNotOpen};
 ghost use Rattle.qolb_nodes.specs.Calls.{view_of, state_of, Enqolbs, Polls, Waits, Prepends, LinksUp, Withdraws, LooksIfClear, Reads, ReadsLane, Writes, WritesLane, WritesLaneAt, AddsLane, Releases, TellsTurns, TellsWord};

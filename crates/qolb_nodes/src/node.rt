@@ -1,4 +1,4 @@
-//! A node of a shared line of one kind.
+//! The type of a node for one kind of line. `any_node.rt` combines these types for all kinds into one.
 ghost use Rattle.std.specs.Prelude.{◌≡◌, ◌<◌, ◌≤◌, Some, MatchOption};
 ghost use Rattle.std.specs.Arc.{arc_value};
 ghost use Rattle.qolb_model.specs.Calls.{Polls};

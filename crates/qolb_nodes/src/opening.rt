@@ -1,4 +1,4 @@
-//! Opens a line for C code.
+//! Opens a line for C code, and puts the nodes of the line into handles.
 ghost use Rattle.std.specs.Prelude.{◌≡◌, ◌≢◌, ◌≤◌, ◌++◌, ℕ, true, false, length, map, drop, Some, None, IsTrue, IfOk, IfErr};
 ghost use Rattle.qolb_model.specs.Opening.{MayOpen, MayNotOpen};
 ghost use Rattle.qolb_nodes.specs.Opens.{AreOfLine, held_by, AreEmpty, HasNode, AreOpened, WhyRefused, refused_by};

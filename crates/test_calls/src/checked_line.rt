@@ -1,4 +1,5 @@
-//! A line with its ports, which a test calls by node number. A call is made only if the port's state allows it.
+//! A line together with its ports. A test names the port for a call by the number of the node. If the state of this
+//! port does not allow the call, the call is not made.
 ghost use Rattle.std.specs.Prelude.{◌≡◌, All, IfErr, IsTrue};
 ghost use Rattle.qolb_model.specs.PortStates.{may_ask};
 

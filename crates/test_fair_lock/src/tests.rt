@@ -1,4 +1,4 @@
-//! The list of the tests of the fair lock, with the threads that they start.
+//! The list of the tests of the fair lock, and the functions that start the threads for them.
 mod answers;
 mod order;
 mod threads;

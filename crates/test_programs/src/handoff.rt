@@ -1,4 +1,4 @@
-//! One node of a line hands the line to another node, on any kind of line.
+//! A handoff: one node releases a line, and another node is granted it. This works on any kind of line.
 ghost use Rattle.std.specs.Prelude.{◌≡◌, IfSome};
 ghost use Rattle.test_programs.specs.HandingOver.{HandsOver};
 

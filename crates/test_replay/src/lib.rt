@@ -1,4 +1,4 @@
-//! Worked examples of replays, step scripts and pictures.
+//! Tests of replays, which execute a script of calls, of scripts of atomic steps, and of the pictures of scripts.
 #![tactic(auto)]
 
 #[cfg(test)]

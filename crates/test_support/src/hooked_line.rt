@@ -1,4 +1,5 @@
-//! A wrapper for a line that also calls hooks when a call on the line is made.
+//! A wrapper for a line. Whenever a call on the wrapped line is made, the wrapper also calls functions of the test,
+//! which are called hooks.
 ghost use Rattle.std.specs.Prelude.{◌≡◌, ◌≤◌, map, All, IfOk, IfErr};
 ghost use Rattle.qolb_model.specs.Requests.{Lacks};
 ghost use Rattle.qolb_model.specs.Views.{own};
