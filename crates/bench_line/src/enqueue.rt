@@ -29,7 +29,7 @@ pub trait EnqueueStrategy<L: LineSync<NonDecreasing>> {
     fn late_links(&self) -> u64;
 }
 
-/// Requests by one call, on any line.
+/// Makes each request with one call, on any line.
 #[derive(Clone, Copy)]
 pub struct AtOnce;
 
@@ -43,7 +43,8 @@ impl<L: LineSync<NonDecreasing>> EnqueueStrategy<L> for AtOnce {
     }
 }
 
-/// Requests by `prepend` and `link`, on a link line. Between the two calls, other nodes release, ask and withdraw.
+/// Makes each request with the two calls `prepend` and `link`, on a link line. Between the two calls, other nodes
+/// release, ask and withdraw.
 #[derive(Drop)]
 pub struct TwoCalls {
     late: AtomicU64,

@@ -5,7 +5,7 @@
 pub enum Answer {
     /// The call is done.
     Done = 0,
-    /// The ticket is at its turn, or its caller is inside.
+    /// The ticket's turn has come, or its caller is inside the lock.
     Granted = 1,
     /// The request waits.
     Waiting = 3,

@@ -57,9 +57,10 @@ fn barge_first(lock: &Lock, ticket: &mut Ticket) -> Answer
     barge_again(lock, ticket)
 }
 
-/// Takes the lock word without waiting, if the word is as the ticket guesses, free for barging threads, and open.
+/// Takes the lock word without waiting, if the word has the value that the ticket guesses, is free for barging threads,
+/// and says that the lock is open.
 ///
-/// Otherwise the answer is `Busy`, and the ticket has the word that the call found.
+/// Otherwise the answer is `Busy`, and the ticket then contains the value that the call found in the word.
 #[inline(always)]
 pub fn barge(lock: &Lock, ticket: &mut Ticket) -> Answer
     requires { IsKnown lock.now ticket.old }

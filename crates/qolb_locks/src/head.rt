@@ -51,7 +51,7 @@ pub fn take_lock_word(lock: &Lock, ticket: &mut Ticket) -> Answer
     }
 }
 
-/// Requests for the queue head that the thread inside leave the lock word for the queue head alone.
+/// Requests that the thread inside leave the lock word to the queue head alone.
 ///
 /// The answer is `Busy` if the lock word changed at that moment.
 pub fn request_handoff(lock: &Lock, ticket: &mut Ticket) -> Answer

@@ -8,7 +8,7 @@ ghost use Rattle.qolb_locks.specs.Shared.{lock_coded, refers};
 use crate::lock::Lock;
 use std::marker::Model;
 
-/// A reference to a lock, as C has it.
+/// A reference to a lock, as C code stores it.
 #[repr(C)]
 #[derive(Drop)]
 pub struct LockRef {

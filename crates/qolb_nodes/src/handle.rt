@@ -18,7 +18,7 @@ use std::marker::Model;
 use std::mem;
 use std::ptr::null_mut;
 
-/// A node that C holds, or none. C sees one pointer, and a handle of zeros is empty.
+/// A handle with which C code refers to a node, or to no node. C code sees one pointer, and a handle of zeros is empty.
 #[repr(C)]
 #[derive(Drop)]
 pub struct Handle {
