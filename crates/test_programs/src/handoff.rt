@@ -1,4 +1,4 @@
-//! A handoff: one node releases a line, and another node is granted it. This works on any kind of line.
+//! A handoff on a line of any kind: one node releases the line, and another node is granted it.
 ghost use Rattle.std.specs.Prelude.{◌≡◌, IfSome};
 ghost use Rattle.test_programs.specs.HandingOver.{HandsOver};
 

@@ -1,5 +1,5 @@
-//! Helpers that use boards, accounts and lines on any kind of line, some with several threads, and tests of these. The
-//! tests assume of a line only that it can be opened.
+//! Tests of task boards, of accounts, and of programs with threads, on any kind of line. The crate also contains the
+//! functions that make the calls for these tests. The tests assume of a line only that it can be opened.
 //!
 //! Modules that only the tests of this crate call are compiled only for the tests, because otherwise they would be
 //! proved twice.

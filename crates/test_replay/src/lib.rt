@@ -1,4 +1,5 @@
-//! Tests of replays, which execute a script of calls, of scripts of atomic steps, and of the pictures of scripts.
+//! Tests of replays, which execute a script, and of the pictures that are drawn from scripts. The events of a script
+//! are either calls or atomic steps.
 #![tactic(auto)]
 
 #[cfg(test)]
