@@ -263,7 +263,7 @@
  * After polling, a waiting thread sleeps on a futex until its turn has come. If a thread had to sleep, it will poll for
  * a shorter time when it waits again. A thread that waits on a condition sleeps immediately, without polling. If a
  * process could use only one processor when one of its threads waited for the first time, every waiting thread of the
- * process sleeps immediately, without polling. A thread that is woken before its turn yields the processor once.
+ * process sleeps immediately, without polling. If a thread is woken before its turn, the thread yields once.
  *
  * If a barging lock is not free when a thread tries to enter the lock, the thread spins, which means that it looks at
  * the lock six more times within 10 us. The spinning thread pauses for 200 ns before the first of these six looks. Each

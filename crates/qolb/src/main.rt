@@ -1,4 +1,5 @@
-//! The program qolb, which replays scripts of calls on queued lines, and runs scripts of work on them.
+//! The program `qolb`. It replays scripts of calls on queued lines (queue locks with 64 bytes of data), and runs work
+//! scripts, in which threads share such lines.
 #![tactic(auto)]
 
 use qolb_serve::run;

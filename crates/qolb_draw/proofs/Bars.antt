@@ -1,4 +1,4 @@
--- Lemmas about whether a bar covers a column.
+-- Lemmas about whether a bar of a timeline covers a given column.
 use Rattle.std.proofs.Common.{◌≡◌, ℕ, ◌<◌, ◌≤◌, ◌&&◌, ◌||◌, nat_le, nat_lt, Bool, true, false, refl, ap, ◌∙◌, arith}
 use Rattle.std.proofs.lemmas.Bool.Decides.{nat_tests}
 

@@ -1,4 +1,5 @@
--- Proof that the bars of a timeline cover exactly the marks that have a bar.
+-- Proof that in the timeline of a schedule, the bar of a node over a command has the kind that the node's mark after
+-- the command requires. If the mark requires no bar, the node has no bar over the command.
 use Rattle.std.proofs.Common.{◌≡◌, ℕ, zero, suc, ◌+◌, ◌*◌, ◌<◌, ◌≤◌, ◌==◌, ◌&&◌, cond, Bool, true, false, List, [], ◌∷◌, ◌++◌, length, map, filter, flat_map, slice_get, option_map, Option, Some, None, refl, sym, ap, ◌∙◌, arith, append-nil, eq-eqb, eqb-true}
 use Rattle.std.specs.List.{list_any, range_with_len, slice_index_or}
 use Rattle.std.proofs.lemmas.Bool.Decides.{nat_tests}

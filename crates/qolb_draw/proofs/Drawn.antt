@@ -1,4 +1,5 @@
--- Lemmas about the progress of drawing a line.
+-- Lemmas about a picture that is drawn command by command: the state of the line, and the marks, after some of the
+-- commands.
 use Rattle.std.proofs.Common.{◌≡◌, ◌≢◌, ℕ, ◌+◌, ◌<◌, ◌==◌, Bool, true, false, cond, drop, replicate, List, [], ◌∷◌, ◌++◌, length, map, take, get_or, refl, sym, ap, ◌∙◌, subst, arith, append-nil, length-append, Option, ◌≤◌, ◌*◌}
 use Rattle.std.specs.List.{fold, range_with_len}
 use Rattle.std.proofs.lemmas.List.{length-map, take_all, map-append}

@@ -1,4 +1,4 @@
--- Lemmas about the lines of a timeline, which are drawn below each other.
+-- Lemmas about an SVG that shows the timelines of several lines below each other.
 use Rattle.std.proofs.Common.{◌≡◌, ℕ, ◌+◌, ◌*◌, ◌≤◌, max, List, [], ◌++◌, refl, sym, ap, ◌∙◌, arith}
 use Rattle.std.specs.Prelude.{codes}
 use Rattle.std.specs.List.{flat_map, range_with_len}

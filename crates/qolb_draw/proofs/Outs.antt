@@ -1,4 +1,4 @@
--- Proof that the texts which are made from a line's marks are the line's picture.
+-- Proof that the text and the timeline made from a line's marks are those that the specification defines.
 use Rattle.std.proofs.Common.{◌≡◌, ℕ, zero, zero-add, max, suc, ◌+◌, ◌-◌, ◌*◌, ◌<◌, ◌≤◌, ◌==◌, ◌||◌, min, Bool, cond, List, [], ◌∷◌, ◌++◌, length, map, take, drop, get_or, refl, sym, ap, ◌∙◌, subst, arith, inl, inr, ◌⊎◌, length-append, length-drop}
 use Rattle.std.specs.Prelude.{codes}
 use Rattle.std.specs.List.{All, filter, flat_map, fold, list_any, range_with_len, sum_by}

@@ -1,4 +1,4 @@
--- Lemmas about rows of digits, and about texts that are written piece by piece.
+-- Lemmas about texts that are written piece by piece, such as the digits of the numbers above columns.
 use Rattle.std.proofs.Common.{◌≡◌, ℕ, ◌+◌, ◌<◌, ◌≤◌, cond, List, [], ◌∷◌, ◌++◌, length, map, take, get_or, map-id, refl, sym, ap, ◌∙◌, arith, append_assoc, append-nil, zero-add, nat_le, Bool, true, false}
 use Rattle.std.specs.List.{filter, flat_map, range_with_len}
 use Rattle.std.proofs.lemmas.List.Elements.{filter_more}

@@ -1,4 +1,4 @@
--- Lemmas about rows and blocks that are made from marks.
+-- Lemmas about the rows of a picture: which nodes have a row, and which marks a row contains.
 use Rattle.std.proofs.Common.{◌≡◌, length, get_or, suc, refl, ℕ, ◌+◌, ◌-◌, ◌*◌, ◌<◌, ◌≤◌, ◌==◌, cond, List, [], ◌∷◌, ◌++◌, map, sym, ap, ◌∙◌, arith, append-nil, Bool, true, false}
 use Rattle.std.specs.List.{filter, list_any, range_with_len}
 use Rattle.std.proofs.lemmas.List.Elements.{filter-append}

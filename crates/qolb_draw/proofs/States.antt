@@ -1,4 +1,5 @@
--- Lemmas about the states of nodes: which states a command changes, and which marks follow from them.
+-- Lemmas about the states of nodes: which states a command changes, and which marks the picture shows after the
+-- command.
 use Rattle.std.proofs.Common.{◌≡◌, ◌≢◌, ◌⊎◌, inl, inr, ℕ, suc, zero, ◌+◌, ◌-◌, ◌<◌, ◌≤◌, ◌==◌, ◌&&◌, ◌||◌, not, Bool, true, false, cond, is_some, List, [], ◌∷◌, ◌++◌, length, map, drop, get_or, Option, Some, None, slice_get, remove, replicate, refl, sym, ap, ◌∙◌, subst, arith, append-nil, length-append}
 use Rattle.std.specs.List.{find, range_with_len}
 use Rattle.std.proofs.lemmas.Bool.{cases_eq}

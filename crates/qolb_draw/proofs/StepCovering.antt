@@ -1,4 +1,5 @@
--- Proof that the bars of a step script's picture cover the points of its nodes.
+-- Proof that in the picture of a step script, the bar of a node over an event shows at which point of the lock
+-- algorithm the node is after the event.
 use Rattle.std.proofs.Common.{◌≡◌, ◌≢◌, ℕ, zero, suc, ◌+◌, ◌*◌, ◌<◌, ◌≤◌, ◌==◌, ◌&&◌, ◌||◌, cond, Bool, true, false, List, [], ◌∷◌, ◌++◌, length, map, drop, flat_map, slice_get, Some, None, refl, sym, ap, ◌∙◌, subst, arith, append-nil, add-one, eqb-true, eq-eqb, get_or, get_or-set_other}
 use Rattle.std.specs.List.{range_with_len}
 use Rattle.std.proofs.lemmas.Grind.{flat_map-append}

@@ -1,4 +1,4 @@
--- Lemmas about the texts of the shapes in a step script's picture.
+-- Lemmas about the SVG text of a step script's picture, which is written one shape after another.
 use Rattle.std.proofs.Common.{◌≡◌, ℕ, ◌+◌, List, [], ◌∷◌, ◌++◌, map, flat_map, refl, sym, ap, ◌∙◌, append_assoc, append-nil, zero-add}
 use Rattle.std.specs.List.{range_with_len}
 use Rattle.std.proofs.lemmas.Grind.{flat_map-append}

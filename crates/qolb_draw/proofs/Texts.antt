@@ -1,4 +1,4 @@
--- Lemmas about the texts of commands, and about the places in a mask.
+-- Lemmas about how a command is written as text, and about the byte offsets that the mask of a write selects.
 use Rattle.std.proofs.Common.{◌≡◌, ℕ, ◌+◌, cond, true, false, List, [], ◌∷◌, ◌++◌, length, take, get_or, sym, ap, ◌∙◌, append_assoc, append-nil}
 use Rattle.std.specs.Prelude.{codes}
 use Rattle.std.specs.List.{flat_map, range_with_len}

@@ -1,5 +1,5 @@
--- Lemmas about how a command changes the list of nodes with open requests and the node at its turn, and how both follow
--- from the states of the nodes.
+-- Lemmas about how a command changes the list of nodes with open requests, and about which node's turn it is. The list
+-- and the turn both follow from the states of the nodes.
 use Rattle.std.proofs.Common.{◌≡◌, ℕ, zero, suc, ◌+◌, ◌≤◌, ◌==◌, ◌&&◌, ◌||◌, Bool, true, false, cond, is_some, take_while, List, [], ◌∷◌, ◌++◌, length, map, drop, Option, Some, None, slice_get, refl, sym, ap, ◌∙◌, subst, arith, append-nil, length-append}
 use Rattle.std.specs.List.{list_any, find}
 use Rattle.std.proofs.lemmas.List.{drop-append-le, drop-drop, drop-map, map-append}

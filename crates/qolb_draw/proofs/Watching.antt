@@ -1,4 +1,5 @@
--- Lemmas about the progress of drawing a step script.
+-- Lemmas about the picture of a step script, which is drawn event by event: the state of the link line, and the text or
+-- the shapes written so far.
 use Rattle.std.proofs.Common.{◌≡◌, ℕ, ◌+◌, ◌<◌, ◌≤◌, List, [], ◌∷◌, ◌++◌, length, take, drop, get_or, refl, sym, ap, ◌∙◌, subst, arith, append_assoc, append-nil, drop-drop, Option, None, Result, Ok, Err, IfOk, IfErr, OnErr, All, length-append}
 use Rattle.std.specs.Result.{result_ok}
 use Rattle.std.proofs.lemmas.List.{take_all, take_more}

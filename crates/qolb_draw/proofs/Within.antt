@@ -1,4 +1,4 @@
--- Proof that the shapes of a timeline lie within the timeline.
+-- Proof that no shape of a timeline reaches beyond the right edge of the picture or into the next timeline.
 use Rattle.std.proofs.Common.{◌≡◌, ℕ, zero, suc, ◌+◌, ◌-◌, ◌*◌, ◌<◌, ◌≤◌, ◌==◌, ◌||◌, nat_lt, cond, Bool, true, false, List, [], ◌∷◌, ◌++◌, length, map, filter, flat_map, fold, get_or, slice_get, Option, Some, None, refl, sym, ap, ◌∙◌, subst, arith, All, eqb-true, eq-eqb}
 use Rattle.std.specs.List.{list_any, range_with_len}
 use Rattle.std.proofs.lemmas.Bool.{or_right}

@@ -1,4 +1,4 @@
--- Worked examples: the pictures of small scripts, computed from the definitions.
+-- Worked examples: the pictures of small scripts, which the prover computes from the definitions.
 use Rattle.std.specs.Prelude.{◌≡◌, ◌++◌, codes, refl, Ok, Err}
 use Rattle.qolb_script.specs.declared.error.ScriptError.TheVariants.{BadLine}
 use Rattle.qolb_draw.specs.declared.form.Form.TheVariants.{Text}

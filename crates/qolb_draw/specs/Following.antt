@@ -1,5 +1,5 @@
--- A plain line whose commands are recorded. The definitions in this file were made for this project; none is taken from
--- the literature.
+-- A plain line (a line with one owner), together with a record of the open requests and of the state of each node. The
+-- definitions in this file were made for this project; none is taken from the literature.
 use Rattle.std.specs.Prelude.{◌≡◌, ◌≢◌, ◌<◌, ◌+◌, ◌==◌, ◌⊎◌, length, ℕ, Bool, true, false, not, if◌then◌else◌, List, [], ◌∷◌, Option, Some, None}
 use Rattle.qolb_model.specs.declared.answer.PortState.{PortState}
 use Rattle.qolb_model.specs.declared.answer.PortState.TheVariants as port

@@ -1,5 +1,5 @@
--- The marks of a line's nodes, command by command, and the texts of the line's picture. The definitions in this file
--- were made for this project; none is taken from the literature.
+-- The grid of a line: the mark of each node after each command. The plain text and the timeline of the line are made
+-- from this grid. The definitions in this file were made for this project; none is taken from the literature.
 use Rattle.std.specs.Prelude.{◌≡◌, ℕ, ◌+◌, ◌-◌, ◌*◌, ◌==◌, min, List, [], ◌∷◌, ◌++◌, length, map, filter, flat_map, take, drop, codes}
 use Rattle.std.specs.List.{list_any, range_with_len, slice_index_or}
 use Rattle.qolb_model.specs.declared.answer.PortState.{PortState}

@@ -1,5 +1,5 @@
--- Numbers as the heads of columns: the digits of each number are written below each other. The definitions in this file
--- were made for this project; none is taken from the literature.
+-- How numbers are written above narrow columns: the digits of each number stand below each other. The definitions in
+-- this file were made for this project; none is taken from the literature.
 use Rattle.std.specs.Prelude.{ℕ, ◌+◌, ◌-◌, ◌/◌, ◌%◌, nat_lt, nat_le, if◌then◌else◌, List, [], ◌∷◌, ◌++◌, length, map, filter, flat_map}
 use Rattle.std.specs.List.{slice_index_or}
 

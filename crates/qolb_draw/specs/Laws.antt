@@ -1,5 +1,5 @@
--- Theorems about pictures: a picture shows what the replay does, and no shape lies outside the picture. The theorems in
--- this file were stated for this project; none is taken from the literature.
+-- Theorems about the picture of a schedule. The picture shows the states that the lines have in a replay, and no shape
+-- lies outside the picture. The theorems in this file were stated for this project; none is taken from the literature.
 use Rattle.std.specs.Prelude.{◌≡◌, ℕ, ◌+◌, ◌-◌, ◌*◌, max, ◌<◌, ◌≤◌, ◌==◌, ◌&&◌, nat_le, nat_lt, true, if◌then◌else◌, List, [], ◌∷◌, flat_map, Some, slice_get}
 use Rattle.std.specs.List.{All, list_any}
 use Rattle.qolb_script.specs.Commands.{node_of}

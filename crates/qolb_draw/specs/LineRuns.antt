@@ -1,5 +1,5 @@
--- The commands of a script that are calls on one line, in order. The definitions in this file were made for this
--- project; none is taken from the literature.
+-- The calls of a schedule on one line, in order, and the state of the line before each call. The definitions in this
+-- file were made for this project; none is taken from the literature.
 use Rattle.std.specs.Prelude.{ℕ, ◌+◌, ◌==◌, if◌then◌else◌, List, [], ◌∷◌, ◌++◌, map, filter, fold, Option, slice_get}
 use Rattle.std.specs.List.{list_any, range_with_len}
 use Rattle.qolb_model.specs.declared.config.LineConfig.{LineConfig}

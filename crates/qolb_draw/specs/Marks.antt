@@ -1,5 +1,5 @@
--- The mark that shows the state of a node at a line after a command. The definitions in this file were made for this
--- project; none is taken from the literature.
+-- Which mark a picture shows for a node after a command. The mark depends on the node's state and on what the command
+-- changed. The definitions in this file were made for this project; none is taken from the literature.
 use Rattle.std.specs.Prelude.{ℕ, ◌==◌, ◌&&◌, not, Bool, true, false, if◌then◌else◌, Option, Some, None}
 use Rattle.std.specs.Option.{option_map_or}
 use Rattle.qolb_model.specs.declared.answer.PortState.{PortState}

@@ -1,6 +1,6 @@
--- The picture of a schedule, as plain text and as SVG. For each line, the plain text has blocks of commands, in which
--- each node that makes calls has a row of marks. The definitions in this file were made for this project; none is taken
--- from the literature.
+-- The picture of a schedule, as plain text and as SVG. The plain text shows the commands on each line in blocks of at
+-- most 70. In each block, every node that makes calls on the line has a row with a letter for each command. The
+-- definitions in this file were made for this project; none is taken from the literature.
 use Rattle.std.specs.Prelude.{◌≡◌, ℕ, ◌+◌, ◌-◌, ◌≤◌, ◌*◌, ◌/◌, List, [], ◌∷◌, ◌++◌, length, map, flat_map, take, drop, replicate, codes, Result, Ok, Err}
 use Rattle.std.specs.List.{range_with_len}
 use Rattle.qolb_replay.specs.declared.input.TheConstants.{MAX_BYTES}

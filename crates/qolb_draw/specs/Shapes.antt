@@ -1,6 +1,6 @@
 -- The shapes of a timeline. A column represents a command on the line, and a row represents a node that makes calls on
--- the line; both are counted from 0. A shape begins at the command of its first column, and a bar ends at the command
--- of its last column. The definitions in this file were made for this project; none is taken from the literature.
+-- the line. Columns and rows are counted from 0. A bar extends from the command of one column to the command of another
+-- column. The definitions in this file were made for this project; none is taken from the literature.
 use Rattle.std.specs.Prelude.{ℕ, ◌+◌, ◌-◌, ◌/◌, Bool, true, false, if◌then◌else◌, List, [], ◌∷◌, flat_map}
 use Rattle.std.specs.List.{range_with_len}
 use Rattle.line_lanes.specs.Mask.{is_masked}

@@ -1,5 +1,6 @@
--- Theorems about the picture of a step script: it shows what the run does, and no shape lies outside the picture. The
--- theorems in this file were stated for this project; none is taken from the literature.
+-- Theorems about the picture of a step script. The bars show at which point of the lock algorithm a node is after each
+-- event, and no shape lies outside the picture. The theorems in this file were stated for this project; none is taken
+-- from the literature.
 use Rattle.std.specs.Prelude.{◌≡◌, ℕ, ◌+◌, ◌-◌, ◌*◌, ◌≤◌, ◌==◌, ◌&&◌, nat_le, nat_lt, Bool, if◌then◌else◌, List, [], ◌∷◌, length, take, flat_map, Some, slice_get}
 use Rattle.std.specs.List.{All, list_any}
 use Rattle.link_core.specs.declared.event.Event.{Event}

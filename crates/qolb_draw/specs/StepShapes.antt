@@ -1,6 +1,7 @@
--- The shapes of a step script's picture, and their places. A column represents an event, counted from 0. Row 0 is the
--- home word, and row n is node n with its entry. The definitions in this file were made for this project; none is taken
--- from the literature.
+-- The shapes of a step script's picture, and their places. A column represents an event, and columns are counted from
+-- 0. Row 0 represents the home word, which contains 0 or the number of the node that joined the queue last. Row n
+-- represents node n and the node's entry in the queue. The definitions in this file were made for this project; none is
+-- taken from the literature.
 use Rattle.std.specs.Prelude.{ℕ, ◌+◌, ◌*◌, ◌==◌, ◌&&◌, Bool, if◌then◌else◌, List, [], ◌∷◌, ◌++◌, length, map, flat_map, drop, Option, Some, None}
 use Rattle.std.specs.Bool.{beq}
 use Rattle.std.specs.List.{range_with_len, slice_index_or}
@@ -24,8 +25,8 @@ pub record Seen : Type 0 where
   pub before : State
   pub after : State
 
--- These events were tried one after another, from the core `from` to the last core. An event that was not enabled tells nothing and
--- changes nothing.
+-- These events were tried one after another, from the core `from` to the last core. An event that was not enabled tells
+-- nothing and changes nothing.
 pub data Watches (from : State) : List Event → List Seen → State → Type 0 where
   nothing : Watches from [] [] from
   made : {events : List Event} {all : List Seen} {before after : State} (event : Event) (what : Told) → Watches from events all before → Step before event what after → Watches from (events ++ event ∷ []) (all ++ record { event = event; told = Some what; before = before; after = after } ∷ []) after

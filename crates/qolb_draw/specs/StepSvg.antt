@@ -1,5 +1,5 @@
--- The SVG text of the shapes of a step script. The definitions in this file were made for this project; none is taken
--- from the literature.
+-- How the shapes of a step script's picture are written as SVG. The definitions in this file were made for this
+-- project; none is taken from the literature.
 use Rattle.std.specs.Prelude.{ℕ, ◌+◌, ◌-◌, ◌*◌, ◌==◌, min, Bool, if◌then◌else◌, List, [], ◌++◌, flat_map, codes, Option, Some, None, decimal, ◌∷◌}
 use Rattle.link_core.specs.declared.entry.Entry.{Entry}
 use Rattle.link_core.specs.declared.event.Event.{Event}

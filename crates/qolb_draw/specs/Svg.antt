@@ -1,6 +1,6 @@
--- The SVG text of shapes. In the picture of a schedule a column is 32 pixels wide and a row is 40 pixels high; in that
--- of a step script, 72 and 48. The definitions in this file were made for this project; none is taken from the
--- literature.
+-- How shapes are written as SVG. In the picture of a schedule, a column is 32 pixels wide and a row is 40 pixels high.
+-- In the picture of a step script, a column is 72 pixels wide and a row is 48 pixels high. The definitions in this file
+-- were made for this project; none is taken from the literature.
 use Rattle.std.specs.Prelude.{ℕ, ◌+◌, ◌-◌, ◌*◌, ◌/◌, ◌%◌, ◌==◌, nat_lt, if◌then◌else◌, List, [], ◌∷◌, ◌++◌, length, flat_map, take, codes, decimal, slice_index, Option, Some, None}
 use Rattle.std.specs.List.{range_with_len}
 use Rattle.qolb_model.specs.declared.answer.Out.TheVariants as out

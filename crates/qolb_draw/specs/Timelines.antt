@@ -1,5 +1,5 @@
--- The shapes of a line's timeline, and their places. The definitions in this file were made for this project; none is
--- taken from the literature.
+-- Which shapes the timeline of a line contains, and where they are placed. The definitions in this file were made for
+-- this project; none is taken from the literature.
 use Rattle.std.specs.Prelude.{ℕ, ◌+◌, ◌*◌, ◌==◌, nat_lt, max, false, if◌then◌else◌, List, [], ◌∷◌, ◌++◌, length, map, fold, flat_map, sum_by, count_by, codes, Option, Some, None}
 use Rattle.std.specs.List.{range_with_len, slice_index_or}
 use Rattle.qolb_script.specs.declared.command.Command.{Command}

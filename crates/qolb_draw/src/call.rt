@@ -1,4 +1,4 @@
-//! Writes a command and its answer in words.
+//! Writes a command and its answer as text.
 ghost use Rattle.std.specs.Prelude.{◌≡◌, ◌++◌, ◌∷◌, [], ◌<◌, ◌≤◌, ◌/◌, ◌%◌, OnOk, IfOk, flat_map, slice_index};
 ghost use Rattle.std.specs.List.{All};
 ghost use Rattle.qolb_script.specs.Said.{said_words};
@@ -110,7 +110,7 @@ pub fn push_command<A: Allocator>(
     Ok(())
 }
 
-/// Appends the words of a write that follow its line: the offset and the bytes. Appends nothing for other commands.
+/// Appends the offset and the bytes of a write, in the notation of a schedule. Appends nothing for other commands.
 pub fn push_written<A: Allocator>(
     alloc: A,
     text: &mut Vec<u8, A>,

@@ -1,4 +1,4 @@
-//! An executed command, with the data that a timeline shows for it: its number in the script, and what it changed.
+//! An executed command, together with its number in the script and the change that the command made.
 use crate::symbol::Change;
 use qolb_script::Command;
 

@@ -1,4 +1,4 @@
-//! A plain line that also records what each command changes.
+//! A plain line (a line with one owner) that also records the order of the open requests and the state of each node.
 ghost use Rattle.std.specs.Prelude.{◌≡◌, ◌⊎◌, length, option_copied};
 ghost use Rattle.qolb_script.specs.Reply as reply;
 ghost use Rattle.qolb_draw.specs.Following as spec;

@@ -1,4 +1,4 @@
-//! The two forms of a picture.
+//! The two forms of a picture: plain text, and a timeline in SVG.
 
 /// The form of a picture.
 #[derive(Clone, Copy, Debug, PartialEq, Eq)]

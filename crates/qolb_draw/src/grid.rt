@@ -1,4 +1,5 @@
-//! The marks of a line's nodes, command by command.
+//! The grid of a line: the mark of each node after each command. The plain text and the timeline of the line are made
+//! from this grid.
 ghost use Rattle.std.specs.Prelude.{◌≡◌, ◌<◌, ◌≤◌, ◌*◌, ◌∷◌, [], ◌++◌, length, IfOk, OnOk};
 ghost use Rattle.qolb_model.specs.declared.config.TheConstants.{MAX_NODES};
 ghost use Rattle.qolb_script.specs.declared.schedule.TheConstants.{MAX_COMMANDS};
@@ -23,8 +24,9 @@ pub struct Grid<A: Allocator> {
     pub callers: Vec<u64, A>,
     /// Each command, with its change.
     pub events: Vec<Event, A>,
-    /// The marks of all nodes after each command: `nodes` marks for the first command, then `nodes` marks for the next
-    /// one, and so on.
+    /// The marks of all nodes after each command.
+    ///
+    /// There are `nodes` marks for the first command, then `nodes` marks for the next one, and so on.
     pub marks: Vec<Symbol, A>,
 }
 

@@ -1,4 +1,4 @@
-//! Writes numbers as the heads of columns: the digits of each number are written below each other.
+//! Writes numbers above narrow columns: the digits of each number stand below each other.
 ghost use Rattle.std.specs.Prelude.{◌≡◌, ◌++◌, ◌≤◌, OnOk};
 ghost use Rattle.qolb_draw.specs.Heads as spec;
 

@@ -7,8 +7,9 @@ pub fn drawn_as_replayed()
     ensures { DrawnAsReplayed }
 {}
 
-/// States that the bars cover the marks: over each command, a node has one bar of the kind of its mark, or no bar if
-/// the mark has none.
+/// States that the bars of a timeline match the marks of the nodes.
+///
+/// Over each command, a node has one bar of the kind of its mark, or no bar if the mark has none.
 pub fn bars_cover_marks()
     ensures { BarsCoverMarks }
 {}
@@ -18,8 +19,10 @@ pub fn shapes_lie_within()
     ensures { ShapesLieWithin }
 {}
 
-/// States that the bars cover the points: over each event of a step script, from the node's own first event on, a node
-/// has one bar, which shows the node's point after the event.
+/// States that the bars in the picture of a step script show the points of the nodes.
+///
+/// Over each event, from the node's own first event on, a node has one bar, which shows the node's point after the
+/// event.
 pub fn bars_cover_points()
     ensures { BarsCoverPoints }
 {}

@@ -44,8 +44,9 @@ fn entries_of<A: Allocator>(alloc: A, core: &Core) -> Result<Vec<Entry, A>, Allo
     Ok(entries)
 }
 
-/// Returns the number of these events before the node's next event, or the number of all of them if the node makes
-/// none.
+/// Returns the number of these events before the node's next event.
+///
+/// If the node makes none of them, returns the number of all these events.
 fn until(node: u64, rest: &[Event]) -> u32
     requires { length rest.now ≤ MAX_COMMANDS }
     ensures matches { result ≡ spec.until node rest.now }

@@ -147,7 +147,7 @@ fn push_at_name<A: Allocator>(
     Ok(())
 }
 
-/// Appends a point of a node, from one column to another.
+/// Appends the bar of a node that stays at a point from one column to another, and the point's name.
 pub fn push_at<A: Allocator>(
     svg: &mut Vec<u8, A>,
     node: u64,

@@ -1,4 +1,5 @@
-//! Draws a step script as plain text: the numbers of the nodes, and then a line for each event.
+//! Draws a step script as plain text: a heading with the numbers of the nodes, followed by a line of text for each
+//! event.
 ghost use Rattle.std.specs.Prelude.{◌≡◌, ◌≤◌, ◌++◌, IfOk, OnOk};
 ghost use Rattle.std.specs.List.{range_with_len};
 ghost use Rattle.qolb_model.specs.declared.config.TheConstants.{MAX_NODES};
@@ -35,8 +36,9 @@ fn letter_at(point: Point) -> u8
     }
 }
 
-/// Appends the heads of the columns of letters: the numbers of all nodes, with the digits of each number below each
-/// other.
+/// Appends the heads of the columns of letters.
+///
+/// These are the numbers of all nodes, with the digits of each number below each other.
 pub fn push_node_heads<A: Allocator>(
     alloc: A,
     text: &mut Vec<u8, A>,

@@ -1,4 +1,5 @@
-//! Writes an event of a step script, a place of the line, or an entry in words.
+//! Writes parts of a step script's picture as text: an event, the place where the line's data lies, or a node's entry
+//! in the queue.
 ghost use Rattle.std.specs.Prelude.{◌≡◌, ◌++◌, OnOk};
 ghost use Rattle.qolb_script.specs.StepReply.{step_said};
 ghost use Rattle.qolb_draw.specs.StepSvg as spec;
@@ -102,7 +103,7 @@ pub fn push_entry<A: Allocator>(text: &mut Vec<u8, A>, entry: &Entry) -> Result<
     Ok(())
 }
 
-/// Appends the words of a write that follow its node.
+/// Appends the offset and the bytes of a write, in the notation of a step script. Appends nothing for other events.
 fn push_placed<A: Allocator>(
     alloc: A,
     text: &mut Vec<u8, A>,

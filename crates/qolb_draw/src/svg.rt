@@ -1,4 +1,5 @@
-//! Writes shapes as SVG: those that all pictures use, and those of schedules.
+//! Writes shapes as SVG: the shapes that all pictures have in common, and the shapes that occur only in the picture of
+//! a schedule.
 ghost use Rattle.std.specs.Prelude.{◌≡◌, ◌++◌, ◌≤◌, OnOk, IfOk, flat_map};
 ghost use Rattle.qolb_script.specs.declared.schedule.TheConstants.{MAX_COMMANDS};
 ghost use Rattle.qolb_words.specs.Words.{piece_text};
@@ -10,8 +11,9 @@ use crate::event::Event;
 use qolb_words::{Piece, push_all, push_field, verb};
 use std::alloc::{AllocError, Allocator};
 
-/// The text between the picture's height and its legend: the colours for a light page, the colours that differ on a
-/// dark page, and the signs of the commands.
+/// The text between the picture's height and its legend.
+///
+/// It contains the colours for a light page, the colours that differ on a dark page, and the signs of the commands.
 pub const STYLE: &[u8] = b"' font-family='monospace' font-size='12'>
 <style>
 svg{background:#fff}
@@ -103,8 +105,9 @@ impl Scale {
         }
     }
 
-    /// Returns the y coordinate of a row's name, which is beside the row in column 0 and below the bars in later
-    /// columns.
+    /// Returns the y coordinate of a row's name.
+    ///
+    /// The name is beside the row in column 0 and below the bars in later columns.
     fn name_y(self, row: u8, column: u32) -> u64
         ensures { result ≡ spec.name_y_at self row column }
     {
@@ -210,8 +213,9 @@ pub fn push_bar<A: Allocator>(
     Ok(())
 }
 
-/// Returns the name of a row. The number 0 stands for the row of the home word; for a node, its number follows the
-/// name.
+/// Returns the name of a row.
+///
+/// The number 0 stands for the row of the home word; for a node, its number follows the name.
 fn row_words(node: u64) -> &'static [u8]
     ensures { result.now ≡ spec.row_words node }
 {
@@ -294,6 +298,7 @@ pub fn push_number<A: Allocator>(
 }
 
 /// Appends the arrow of a handoff, from the row of the node whose turn ended to the row of the node whose turn began.
+///
 /// The arrow's title has the number of the command.
 pub fn push_arrow<A: Allocator>(
     svg: &mut Vec<u8, A>,
@@ -329,8 +334,9 @@ pub fn push_arrow<A: Allocator>(
     Ok(())
 }
 
-/// Appends the bytes of a line at these places above the row at a column: the first two bytes, and an ellipsis if there
-/// are more.
+/// Appends the bytes of a line at these places above the row at a column.
+///
+/// The text consists of the first two bytes, and an ellipsis if there are more.
 pub fn push_bytes<A: Allocator>(
     svg: &mut Vec<u8, A>,
     row: u8,
@@ -375,8 +381,9 @@ pub fn push_sign_begin<A: Allocator>(
     Ok(())
 }
 
-/// Appends the last part of a sign, and the first word of its command or event, which is above the column and below the
-/// number.
+/// Appends the last part of a sign, and the first word of the sign's command or event.
+///
+/// The word is above the column and below the number.
 pub fn push_sign_end<A: Allocator>(
     svg: &mut Vec<u8, A>,
     scale: Scale,

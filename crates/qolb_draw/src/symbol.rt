@@ -1,4 +1,5 @@
-//! The marks of a picture, each of which shows the state of a node at a line after a command.
+//! The marks of a picture. Each mark shows the state of a node at a line after a command, or what the command changed
+//! for the node.
 ghost use Rattle.std.specs.Prelude.{◌≡◌};
 ghost use Rattle.qolb_draw.specs.Marks as spec;
 

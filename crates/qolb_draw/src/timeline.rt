@@ -1,4 +1,4 @@
-//! Computes the shapes of a line's timeline from the marks and events in the line's grid.
+//! Writes the timeline of a line from the marks and events in the line's grid.
 ghost use Rattle.std.specs.Prelude.{◌≡◌, ◌++◌, ◌≤◌, ◌<◌, ◌*◌, ◌==◌, if◌then◌else◌, length, flat_map, All, OnOk, IfOk};
 ghost use Rattle.std.specs.List.{range_with_len, slice_index_or};
 ghost use Rattle.qolb_model.specs.declared.config.TheConstants.{MAX_NODES};

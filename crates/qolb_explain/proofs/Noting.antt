@@ -1,4 +1,5 @@
--- Lemmas about the progress of writing notes: the notes on the commands or events so far, and those that are left.
+-- Lemmas about notes that are written command by command or event by event: the notes written so far, and the notes
+-- that are still to be written.
 use Rattle.std.proofs.Common.{◌≡◌, ℕ, suc, ◌==◌, ◌&&◌, true, false, if◌then◌else◌, eq-eqb, Result, Ok, Err, IfOk, IfErr, OnErr, ◌+◌, ◌<◌, ◌≤◌, List, [], ◌∷◌, ◌++◌, length, take, drop, flat_map, get_or, refl, sym, ap, ◌∙◌, subst, arith, append_assoc, append-nil}
 use Rattle.std.specs.List.{range_with_len}
 use Rattle.std.proofs.lemmas.List.{drop_more, take_more, take_all, length-take-le}

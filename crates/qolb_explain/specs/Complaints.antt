@@ -1,5 +1,5 @@
--- The complaint about a refused line of a script. The definitions in this file were made for this project; none is
--- taken from the literature.
+-- The complaint (a detailed error message) about a refused line of a script. The definitions in this file were made for
+-- this project; none is taken from the literature.
 use Rattle.std.specs.Prelude.{◌≡◌, ℕ, ◌==◌, if◌then◌else◌, List, [], ◌∷◌}
 use Rattle.qolb_script.specs.declared.reason.Reason.{Reason}
 use Rattle.qolb_script.specs.declared.reason.Refusal.{Refusal}

@@ -1,5 +1,6 @@
--- The notes on the answers `misuse` and `refused`: the state or the point of the node, and the calls or events that it
--- allows. The definitions in this file were made for this project; none is taken from the literature.
+-- The notes that explain the answers `misuse` and `refused`. A note names the node's state, and the calls or events
+-- that a node in this state may make. The definitions in this file were made for this project; none is taken from the
+-- literature.
 use Rattle.std.specs.Prelude.{◌≡◌, ℕ, ◌+◌, ◌==◌, ◌&&◌, if◌then◌else◌, List, [], ◌∷◌, ◌++◌, length, map, filter, flat_map, codes, Result, Ok, Err}
 use Rattle.std.specs.List.{range_with_len}
 use Rattle.line_lanes.specs.Line.{zeros}

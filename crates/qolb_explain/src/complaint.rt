@@ -1,4 +1,5 @@
-//! Writes the complaint about a refused script: the refused line, and what would be allowed in its place.
+//! Writes the complaint (a detailed error message) about a refused script: the refused line, and what would have been
+//! allowed there.
 ghost use Rattle.std.specs.Prelude.{◌≡◌, ℕ, MatchOption};
 ghost use Rattle.qolb_script.specs.Text.{numbered_lines, worded};
 ghost use Rattle.qolb_explain.specs.Complaints.{IsAbout, line_at};
@@ -138,8 +139,9 @@ fn is_shown(byte: u8) -> bool {
     b' ' <= byte && byte <= b'~'
 }
 
-/// Returns what to write instead of this byte, which is the first byte of a line that is not allowed in a script. The
-/// text is empty if no replacement is known.
+/// Returns what to write instead of this byte, which is not allowed in a script.
+///
+/// It is the first such byte of its line. The text is empty if no replacement is known.
 fn hint_of(line: &[u8], byte: u8) -> &'static str {
     match byte {
         b'\t' => "; spaces separate words",
@@ -149,9 +151,10 @@ fn hint_of(line: &[u8], byte: u8) -> &'static str {
     }
 }
 
-/// Writes that a word is not a number in a range. If the word has too many digits, also writes how long a number may
-/// be. If the word is the first one of its line, also writes what a job begins with, because only a job has a number as
-/// its first word.
+/// Writes that a word is not a number in a range.
+///
+/// If the word has too many digits, also writes how long a number may be. If the word is the first one of its line,
+/// also writes what a job begins with, because only a job has a number as its first word.
 fn write_range<W: fmt::Write>(
     f: &mut fmt::Formatter<W>,
     line: &[u8],

@@ -1,5 +1,5 @@
-//! Explains refused scripts and refused calls: what the script may contain at the refused place, and what an answer
-//! `misuse` or `refused` means.
+//! Explains why a script was refused, and what an answer `misuse` or `refused` means. An explanation can also say which
+//! words, commands or events would have been allowed.
 #![tactic(auto)]
 
 mod complaint;

@@ -1,14 +1,15 @@
-//! Finds the allowed word that a wrong word resembles, and explains words from other subcommands or from other lock
-//! libraries.
+//! Finds the allowed word that a user probably meant by a wrong word. The wrong word may come from another subcommand
+//! or from another lock library.
 use qolb_script::Allowed;
 
 /// A length that exceeds the length of every word in the lists below.
 const MAX_WORD: usize = 20;
 
-/// Returns the allowed word with the same meaning as the given word, in small letters or capitals.
+/// Returns the allowed word that means the same as the given word.
 ///
-/// The given word may come from another subcommand or from another lock library. The words are listed, because a
-/// comparison of letters would not find, for example, that `withdraw` means `out`.
+/// The given word may be in small letters or capitals. It may come from another subcommand or from another lock
+/// library. The words are listed, because a comparison of letters would not find, for example, that `withdraw` means
+/// `out`.
 pub fn near(allowed: Allowed, word: &[u8]) -> Option<&'static str> {
     let letters = small_letters(word);
     let word = &letters[..word.len().min(MAX_WORD)];

@@ -1,4 +1,5 @@
-//! Writes notes on the misused calls of a schedule: the state of the node, and the commands that this state allows.
+//! Writes a note on each misused call of a schedule. The note names the state of the node and the commands that this
+//! state allows.
 ghost use Rattle.std.specs.Prelude.{◌≡◌, ◌≤◌, ◌++◌, Ok, IfOk, OnOk};
 ghost use Rattle.qolb_model.specs.OneOwner.{OwnerState, opened};
 ghost use Rattle.qolb_model.specs.Plain.{Agrees};
@@ -14,10 +15,10 @@ use qolb_script::{Command, Said, Schedule, ScriptError, read_schedule};
 use qolb_words::{push_field, verb};
 use std::alloc::{AllocError, Global};
 
-/// Returns a line of text for each misused command of a schedule: the state of the node, and the commands that this
-/// state allows.
+/// Returns a note, which is a line of text, for each misused command of a schedule.
 ///
-/// The notes are grouped by the lines of the schedule. The text is empty if the script is refused.
+/// A note names the state of the node and the commands that this state allows. The notes are grouped by the lines of
+/// the schedule. The text is empty if the script is refused.
 pub fn notes_of_schedule(alloc: Global, script: &[u8]) -> Result<Vec<u8>, AllocError>
     ensures { IfOk result (λ notes. notes.items ≡ spec.schedule_notes script.now) }
 {

@@ -1,4 +1,5 @@
-//! Writes notes on the refused events of a step script: the point of the node, and the events that this point allows.
+//! Writes a note on each refused event of a step script. The note names the point of the lock algorithm at which the
+//! node is, and the events that this point allows.
 ghost use Rattle.std.specs.Prelude.{◌≡◌, ◌++◌, IfErr, IfOk, OnOk};
 ghost use Rattle.link_core.specs.State.{first, point};
 ghost use Rattle.link_core.specs.Steps.{IsRefused, node_of};
@@ -12,10 +13,10 @@ use qolb_script::{ScriptError, Steps, read_steps};
 use qolb_words::{push_field, push_point, step_verb};
 use std::alloc::{AllocError, Global};
 
-/// Returns a line of text for each refused event of a step script: the point of the node, and the events that this
-/// point allows.
+/// Returns a note, which is a line of text, for each refused event of a step script.
 ///
-/// The text is empty if the script is refused.
+/// A note names the point of the node and the events that this point allows. The text is empty if the script is
+/// refused.
 pub fn notes_of_steps(alloc: Global, script: &[u8]) -> Result<Vec<u8>, AllocError>
     ensures { IfOk result (λ notes. spec.AreStepNotes script.now notes.items) }
 {

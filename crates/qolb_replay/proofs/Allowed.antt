@@ -1,4 +1,4 @@
--- Lemmas about commands that a node's state allows, and about those that it does not allow.
+-- Lemmas about which commands the state of a node allows.
 use Rattle.std.proofs.Common.{◌≡◌, true, false, Bool, refl, sym, ap, ◌∙◌, if◌then◌else◌}
 use Rattle.qolb_model.specs.declared.answer.PortState.{PortState}
 use Rattle.qolb_model.specs.declared.answer.PortState.TheVariants.{Idle, Linking, Queued, Holding, Left, Rolled, Shut}

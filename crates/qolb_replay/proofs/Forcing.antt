@@ -1,5 +1,5 @@
--- Proof about commands on a line whose ports all meet: the answer to each command, and the state after it, are those of
--- a single owner.
+-- Proof that a shared line answers a command as a line with one owner does, if the node's port exchanges its knowledge
+-- with all other ports before and after the command. A port is the handle through which one node uses a shared line.
 use Rattle.std.proofs.Common.{◌≡◌, ℕ, ◌+◌, ◌<◌, Bool, true, false, if◌then◌else◌, List, [], ◌∷◌, ◌++◌, map, length, get_or, set, option_map, Some, slice_get, refl, sym, ap, ◌∙◌, subst}
 use Rattle.std.proofs.lemmas.List.{map-set}
 use Rattle.std.proofs.lemmas.Option.{slice_get-map}

@@ -1,4 +1,4 @@
--- Lemmas about the progress of a replay: its lines and its text after some of the commands.
+-- Lemmas about a replay that has executed some of its commands: the state of the lines, and the text written so far.
 use Rattle.std.proofs.Common.{◌≡◌, ℕ, zero, suc, ◌+◌, ◌<◌, ◌≤◌, List, [], ◌∷◌, ◌++◌, length, map, take, get_or, set, refl, sym, ap, ◌∙◌, subst, arith, inl, inr, ◌⊎◌, replicate, append-nil, append_assoc}
 use Rattle.std.specs.List.{range_with_len, fold}
 use Rattle.std.proofs.lemmas.List.{length-replicate, get_or_append_left, get_or_push, length-append, length-set, take_all, map-append, get_or_default}

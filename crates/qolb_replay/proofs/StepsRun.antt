@@ -1,4 +1,5 @@
--- Lemmas about the progress of a run of a step script.
+-- Lemmas about a step script that has been executed in part: the state of the link line, the counts of results, and the
+-- text written so far.
 use Rattle.std.proofs.Common.{◌≡◌, ℕ, suc, ◌+◌, ◌<◌, List, [], ◌∷◌, ◌++◌, Bool, length, map, flat_map, take, get_or, refl, sym, ap, ◌∙◌, subst, arith, Option, Result, Ok, Err, IfOk, IfErr, OnErr}
 use Rattle.std.specs.Result.{result_ok}
 use Rattle.std.specs.List.{count_by, range_with_len}

@@ -1,4 +1,5 @@
--- Lemmas about the counts of answers, and about the lines of a replay after one more command.
+-- Lemmas about what one more command changes in a replay: the state of a line, and the counts of the answers that the
+-- line has given.
 use Rattle.std.proofs.Common.{◌≡◌, ℕ, zero, suc, ◌+◌, ◌||◌, Bool, true, false, List, [], ◌∷◌, ◌++◌, refl, sym, ap, ◌∙◌, arith, cond, ◌≢◌, ◌==◌, ◌&&◌, ◌<◌, length, get_or, slice_set, subst, get_or-set_same, get_or-set_other, length-set, inl, inr, ◌⊎◌}
 use Rattle.std.specs.List.{range_with_len, count_by}
 use Rattle.std.proofs.lemmas.List.Sums.{sum_by-append}

@@ -1,4 +1,5 @@
--- How a command changes a line when the port of the command's node executes it.
+-- How a command changes a line when a node executes the command through the node's port. A port is the handle through
+-- which one node uses a shared line.
 use Rattle.std.specs.Prelude.{◌≡◌, ℕ, ◌+◌, true, false, List, Some, slice_get, slice_set}
 use Rattle.qolb_model.specs.declared.answer.Enq.{Enq}
 use Rattle.qolb_model.specs.declared.answer.Poll.{Poll}

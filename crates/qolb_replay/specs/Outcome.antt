@@ -1,4 +1,4 @@
--- The outcome of a replay whose script consists of given bytes.
+-- How the replay of given input bytes can end: with a reply or with an error.
 use Rattle.std.specs.Prelude.{◌≡◌, ◌≢◌, ◌<◌, ◌≤◌, ◌⊎◌, ◌↔◌, ℕ, true, false, List, length, Option, Result, Ok, Err, OnOk, IfErr, IfSome}
 use Rattle.std.specs.Io.KnownBytes.{Appends}
 use Rattle.qolb_replay.specs.declared.replay.ReplayError.{ReplayError}

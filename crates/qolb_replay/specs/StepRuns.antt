@@ -1,5 +1,5 @@
--- The run of a step script on the link line's core, and the reply to it. The definitions in this file were made for
--- this project; none is taken from the literature.
+-- How the core of the link line (the state machine of an MCS-like lock) executes a step script, and which reply
+-- results. The definitions in this file were made for this project; none is taken from the literature.
 use Rattle.std.specs.Prelude.{◌≡◌, ◌≤◌, ℕ, Bool, true, false, List, [], ◌∷◌, ◌++◌, length, map, flat_map, count_by, Option, Some, None, Ok}
 use Rattle.std.specs.List.{range_with_len}
 use Rattle.line_lanes.specs.Line.{zeros}

@@ -1,4 +1,4 @@
--- A line of a replay, together with the counts of its answers.
+-- A line in a replay, and the counts of the answers that the line has given.
 use Rattle.std.specs.Prelude.{◌≡◌, ℕ, ◌+◌, ◌<◌, ◌≤◌, Bool, if◌then◌else◌, List, length}
 use Rattle.std.specs.List.{slice_index_or}
 use Rattle.qolb_model.specs.OneOwner.{OwnerState}

@@ -1,5 +1,5 @@
-//! Replays scripts on queued lines of any kind. A script is a schedule, or a sequence of single steps of the link
-//! line's core.
+//! Replays scripts on queued lines, which are queue locks with 64 bytes of data. A schedule is replayed on lines of any
+//! kind. A step script is executed one atomic step at a time by the core of the link line, which is a state machine.
 #![tactic(auto)]
 
 mod input;

@@ -1,5 +1,6 @@
-//! The lines of a replay: the interface by which a replay calls a line, a line that each node calls through its own
-//! port, and the counts of the answers.
+//! The lines of a replay. `ReplayLine` is the interface through which a replay calls a line. `PortedLine` implements
+//! this interface for a line that each node calls through a port of its own. `CountingLine` is a line together with the
+//! counts of the answers that the line has given.
 ghost use Rattle.std.specs.Prelude.{◌≡◌, ℕ, ◌<◌, ◌≤◌, ◌||◌, length, map, All};
 ghost use Rattle.qolb_model.specs.OneOwner.{OwnerState, opened, state_of};
 ghost use Rattle.qolb_model.specs.Opening.{AreNew, MayOpen};
@@ -130,8 +131,9 @@ fn answer<L: LineSync<Free>>(line: &L, ports: &mut [L::Port], command: &Command)
     said
 }
 
-/// Executes the command through this port if the state of the port allows it, and otherwise answers that the command is
-/// misuse.
+/// Executes the command through this port if the state of the port allows the command.
+///
+/// Otherwise, the answer is that the command is misuse.
 fn call<L: LineSync<Free>>(line: &L, port: &mut L::Port, command: &Command) -> Said
     requires belongs { L.belongs line.now port.old }
     ensures belongs { L.belongs line.now port.new }
@@ -202,7 +204,7 @@ impl Counts {
         }
     }
 
-    /// Returns the last answer of line number `line`, at which `left` nodes still wait or hold.
+    /// Returns the summary of line number `line`, at which `left` nodes still wait or hold.
     pub fn summary(self, line: u64, left: u64) -> Said
         ensures { result ≡ Said.Summary line self.served self.withdrawn self.told left }
     {
@@ -251,8 +253,9 @@ impl<R: ReplayLine> CountingLine<R> {
         said
     }
 
-    /// Returns the summary of the line: its number, its counts, and the number of nodes that wait at the line or hold
-    /// it.
+    /// Returns the summary of the line.
+    ///
+    /// The summary has the line's number, its counts, and the number of nodes that wait at the line or hold it.
     pub fn summary(&self, number: u64, nodes: u64) -> Said
         requires in_range { nodes ≤ MAX_NODES }
         requires nodes { nodes ≤ R.nodes_of self.now.line }

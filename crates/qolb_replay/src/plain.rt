@@ -1,4 +1,5 @@
-//! Implements the interface of a replay's lines (`ReplayLine`) for the plain line.
+//! Implements `ReplayLine` for the plain line, which has one owner. `ReplayLine` is the interface through which a
+//! replay calls a line.
 ghost use Rattle.std.specs.Prelude.{◌≡◌, ◌≤◌};
 ghost use Rattle.qolb_model.specs.OneOwner.{OwnerState};
 ghost use Rattle.qolb_model.specs.Plain.{Agrees};
@@ -23,8 +24,9 @@ impl ReplayLine for PlainLine {
     }
 }
 
-/// Executes the command on the line if the state of the node allows it, and otherwise answers that the command is
-/// misuse.
+/// Executes the command on the line if the state of the node allows the command.
+///
+/// Otherwise, the answer is that the command is misuse.
 fn answer(line: &mut PlainLine, command: &Command) -> Said
     requires first { 1 ≤ node_of command.now }
     requires last { node_of command.now ≤ line.old.nodes }

@@ -1,4 +1,5 @@
-//! Replays schedules: it writes the answer to each command, and then the counts of each line.
+//! Replays schedules. The reply consists of an answer to each command, followed by the counts of requests for each
+//! line.
 ghost use Rattle.std.specs.Prelude.{◌≡◌, ℕ, List, length, Ok, Err, IfOk, IfErr};
 ghost use Rattle.qolb_script.specs.Script.{IsBegun};
 ghost use Rattle.qolb_script.specs.Reply.{config_of, replay_start, reply_of, reply_to};

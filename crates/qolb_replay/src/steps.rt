@@ -1,4 +1,5 @@
-//! Runs step scripts on the link line's core: it writes the result of each event, and then the counts of the line.
+//! Runs step scripts on the core of the link line. The reply consists of the result of each event, followed by the
+//! counts of requests.
 ghost use Rattle.std.specs.Prelude.{◌≡◌, ◌≤◌, ℕ, List, Option, length, Ok, Err, OnOk, OnErr, IfOk, IfErr, ◌++◌};
 ghost use Rattle.qolb_script.specs.StepReply.{step_said};
 ghost use Rattle.qolb_script.specs.StepScript.{AreBegun, StepScript, steps_of};
@@ -23,8 +24,9 @@ use std::io::{Read, Write};
 pub enum Detail {
     /// The word that the event returned.
     Words,
-    /// The word, followed by the rank of the core after the event. The rank is the number of productive events that can
-    /// follow each other from this core.
+    /// The word, followed by the rank of the core after the event.
+    ///
+    /// The rank is the number of productive events that can follow each other from this core.
     Ranks,
 }
 
@@ -108,7 +110,7 @@ fn reply<A: Allocator + Clone>(
     Ok(text)
 }
 
-/// Appends the text for an event with this result and this core after it.
+/// Appends the text for an event that had this result and left the core in this state.
 ///
 /// If an allocation fails, the text is unchanged.
 fn push_heard<A: Allocator>(

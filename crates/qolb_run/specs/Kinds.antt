@@ -1,5 +1,5 @@
--- How the names of the kinds of lines are related, and how a property is stated for the kind that a name selects. The
--- definitions in this file were made for this project; none is taken from the literature.
+-- Which lock each kind of line uses, and how a property can be stated separately for each lock. The definitions in this
+-- file were made for this project; none is taken from the literature.
 use Rattle.std.specs.Prelude.{Option, Some, None}
 use Rattle.line_kinds.specs.declared.Lock.{Lock}
 use Rattle.line_kinds.specs.declared.Lock.TheVariants as lock

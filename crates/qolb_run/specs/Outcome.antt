@@ -1,4 +1,5 @@
--- The outcome of a task whose script consists of given bytes.
+-- How a task can end for a given input: with a text or with an error. A task is a replay, the run of a step script, or
+-- work.
 use Rattle.std.specs.Prelude.{◌≡◌, ◌≢◌, ◌<◌, ◌≤◌, ◌⊎◌, ℕ, List, length, Ok, Err}
 use Rattle.qolb_replay.specs.declared.replay.ReplayError.{ReplayError}
 use Rattle.qolb_replay.specs.declared.replay.ReplayError.TheVariants as error

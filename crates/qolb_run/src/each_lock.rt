@@ -1,4 +1,5 @@
-//! Maps the name of each kind of line to its type, for replays and for work scripts.
+//! The kinds of lines that a caller can choose, the lock that each kind uses, and the part of the contracts that
+//! depends on the lock.
 ghost use Rattle.std.specs.Prelude.{◌≡◌};
 ghost use Rattle.qolb_script.specs.declared.report.Report.{Report};
 ghost use Rattle.qolb_script.specs.WorkScript.{WorkScript};
@@ -61,8 +62,9 @@ impl Kind {
     }
 }
 
-/// Every argument that `run_schedule_with` takes: `None` for the plain reference, and then each lock in the order of
-/// `line_kinds::ALL`.
+/// Every argument that `run_schedule_with` takes.
+///
+/// These are `None` for the plain reference, and then each lock in the order of `line_kinds::ALL`.
 pub static REPLAYED: [Option<Lock>; LOCKS + 1] = [
     None,
     Some(Lock::Ring),
@@ -74,8 +76,9 @@ pub static REPLAYED: [Option<Lock>; LOCKS + 1] = [
 ///
 /// The trait exists only for contracts and has no functions.
 pub trait KindSpec {
-    /// `done_over lock work report` says that the work was done over lines of this lock, and that the report belongs to
-    /// this work.
+    /// `done_over lock work report` relates work over lines of this lock to its report.
+    ///
+    /// It says that the work was done over lines of this lock, and that the report belongs to this work.
     ghost done_over: { Lock → WorkScript → Report → Type 0 };
 }
 

@@ -1,5 +1,5 @@
-//! Runs scripts on lines whose kind is chosen by name: workers that share lines, and replays. The crate also re-exports
-//! the public items of `line_blocking`, `qolb_replay` and `qolb_work`.
+//! Runs replays and work scripts on queued lines, which are queue locks with 64 bytes of data. The caller chooses the
+//! kind of lines by name. The crate also re-exports the public items of `line_blocking`, `qolb_replay` and `qolb_work`.
 #![tactic(auto)]
 
 mod each_lock;

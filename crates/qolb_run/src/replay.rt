@@ -1,4 +1,4 @@
-//! Replays schedules on lines of each kind.
+//! Replays schedules on queued lines whose kind the caller chooses.
 ghost use Rattle.std.specs.Prelude.{◌≡◌, Ok, Err, IfOk, IfErr};
 ghost use Rattle.qolb_script.specs.Reply.{reply_to};
 ghost use Rattle.qolb_script.specs.Script.{IsBegun};
@@ -29,8 +29,9 @@ pub fn run_schedule<R: Read, W: Write>(
     run_schedule_with(alloc, reader, writer, kind.lock())
 }
 
-/// Replays a schedule as `run_schedule` does, but over lines of any lock. With `None`, the plain reference answers the
-/// calls.
+/// Replays a schedule as `run_schedule` does, but over lines of any lock.
+///
+/// With `None`, the plain reference answers the calls.
 pub fn run_schedule_with<R: Read, W: Write>(
     alloc: Global,
     reader: &mut Watched<R>,
@@ -46,8 +47,9 @@ pub fn run_schedule_with<R: Read, W: Write>(
     Ok(())
 }
 
-/// Returns the reply to a schedule. With a lock, lines of this lock answer the calls; with `None`, the plain reference
-/// answers.
+/// Returns the reply to a schedule.
+///
+/// With a lock, lines of this lock answer the calls; with `None`, the plain reference answers.
 ///
 /// # Errors
 ///

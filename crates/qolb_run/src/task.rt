@@ -1,4 +1,5 @@
-//! The tasks that process a script, and the reasons why a task can fail.
+//! The tasks for which a script can be used (a replay, the run of a step script, or work), and the reasons why such a
+//! task can fail.
 ghost use Rattle.std.specs.Prelude.{◌≡◌};
 ghost use Rattle.qolb_run.specs.Outcome.{replay_ending, script_ending, work_ending};
 

@@ -1,4 +1,4 @@
-//! Runs work scripts on lines whose kind is chosen by name.
+//! Runs work scripts on queued lines whose kind the caller chooses.
 ghost use Rattle.std.specs.Prelude.{◌≡◌, ℕ, Err, IfOk, IfErr};
 ghost use Rattle.qolb_work.specs.Workers.{MayStop};
 ghost use Rattle.qolb_work.specs.Reports.{IsReportOf};

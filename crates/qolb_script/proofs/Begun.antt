@@ -1,4 +1,5 @@
--- Lemmas about the header of a script and the first line below it, in a script that is read completely.
+-- Proof that if a script is accepted as a whole, its header and the first line below the header are also accepted
+-- without the rest of the script.
 use Rattle.std.proofs.Common.{◌≡◌, ℕ, List, [], ◌∷◌, take, Result, Ok, Err, IsOk, refl}
 use Rattle.qolb_script.specs.declared.job.WorkKind.{WorkKind}
 use Rattle.qolb_script.specs.declared.reason.Refusal.{Refusal}

@@ -1,4 +1,5 @@
--- Lemmas about script lines that contain a write.
+-- Lemmas about the hexadecimal bytes of a `write` command: when they are refused, and where they are placed in the 64
+-- bytes of data that the lock protects.
 use Rattle.std.proofs.Common.{◌≡◌, ℕ, ◌+◌, ◌*◌, ◌/◌, ◌<◌, ◌≤◌, nat_le, false, true, is_err, List, length, Result, Ok, Err, MatchResult, refl, sym, ap, ◌∙◌, arith}
 use Rattle.hex.specs.Hex.{decode_of, decode_sized}
 use Rattle.hex.specs.declared.error.FromHexError.{FromHexError}

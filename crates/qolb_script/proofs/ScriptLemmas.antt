@@ -1,4 +1,5 @@
--- Lemmas about the items of lines after some of the lines have been read, and about the errors of refusals.
+-- Lemmas about reading a script line by line: which items have been read, which lines are still to be read, and which
+-- error results if a line is refused. An item is a command, an event or a job.
 use Rattle.std.proofs.Common.{◌≡◌, ◌≢◌, ℕ, ◌+◌, ◌<◌, nat_le, false, if◌then◌else◌, List, [], ◌∷◌, ◌++◌, All, length, take, Result, Ok, Err, IsOk, refl, sym, ap, subst, ◌∙◌, arith, append_assoc, length-append}
 use Rattle.std.proofs.lemmas.Bool.Decides.{nat_tests}
 use Rattle.std.proofs.lemmas.List.Elements.{All-push}

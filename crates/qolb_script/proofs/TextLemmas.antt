@@ -1,4 +1,4 @@
--- Lemmas about the words and lines of a text.
+-- Lemmas about how a text is split into lines and words.
 use Rattle.std.proofs.Common.{◌≡◌, ℕ, suc, ◌+◌, ◌==◌, ◌<◌, Bool, true, false, not, cond, List, [], ◌∷◌, length, get_or, drop, filter, Option, Some, None, MatchOption, unwrap_or, refl, sym, ap, ◌∙◌, arith}
 use Rattle.std.specs.Borrow.{Bor}
 use Rattle.std.proofs.Math.Numerals.{one-add}

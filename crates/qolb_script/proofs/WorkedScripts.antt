@@ -1,4 +1,4 @@
--- Worked examples: a script and its reply, computed from the definitions.
+-- Worked examples: small scripts with their replies, which the prover computes from the definitions.
 use Rattle.std.specs.Prelude.{◌≡◌, [], ◌∷◌, ◌++◌, codes, map, replicate, refl, Some, None, Ok, Err}
 use Rattle.std.specs.Fmt.{digits}
 use Rattle.hex.specs.Hex.{encode_with, decode_pairs}

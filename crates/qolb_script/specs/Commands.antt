@@ -1,5 +1,5 @@
--- The commands of a schedule, and its header. The definitions in this file were made for this project; none is taken
--- from the literature.
+-- The header and the commands of a schedule, which is a script of calls on locks. The definitions in this file were
+-- made for this project; none is taken from the literature.
 use Rattle.std.specs.Prelude.{ℕ, ◌+◌, ◌-◌, ◌/◌, ◌^◌, nat_le, if◌then◌else◌, List, [], ◌∷◌, length, codes, Option, Some, None, Result, Ok, Err}
 use Rattle.std.specs.Str.{bytes_eq}
 use Rattle.hex.specs.Hex.{decode_of}

@@ -1,5 +1,5 @@
--- What each error of a script means. The definitions in this file were made for this project; none is taken from the
--- literature.
+-- The message for each error that can occur while a script is read. The definitions in this file were made for this
+-- project; none is taken from the literature.
 use Rattle.std.specs.Prelude.{ℕ, List, ◌++◌, codes, decimal}
 use Rattle.qolb_script.specs.declared.error.ScriptError.{ScriptError}
 use Rattle.qolb_script.specs.declared.error.ScriptError.TheVariants.{Memory, BadLine, Number, TooMany}

@@ -1,5 +1,5 @@
--- The events of a step script, and its header. The definitions in this file were made for this project; none is taken
--- from the literature.
+-- The header and the events of a step script. Each event is one atomic step of a node. The definitions in this file
+-- were made for this project; none is taken from the literature.
 use Rattle.std.specs.Prelude.{ℕ, if◌then◌else◌, List, [], ◌∷◌, codes, Option, Some, None, Result, Ok, Err}
 use Rattle.std.specs.Str.{bytes_eq}
 use Rattle.link_core.specs.declared.event.Event.{Event}

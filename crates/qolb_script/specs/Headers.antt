@@ -1,4 +1,4 @@
--- The header of a script, which determines the kind of the script. The definitions in this file were made for this
+-- How the header of a script determines the kind of the script. The definitions in this file were made for this
 -- project; none is taken from the literature.
 use Rattle.std.specs.Prelude.{ℕ, if◌then◌else◌, List, Option, Some, None, Result, Ok, Err, is_ok}
 use Rattle.qolb_script.specs.declared.job.WorkKind.{WorkKind}

@@ -1,5 +1,5 @@
--- The jobs of a work script, and its header. The definitions in this file were made for this project; none is taken
--- from the literature.
+-- The header and the jobs of a work script. The definitions in this file were made for this project; none is taken from
+-- the literature.
 use Rattle.std.specs.Prelude.{ℕ, ◌*◌, ◌-◌, ◌^◌, ◌<◌, is_err, if◌then◌else◌, List, [], ◌∷◌, codes, Result, Ok, Err}
 use Rattle.std.specs.Str.{bytes_eq}
 use Rattle.qolb_model.specs.declared.config.TheConstants.{MAX_NODES}

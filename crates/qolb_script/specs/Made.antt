@@ -1,5 +1,5 @@
--- Commands that are made for a given node and line. The definitions in this file were made for this project; none is
--- taken from the literature.
+-- The commands of a schedule that consist of one word, a node and a line, such as `enq` and `poll`. The definitions in
+-- this file were made for this project; none is taken from the literature.
 use Rattle.std.specs.Prelude.{ℕ, List, codes}
 use Rattle.qolb_script.specs.declared.command.Command.{Command}
 use Rattle.qolb_script.specs.declared.command.Command.TheVariants as command

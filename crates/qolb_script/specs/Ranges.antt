@@ -1,5 +1,5 @@
--- The allowed ranges of the numbers in a script. The definitions in this file were made for this project; none is taken
--- from the literature.
+-- The ranges in which the numbers of a script must lie. The definitions in this file were made for this project; none
+-- is taken from the literature.
 use Rattle.std.specs.Prelude.{◌≡◌, ◌≤◌, length}
 use Rattle.qolb_model.specs.declared.config.TheConstants.{MAX_NODES}
 use Rattle.qolb_model.specs.Leases.{IsLease}

@@ -1,5 +1,5 @@
--- The part of the input that remains after a line or a word has been read. The definitions in this file were made for
--- this project; none is taken from the literature.
+-- The part of a script that has not been read yet, as a list of lines or of words. The definitions in this file were
+-- made for this project; none is taken from the literature.
 use Rattle.std.specs.Prelude.{ℕ, ◌==◌, List, [], Option, Some, None}
 use Rattle.std.specs.Borrow.{Bor}
 use Rattle.std.specs.List.{slice_split, enumerate_from}

@@ -1,5 +1,5 @@
--- The reasons why bytes are not a script, and the error for each reason. The definitions in this file were made for
--- this project; none is taken from the literature.
+-- The reasons why input is refused as a script, and the error that is returned for each reason. The definitions in this
+-- file were made for this project; none is taken from the literature.
 use Rattle.std.specs.Prelude.{ℕ, if◌then◌else◌, List, Result, Ok, Err}
 use Rattle.std.specs.Str.{bytes_eq}
 use Rattle.qolb_script.specs.declared.error.ScriptError.{ScriptError}

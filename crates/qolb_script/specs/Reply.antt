@@ -1,5 +1,6 @@
--- The reply to a script: the answer to each command, and then the counts of each line. The definitions in this file
--- were made for this project; none is taken from the literature.
+-- The reply to a schedule: an answer to each command, and after the last answer the counts of requests for each line (a
+-- lock with 64 bytes of data). The definitions in this file were made for this project; none is taken from the
+-- literature.
 use Rattle.std.specs.Prelude.{ℕ, ◌==◌, ◌&&◌, ◌||◌, Bool, true, false, if◌then◌else◌, List, [], ◌∷◌, ◌++◌, map, fold, flat_map, count_by, replicate, slice_set, None, Result, Ok, Err}
 use Rattle.std.specs.List.{slice_index_or, range_with_len}
 use Rattle.line_lanes.specs.Line.{zeros}

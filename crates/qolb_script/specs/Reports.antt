@@ -1,5 +1,5 @@
--- The text of a report of work, which has one line for each number. The definitions in this file were made for this
--- project; none is taken from the literature.
+-- The report on a work script as text. Each line of the text has a word and a number. The definitions in this file were
+-- made for this project; none is taken from the literature.
 use Rattle.std.specs.Prelude.{ℕ, List, [], ◌∷◌, ◌++◌, codes, decimal}
 use Rattle.qolb_script.specs.declared.report.Report.{Report}
 use Rattle.qolb_script.specs.declared.report.Report.TheVariants.{Board, Bank}

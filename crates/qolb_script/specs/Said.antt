@@ -1,5 +1,5 @@
--- The text of the answers of a replay, with one line for each answer. The definitions in this file were made for this
--- project; none is taken from the literature.
+-- How the answers of a replay are written as text, with one line for each answer. The definitions in this file were
+-- made for this project; none is taken from the literature.
 use Rattle.std.specs.Prelude.{ℕ, List, [], ◌∷◌, ◌++◌, codes, decimal}
 use Rattle.hex.specs.Hex.{encode_lower}
 use Rattle.qolb_model.specs.declared.answer.Enq.TheVariants as enq

@@ -1,5 +1,5 @@
--- The script that given bytes represent, or the first fault in these bytes. The definitions in this file were made for
--- this project; none is taken from the literature.
+-- How input bytes are parsed as a schedule. The result of parsing is the schedule or the first error. The definitions
+-- in this file were made for this project; none is taken from the literature.
 use Rattle.std.specs.Prelude.{ℕ, ◌+◌, ◌<◌, ◌≤◌, nat_le, if◌then◌else◌, List, [], ◌∷◌, All, take, Option, Result, Ok, Err, IsOk}
 use Rattle.qolb_script.specs.declared.command.Command.{Command}
 use Rattle.qolb_script.specs.declared.error.ScriptError.{ScriptError}

@@ -1,5 +1,5 @@
--- The reply to a step script: the result of each event, and then the counts of the line. The definitions in this file
--- were made for this project; none is taken from the literature.
+-- The reply to a step script: the result of each event, and after the last event the counts of requests. The
+-- definitions in this file were made for this project; none is taken from the literature.
 use Rattle.std.specs.Prelude.{ℕ, List, [], ◌∷◌, ◌++◌, count_by, codes, decimal, Option, Some, None}
 use Rattle.link_core.specs.declared.told.Told.{Told}
 use Rattle.qolb_script.specs.declared.reply_text.Said.{Said}

@@ -1,5 +1,5 @@
--- The step script that given bytes represent, or the first fault in these bytes. The definitions in this file were made
--- for this project; none is taken from the literature.
+-- How input bytes are parsed as a step script. The result of parsing is the step script or the first error. The
+-- definitions in this file were made for this project; none is taken from the literature.
 use Rattle.std.specs.Prelude.{ℕ, ◌≤◌, List, [], ◌∷◌, All, take, Option, Result, Ok, Err, IsOk}
 use Rattle.link_core.specs.declared.event.Event.{Event}
 use Rattle.link_core.specs.Steps.{node_of}

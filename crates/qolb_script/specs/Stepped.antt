@@ -1,5 +1,5 @@
--- The steps of a node in a step script. The definitions in this file were made for this project; none is taken from the
--- literature.
+-- The events of a step script that consist of one word and a node, such as `reset` and `load`. The definitions in this
+-- file were made for this project; none is taken from the literature.
 use Rattle.std.specs.Prelude.{ℕ, List, codes}
 use Rattle.link_core.specs.declared.event.Event.{Event}
 use Rattle.link_core.specs.declared.event.Event.TheVariants as event

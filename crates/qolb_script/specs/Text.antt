@@ -1,5 +1,5 @@
--- The text of a script: each line ends with a newline and consists of words that are separated by spaces. The
--- definitions in this file were made for this project; none is taken from the literature.
+-- How the text of a script is split into lines and words, and which words denote numbers. The definitions in this file
+-- were made for this project; none is taken from the literature.
 use Rattle.std.specs.Prelude.{ℕ, ◌==◌, ◌&&◌, ◌^◌, nat_le, nat_lt, not, Bool, if◌then◌else◌, List, length, filter, Option, Some, None, Result, Ok, Err}
 use Rattle.std.specs.List.{slice_split, list_all, enumerate_from}
 use Rattle.std.specs.Str.{all_ascii_digits}

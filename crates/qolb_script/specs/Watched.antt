@@ -1,5 +1,5 @@
--- A reader or writer that remembers a fault, in the terms that contracts use. The definitions in this file were made
--- for this project; none is taken from the literature.
+-- How contracts describe a reader or writer that remembers whether one of its operations has failed. The definitions in
+-- this file were made for this project; none is taken from the literature.
 use Rattle.std.specs.Prelude.{Bool}
 use Rattle.qolb_script.specs.declared.watched.Watched.{Watched}
 

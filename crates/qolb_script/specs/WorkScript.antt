@@ -1,5 +1,5 @@
--- The work script that given bytes represent, or the first fault in these bytes. The definitions in this file were made
--- for this project; none is taken from the literature.
+-- How input bytes are parsed as a work script. The result of parsing is the work script or the first error. The
+-- definitions in this file were made for this project; none is taken from the literature.
 use Rattle.std.specs.Prelude.{ℕ, ◌≤◌, List, [], ◌∷◌, All, take, Result, Ok, Err, IsOk}
 use Rattle.qolb_script.specs.declared.job.Job.{Job}
 use Rattle.qolb_script.specs.declared.job.WorkKind.{WorkKind}

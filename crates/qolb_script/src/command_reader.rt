@@ -33,7 +33,7 @@ pub const LINES: &[u8] = b"lines";
 /// The word in a header that precedes the lease.
 pub const LEASE: &[u8] = b"lease";
 
-/// The kind of a command that has only a node and a line, as its first word tells.
+/// The kinds of commands that consist of one word, a node and a line. The word tells the kind.
 #[derive(Clone, Copy)]
 pub enum Verb {
     Enq,
@@ -44,7 +44,7 @@ pub enum Verb {
     Shut,
 }
 
-/// All kinds of such commands.
+/// All kinds of commands that consist of one word, a node and a line.
 const VERBS: [Verb; 6] = [
     Verb::Enq,
     Verb::Poll,
@@ -255,8 +255,9 @@ fn read_call(nodes: u64, lines: u64, verb: Verb, mut words: Words) -> Result<Com
     }
 }
 
-/// Reads the words of a write that follow the first word: the node, the line, the place of the first byte, and the
-/// bytes in hex.
+/// Reads the words of a write that follow the first word.
+///
+/// These are the node, the line, the place of the first byte, and the bytes in hex.
 fn read_write(nodes: u64, lines: u64, mut words: Words) -> Result<Command, Reason>
     requires { 1 ≤ lines }
     ensures command { result ≡ spec.write_of nodes lines (words_left words.entry) }
@@ -282,8 +283,9 @@ fn read_write(nodes: u64, lines: u64, mut words: Words) -> Result<Command, Reaso
     }
 }
 
-/// Reads the mask and the bytes of a write from two words: the place of the first byte, and the bytes in hex. The first
-/// of the two is word `place` of its line.
+/// Reads the mask and the bytes of a write from two words.
+///
+/// Word `place` of the script's line is the place of the first byte. The next word is the bytes in hex.
 pub fn read_placed(place: u64, off: &[u8], hex: &[u8]) -> Result<(Mask, Line64), Reason>
     requires { place < 10 }
     ensures { result ≡ spec.placed_of place off.now hex.now }
@@ -292,8 +294,9 @@ pub fn read_placed(place: u64, off: &[u8], hex: &[u8]) -> Result<(Mask, Line64),
     placed_at(place + 1, off as usize, hex)
 }
 
-/// Reads the mask and the bytes of a write that begins at byte `off` of a line, if the bytes are hex and fit into the
-/// line. They are word `place` of their line.
+/// Reads the mask and the bytes of a write that begins at byte `off` of a lock line.
+///
+/// The bytes are word `place` of the script's line. They must be hex and fit into the lock line.
 fn placed_at(place: u64, off: usize, hex: &[u8]) -> Result<(Mask, Line64), Reason>
     requires { off < 64 }
     ensures { result ≡ spec.placed_at place off hex.now (decode_of hex.now) }

@@ -1,4 +1,4 @@
-//! The reasons why a script is refused.
+//! The errors that can occur while a script is read.
 ghost use Rattle.std.specs.Prelude.{◌≡◌, ℕ};
 
 use std::error::Error;
@@ -11,8 +11,10 @@ use std::fmt;
 pub enum ScriptError {
     /// An allocation failed.
     Memory,
-    /// The line has a byte that is not allowed in a script, an unknown first word, a wrong number of words, a wrong
-    /// fixed word, or a word for bytes that is not hex or does not fit.
+    /// The line does not have one of the forms that are allowed there.
+    ///
+    /// It has a byte that is not allowed in a script, an unknown first word, a wrong number of words, a wrong fixed
+    /// word, or a word for bytes that is not hex or does not fit.
     BadLine(u64),
     /// A word of the line that must be a number is not a number, or is out of its range.
     Number(u64),

@@ -1,4 +1,4 @@
-//! Determines from a header which kind of script follows.
+//! Determines the kind of a script from the script's header.
 ghost use Rattle.std.specs.Prelude.{◌≡◌};
 ghost use Rattle.qolb_script.specs.Headers as spec;
 

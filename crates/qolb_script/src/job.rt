@@ -1,4 +1,4 @@
-//! The jobs of workers in a work script.
+//! The jobs of a work script. A job is one operation of one worker on a task board or a bank.
 ghost use Rattle.std.specs.Prelude.{◌≡◌};
 ghost use Rattle.qolb_script.specs.Jobs.{worker_of};
 

@@ -1,5 +1,5 @@
-//! Reads scripts of calls, steps and work, writes the text of answers, and wraps readers and writers so that they
-//! remember a fault.
+//! Parses the three kinds of scripts (schedules, step scripts and work scripts) and writes the answers to them as text.
+//! The crate also wraps readers and writers so that they remember whether an operation has failed.
 #![tactic(auto)]
 
 mod command;

@@ -1,5 +1,5 @@
-//! Describes why bytes are not a script: the line that is refused, the wrong word in it, and what would be allowed in
-//! its place.
+//! The reasons why input is refused as a script: which line is refused, which word in this line is wrong, and what is
+//! allowed in the place of this word.
 ghost use Rattle.std.specs.Prelude.{◌≡◌};
 ghost use Rattle.qolb_script.specs.Refusals.{error_of, unless_same};
 
@@ -74,8 +74,9 @@ pub enum Reason {
         place: u64,
         allowed: Allowed,
     },
-    /// The second word does not name a job, and the first word is not one of this number of workers. The worker may be
-    /// missing.
+    /// The second word does not name a job, and the first word is not one of this number of workers.
+    ///
+    /// The worker may be missing.
     NoWorker(u64),
     /// The line does not have the number of words that a line of this form has.
     Count(Form),

@@ -27,8 +27,10 @@ pub enum Said {
     Told(Told),
     /// The event was not enabled.
     Refused,
-    /// The counts of a line: the requests that were served, that were withdrawn and that ended because the line was
-    /// closed, and the nodes that still wait or hold.
+    /// The counts of a lock line.
+    ///
+    /// They are the requests that were served, that were withdrawn and that ended because the line was closed, and the
+    /// nodes that still wait or hold.
     Summary {
         line: u64,
         served: u64,
@@ -38,8 +40,9 @@ pub enum Said {
     },
 }
 
-/// The largest number of bytes in a summary with its newline: five numbers of at most 20 digits, and the words before
-/// them.
+/// The largest number of bytes in a summary with its newline.
+///
+/// A summary has five numbers of at most 20 digits, and the words before them.
 const MAX_SUMMARY: usize = 137;
 
 /// The largest number of bytes in a rank, with the space before it and the newline.

@@ -1,4 +1,4 @@
-//! The reports of work scripts.
+//! The report with which a work script ends, and how it is written as text.
 ghost use Rattle.std.specs.Prelude.{◌≡◌, ◌↔◌, true, IsErr, OnOk};
 ghost use Rattle.std.specs.Io.KnownBytes.{Appends};
 ghost use Rattle.qolb_script.specs.Watched.{inner_of, has_failed};
@@ -11,8 +11,10 @@ use std::io::Write;
 /// The result of the work of all workers, as the program reports it.
 #[derive(Clone, Copy, Debug, PartialEq, Eq)]
 pub enum Report {
-    /// The report of a board. It counts the tasks stored, the puts that found the board full, the tasks taken, the
-    /// takes that found the board empty, and the tasks left.
+    /// The report of a board.
+    ///
+    /// It counts the tasks stored, the puts that found the board full, the tasks taken, the takes that found the board
+    /// empty, and the tasks left.
     Board {
         stored: u64,
         full: u64,

@@ -1,11 +1,11 @@
-//! The events of a step script that differ only in their first word.
+//! The events of a step script that consist of one word and a node, such as `reset` and `load`.
 ghost use Rattle.std.specs.Prelude.{◌≡◌, find};
 ghost use Rattle.std.specs.Str.{bytes_eq};
 ghost use Rattle.qolb_script.specs.Stepped.{word_of, event_of};
 
 use link_core::Event;
 
-/// The kind of an event that has only a node, as its first word tells.
+/// The kinds of events that consist of one word and a node. The word tells the kind.
 #[derive(Clone, Copy)]
 pub enum Step {
     Reset,
@@ -20,7 +20,7 @@ pub enum Step {
     Close,
 }
 
-/// All kinds of such events.
+/// All kinds of events that consist of one word and a node.
 const STEPS: [Step; 10] = [
     Step::Reset,
     Step::Prepend,

@@ -1,5 +1,5 @@
-//! The text of scripts: how it divides into lines and words, which words denote numbers, and which item each line
-//! denotes.
+//! Splits the text of a script into lines and words, parses numbers, and reads the items (commands, events or jobs)
+//! below the header.
 ghost use Rattle.std.specs.Prelude.{◌≡◌, ◌==◌, ◌+◌, ◌<◌, ◌≤◌, ◌^◌, ◌∷◌, [], length, not, IfOk, IfSome, MatchOption};
 ghost use Rattle.std.specs.List.{slice_split};
 ghost use Rattle.std.specs.Option.{ForSome};
@@ -188,8 +188,9 @@ fn number(word: &[u8]) -> Option<u64>
     str::from_utf8(word).ok()?.parse().ok()
 }
 
-/// Returns the number that a word denotes, if this number is from `low` to `high`. The word is number `place` of its
-/// line.
+/// Returns the number that a word denotes, if this number is from `low` to `high`.
+///
+/// `place` is the place of the word in its line, which the error contains.
 pub fn number_within(place: u64, low: u64, high: u64, word: &[u8]) -> Result<u64, Reason>
     ensures number { result ≡ spec.number_within place low high word.now }
     ensures range { IfOk result (λ n. (low ≤ n) × (n ≤ high)) }

@@ -1,4 +1,4 @@
-//! Work scripts, which list what workers do on a board or in a bank.
+//! Work scripts, each of which lists the jobs that worker threads do at a shared task board or a shared bank.
 ghost use Rattle.std.specs.Prelude.{◌≡◌, ◌≢◌, IfOk, IfErr};
 ghost use Rattle.qolb_script.specs.WorkScript.{IsWorkBegun, parsed_work, work_of};
 

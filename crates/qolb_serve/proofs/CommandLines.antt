@@ -1,4 +1,4 @@
--- Lemmas about what the refusal of a command line implies about its words.
+-- Lemmas about the words of a command line that was refused.
 use Rattle.std.proofs.Common.{◌≡◌, ◌≢◌, Bool, true, false, not, ◌&&◌, List, ap, refl, ◌∙◌, IfErr, IsErrAnd, Result, Ok, Err}
 use Rattle.clap.specs.Words.{App, Text, kind_of, takes}
 use Rattle.clap.specs.declared.error.Error.{Error}

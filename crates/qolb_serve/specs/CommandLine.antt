@@ -1,5 +1,5 @@
--- What the words of a command line request. (The library clap, which reads the words, defines what a command makes of
--- them.)
+-- What the words of a command line request from the program. The library clap parses the words, and defines how a
+-- command interprets them.
 use Rattle.std.specs.Prelude.{Bool, ◌≡◌, true, false, if◌then◌else◌, List, [], ◌∷◌, map, Option, Some, None, option_map, codes}
 use Rattle.std.specs.Borrow.{Bor}
 use Rattle.std.specs.Option.{unwrap_or}
@@ -82,8 +82,8 @@ draw_command = explaining (with_rule (with_rule (new_app (codes "draw")) (flag_r
 abbrev pub bare_command : App
 bare_command = let app = new_app (codes "qolb") in record app { top = record app.top { subcommand_required = true; has_version = true } }
 
--- the program's command: `replay --kind KIND`, `steps [--rank]`, `board [--kind KIND] [--sleep] [--progress]`, `bank` with the same, or
--- `draw [--svg] [--steps]`; each also with `--explain`
+-- the program's command: `replay --kind KIND`, `steps [--rank]`, `board [--kind KIND] [--sleep] [--progress]`, `bank`
+-- with the same, or `draw [--svg] [--steps]`; each also with `--explain`
 abbrev pub replay_or_steps : Names → App
 replay_or_steps replayed = with_subcommand (with_subcommand bare_command (replay_command replayed).top) steps_command.top
 

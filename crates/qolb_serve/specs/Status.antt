@@ -1,4 +1,4 @@
--- The exit statuses of the program qolb.
+-- The exit status of the program `qolb` for each error.
 use Rattle.std.specs.Prelude.{ℕ}
 use Rattle.qolb_run.specs.declared.task.TaskError.{TaskError}
 use Rattle.qolb_run.specs.declared.task.TaskError.TheVariants.{Memory, Read, Long, Script, Write, Stalled}

@@ -1,4 +1,4 @@
--- The answer of a subcommand to the bytes that it reads from standard input.
+-- What each subcommand answers to the bytes on standard input.
 use Rattle.std.specs.Prelude.{◌≡◌, ℕ, Bool, true, false, List, [], ◌++◌, Option, None, Err}
 use Rattle.std.specs.Io.KnownBytes.{Appends}
 use Rattle.line_kinds.specs.declared.Lock.{Lock}

@@ -1,4 +1,4 @@
-//! Reads the command line: what its words request, and what `--help` and `--version` print.
+//! Parses the command line, and defines what `--help` and `--version` print.
 ghost use Rattle.std.specs.Prelude.{◌≡◌, ◌≢◌, false, map, option_map, string_bytes, codes, IfOk, IfErr};
 ghost use Rattle.clap.specs.Words.{app_of, found_of, kind_of, new_app, rows_of, rule_of};
 ghost use Rattle.qolb_serve.specs.CommandLine as spec;
@@ -302,8 +302,9 @@ fn command<'a>(alloc: Global) -> Result<Command<'a>, AllocError>
     with_work(alloc, scripts(alloc, replayed)?, shared)?.subcommand(draw(alloc)?)
 }
 
-/// Builds the command with two subcommands: one replays a schedule on lines of one of these kinds, and the other runs a
-/// step script.
+/// Builds the command with two subcommands, for schedules and for step scripts.
+///
+/// One subcommand replays a schedule on lines of one of these kinds, and the other runs a step script.
 fn scripts<'a>(alloc: Global, kinds: &'a [&'a str]) -> Result<Command<'a>, AllocError>
     ensures { IfOk result (λ r. app_of r ≡ replay_or_steps kinds.entry) }
 {

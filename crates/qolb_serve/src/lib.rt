@@ -1,5 +1,5 @@
-//! The program qolb as a function: it reads the words of a command line, does what they request, and returns the exit
-//! status.
+//! The program `qolb` as a function. The function takes the words of a command line, does what they request, and
+//! returns the exit status.
 #![tactic(auto)]
 
 mod command_line;

@@ -1,4 +1,4 @@
-//! Connects the program to its process: the command line, the standard streams and the exit status.
+//! Runs the program `qolb` with the command line and the standard streams of the process, and returns the exit status.
 use crate::program::{refuse_words, serve};
 use std::alloc::AllocGlobal;
 use std::env;

@@ -1,4 +1,4 @@
-//! Does what the words of the command line request, and reports the outcome.
+//! Does what the command line requests, and writes the answer or a complaint.
 ghost use Rattle.std.specs.Prelude.{◌≡◌, ◌≢◌, ◌≤◌, ◌⊎◌, ◌++◌, [], ℕ, Bool, true, false, List, length, Err, codes, map, string_bytes, IfSome, IfErr, IfOk};
 ghost use Rattle.std.specs.IoError.{error_kind};
 ghost use Rattle.std.specs.declared.io.ErrorKind.TheVariants as io_kind;
@@ -180,8 +180,9 @@ fn notes_on(alloc: Global, subcommand: Subcommand, script: &[u8]) -> Result<Vec<
     }
 }
 
-/// Does the jobs of a work script, and returns the report as text. Reports the progress if `progress` is set and there
-/// is a clock.
+/// Does the jobs of a work script, and returns the report as text.
+///
+/// Reports the progress if `progress` is set and there is a clock.
 fn work<T: Threads + Wait + Clock + Eprint + Sync>(
     rt: &T,
     alloc: Global,
@@ -258,8 +259,9 @@ fn refusal_of(alloc: Global, subcommand: Subcommand, script: &[u8]) -> Option<Re
     }
 }
 
-/// Reports why the words of the command line could not be read. Returns the exit status: 3 if memory ran out, and 2
-/// otherwise.
+/// Reports why the words of the command line could not be read.
+///
+/// Returns the exit status: 3 if memory ran out, and 2 otherwise.
 pub fn refuse_words<E: Write>(err: &mut E, error: &io::Error) -> u8
     ensures memory { error_kind error.now ≡ io_kind.OutOfMemory → result ≡ 3 }
     ensures other { error_kind error.now ≢ io_kind.OutOfMemory → result ≡ 2 }

@@ -1,5 +1,5 @@
--- The words of scripts: the first words of commands and events, and the names of the points of a step script's nodes.
--- The definitions in this file were made for this project; none is taken from the literature.
+-- The words that name the commands of a schedule, the events of a step script, and the points of the lock algorithm at
+-- which a node can be. The definitions in this file were made for this project; none is taken from the literature.
 use Rattle.std.specs.Prelude.{ℕ, ◌++◌, Bool, true, false, List, [], codes, decimal, flat_map, Option, Some, None}
 use Rattle.qolb_words.specs.declared.Piece.{Piece}
 use Rattle.qolb_words.specs.declared.Piece.TheVariants.{Words, Number, Maybe}

@@ -1,4 +1,5 @@
-//! The words of scripts, for use in notes and pictures: those of commands, of events, and of the points of nodes.
+//! The words that name the commands of a schedule, the events of a step script, and the points of the lock algorithm at
+//! which a node can be. The crates that write notes and draw pictures use these words.
 #![tactic(auto)]
 
 ghost use Rattle.std.specs.Prelude.{◌≡◌, ◌++◌, OnOk, decimal, flat_map};

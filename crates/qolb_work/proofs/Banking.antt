@@ -1,4 +1,5 @@
--- Lemmas about the desks of workers: the effect of one call, and the sums that all desks have paid.
+-- Lemmas about what one call at a bank changes, and about the sums that all workers together have paid in and out. A
+-- desk is the handle through which a worker uses a bank.
 use Rattle.std.proofs.Common.{◌≡◌, inl, inr, ℕ, zero, suc, ◌+◌, ◌*◌, ◌^◌, ◌<◌, ◌≤◌, ◌==◌, true, false, List, [], ◌∷◌, ◌++◌, length, take, lit≤, All, Vec, vec_len, Some, None, slice_get, get_or, map, refl, ap, sym, ◌∙◌, subst, arith, length-append}
 use Rattle.std.specs.Global.{Global}
 use Rattle.std.specs.List.{sum_by}

@@ -1,4 +1,5 @@
--- Lemmas about how one call on a desk used each of the desk's ports.
+-- Lemmas about what one call at a desk did with each port of the desk. A desk is the handle through which a worker uses
+-- a bank, and has a port for each line of the bank.
 use Rattle.std.proofs.Common.{◌≡◌, ◌≢◌, ◌⊎◌, inl, inr, ℕ, ◌+◌, ◌≤◌, List, Some, slice_get, slice_set, refl, ap, sym, ◌∙◌, subst, arith}
 use Rattle.std.proofs.lemmas.Bool.{cases_eq, cases_lt}
 use Rattle.std.proofs.lemmas.Option.{slice_get_within}

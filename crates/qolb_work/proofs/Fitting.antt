@@ -1,4 +1,5 @@
--- Proof about a bank whose payments and moves together fit into one balance: no payment exceeds the largest balance.
+-- Proof that no payment into an account fails for lack of room if all payments into accounts and all moves between
+-- accounts together fit into one account.
 use Rattle.std.proofs.Common.{◌≡◌, ◌⊎◌, inl, inr, ℕ, ◌+◌, ◌<◌, ◌≤◌, ◌^◌, true, List, [], ◌∷◌, ◌++◌, length, map, take, All, Some, slice_get, refl, ap, sym, ◌∙◌, subst, arith, length-append}
 use Rattle.std.proofs.lemmas.Bool.{cases_lt}
 use Rattle.std.proofs.lemmas.List.{take-append-le}

@@ -1,4 +1,5 @@
--- Lemmas about the states of a board's workers, and about the views of their ports.
+-- Lemmas that connect the states of a board's workers with the views of the workers' ports. The view of a port is what
+-- the port knows about the requests on the line.
 use Rattle.std.proofs.Common.{◌≡◌, ℕ, zero, suc, ◌+◌, ◌≤◌, List, [], ◌∷◌, length, map, option_map, Some, None, slice_get, refl, ap, sym, ◌∙◌, subst, arith}
 use Rattle.std.proofs.lemmas.Option.{slice_get-map}
 use Rattle.qolb_model.specs.declared.view.View.{View}

@@ -1,4 +1,4 @@
--- Proof that what a wrapper of a line, such as `ParkOnPoll`, guarantees also holds for the line inside it.
+-- Proof that a guarantee about work on a wrapper of a line, such as `ParkOnPoll`, also holds for the wrapped line.
 use Rattle.std.proofs.Common.{◌≡◌, ℕ, zero, suc, ◌+◌, ◌<◌, List, [], ◌∷◌, All, Vec, map, length, get_or, option_map, slice_get, Result, Ok, Err, IfOk, sym, subst, ap, ◌∙◌, refl, arith}
 use Rattle.std.specs.Global.{Global}
 use Rattle.std.proofs.lemmas.List.{length-map}

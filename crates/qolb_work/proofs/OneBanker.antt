@@ -1,4 +1,4 @@
--- Proof about a single worker at a bank: its desk shows the balances of one owner's bank.
+-- Proof that the only worker of a bank sees the same balances as a single owner who has done the same jobs.
 use Rattle.std.proofs.Common.{◌≡◌, ◌≢◌, inl, inr, ℕ, ◌+◌, ◌-◌, ◌*◌, ◌^◌, ◌<◌, ◌≤◌, nat_lt, true, false, if◌then◌else◌, List, length, Some, slice_get, slice_set, refl, ap, sym, ◌∙◌, subst, arith}
 use Rattle.std.proofs.lemmas.Bool.{eq-eqb, ne_eqb, cases_eq, cases_lt, lt-ltb, le-ltb}
 use Rattle.line_lanes.specs.Lane.{lane_of, with_lane_of}

@@ -1,4 +1,5 @@
--- Proof that each report is the report of a board or of a bank.
+-- Lemmas about reports: the clause about the lines of a bank holds trivially for the report of a board, and the clause
+-- about the line of a board holds trivially for the report of a bank.
 use Rattle.std.proofs.Common.{◌≡◌, sym, ◌∙◌, IfOk, Result, Ok, Err}
 use Rattle.qolb_model.specs.declared.config.LineConfig.{LineConfig}
 use Rattle.qolb_model.specs.declared.view.View.{View}

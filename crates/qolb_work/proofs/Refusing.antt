@@ -1,5 +1,5 @@
--- Proof that if all ports are present and none has an open request, a line can only fail to be finished because memory
--- runs out.
+-- Proof that taking a line apart (`finish`) can fail only because memory runs out, if all ports of the line are present
+-- and none of them has an open request.
 use Rattle.std.proofs.Common.{◌≡◌, ℕ, zero, suc, List, refl}
 use Rattle.qolb_model.specs.declared.unfinished.FinishError.{FinishError}
 use Rattle.qolb_model.specs.declared.unfinished.FinishError.TheVariants.{Memory, Unquiet, Missing}

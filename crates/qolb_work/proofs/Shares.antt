@@ -1,4 +1,5 @@
--- Proof that each job belongs to exactly one worker, so that the sum over all workers is the sum over all jobs.
+-- Proof that the sums over each worker's jobs add up to the sum over all jobs, because each job belongs to exactly one
+-- worker.
 use Rattle.std.proofs.Common.{◌≡◌, ◌≢◌, inl, inr, ℕ, zero, suc, ◌+◌, ◌<◌, ◌≤◌, ◌==◌, Bool, cond, List, [], ◌∷◌, length, All, None, Some, slice_get, refl, ap, sym, ◌∙◌, subst, arith}
 use Rattle.std.specs.List.{sum_by, count_by}
 use mathlib.Core.Bool.{not}

@@ -1,4 +1,4 @@
--- Lemmas about the sum of the counts of a board's workers, and about the report that results from it.
+-- Lemmas about adding up the counts of all workers at a board, and about the report that is made from the sums.
 use Rattle.std.proofs.Common.{◌≡◌, ℕ, zero, suc, ◌+◌, ◌*◌, ◌<◌, ◌≤◌, ◌==◌, inl, inr, Bool, true, false, cond, List, [], ◌∷◌, length, map, take, All, Some, None, slice_get, get_or, refl, ap, sym, ◌∙◌, subst, arith, zero-add}
 use Rattle.std.specs.List.{sum_by, count_by}
 use Rattle.std.proofs.lemmas.Bool.{cases_lt, eqb-true, eq-eqb, ne_eqb}

@@ -1,4 +1,5 @@
--- Lemmas about the turns of a node, as they follow from the ends of a board's line.
+-- Lemmas about the critical sections (turns) of a node at a board. The turns are computed from the requests on the line
+-- and from how each request ended.
 use Rattle.std.proofs.Common.{◌≡◌, ℕ, zero, suc, ◌+◌, ◌<◌, ◌≤◌, ◌==◌, inl, inr, true, false, if◌then◌else◌, List, [], ◌∷◌, ◌++◌, length, take, drop, replicate, Some, slice_get, refl, ap, sym, ◌∙◌, arith, append-nil, append_assoc}
 use Rattle.std.proofs.lemmas.Bool.{ne_eqb, cases_lt}
 use Rattle.std.proofs.lemmas.Option.{slice_get_within}

@@ -1,4 +1,4 @@
--- Proof that no worker of a bank is notified that a line is closed, because no worker has shut a line.
+-- Proof that no worker of a bank is told that a line is closed, because no worker has closed a line.
 use Rattle.std.proofs.Common.{◌≡◌, ℕ, ◌+◌, List, map, All, option_map, Some, slice_get, ap, sym, ◌∙◌, subst, arith}
 use Rattle.std.proofs.lemmas.Option.{slice_get_within, slice_get-map, get_or_from_slice_get}
 use Rattle.qolb_model.specs.declared.config.LineConfig.{LineConfig}

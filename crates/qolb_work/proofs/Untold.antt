@@ -1,4 +1,4 @@
--- Proof that no worker of a board is notified that its line is closed, because no worker has shut the line.
+-- Proof that no worker of a board is told that the board's line is closed, because no worker has closed this line.
 use Rattle.std.proofs.Common.{◌≡◌, ℕ, ◌+◌, inl, inr, List, length, map, All, None, Some, slice_get, get_or, ap, sym, ◌∙◌, subst, arith}
 use Rattle.std.proofs.lemmas.Option.{slice_get-get_or}
 use Rattle.qolb_model.specs.declared.config.LineConfig.{LineConfig}

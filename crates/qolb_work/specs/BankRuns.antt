@@ -1,4 +1,4 @@
--- The sums that result from the jobs of a bank, depending on the outcomes of the jobs. The definitions in this file
+-- How much the jobs of a bank pay in and pay out, computed from the outcomes of the jobs. The definitions in this file
 -- were made for this project; none is taken from the literature.
 use Rattle.std.specs.Prelude.{◌≡◌, ℕ, ◌+◌, ◌-◌, ◌==◌, nat_lt, if◌then◌else◌, Bool, true, false, List, [], ◌∷◌, length, All, Some, slice_get}
 use Rattle.std.specs.List.{sum_by}

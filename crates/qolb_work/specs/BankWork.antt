@@ -1,5 +1,5 @@
--- Workers at a bank: how a worker repeats a job until the job has an outcome, and what the worker has done. The
--- definitions in this file were made for this project; none is taken from the literature.
+-- How a worker at a bank tries each job again until the job's lines are granted in time, and what the worker has done
+-- after several jobs. The definitions in this file were made for this project; none is taken from the literature.
 use Rattle.std.specs.Prelude.{◌≡◌, ℕ, ◌+◌, ◌*◌, ◌^◌, ◌<◌, ◌≤◌, Bool, true, false, List, [], ◌∷◌, ◌++◌, length, All, Some, slice_get}
 use Rattle.qolb_model.specs.declared.config.LineConfig.{LineConfig}
 use Rattle.qolb_model.specs.declared.view.View.{View}

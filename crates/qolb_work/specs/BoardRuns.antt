@@ -1,5 +1,5 @@
--- The jobs of a board, done one after another by one owner. The definitions in this file were made for this project;
--- none is taken from the literature.
+-- The effect of a list of jobs on a task board that has only one owner, who does the jobs one after another. The
+-- definitions in this file were made for this project; none is taken from the literature.
 use Rattle.std.specs.Prelude.{ℕ, ◌+◌, nat_lt, if◌then◌else◌, List, [], ◌∷◌, ◌++◌, length, drop}
 use Rattle.line_board.specs.declared.board.TheConstants.{MAX_TASKS}
 use Rattle.qolb_script.specs.declared.job.Job.{Job}

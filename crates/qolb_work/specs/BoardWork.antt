@@ -1,5 +1,5 @@
--- Workers at a board: the turns of a worker's port, and what the worker has done. The definitions in this file were
--- made for this project; none is taken from the literature.
+-- The work of one worker at a task board: the worker's critical sections (turns), and the job that was done in each of
+-- them. The definitions in this file were made for this project; none is taken from the literature.
 use Rattle.std.specs.Prelude.{◌≡◌, ℕ, ◌+◌, ◌<◌, ◌≤◌, ◌==◌, ◌&&◌, nat_lt, Bool, if◌then◌else◌, List, [], ◌∷◌, ◌++◌, length, count_by}
 use Rattle.std.specs.List.{sum_by}
 use Rattle.qolb_model.specs.declared.request.Request.{Request}

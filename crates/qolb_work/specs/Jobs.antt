@@ -1,5 +1,5 @@
--- The jobs of a work script, and the jobs of each worker in it. The definitions in this file were made for this
--- project; none is taken from the literature.
+-- The jobs of a work script: which jobs a board or a bank can do, and which jobs belong to each worker. The definitions
+-- in this file were made for this project; none is taken from the literature.
 use Rattle.std.specs.Prelude.{◌≡◌, ℕ, ◌==◌, Bool, true, false, List, count_by}
 use Rattle.std.specs.List.{filter}
 use Rattle.qolb_script.specs.declared.job.Job.{Job}

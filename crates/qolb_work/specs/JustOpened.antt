@@ -1,5 +1,5 @@
--- Lines that were just opened for workers. The definitions in this file were made for this project; none is taken from
--- the literature.
+-- What is known about a line and its ports when they have just been opened for workers. The definitions in this file
+-- were made for this project; none is taken from the literature.
 use Rattle.std.specs.Prelude.{◌≡◌, ℕ, ◌+◌, List, Some, None, slice_get}
 use Rattle.line_lanes.specs.Line.{zeros}
 use Rattle.qolb_model.specs.declared.config.LineConfig.{LineConfig}

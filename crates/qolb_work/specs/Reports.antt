@@ -1,5 +1,5 @@
--- How a report describes the work that was done. The definitions in this file were made for this project; none is taken
--- from the literature.
+-- What the numbers in a report say about the work that was done. The definitions in this file were made for this
+-- project; none is taken from the literature.
 use Rattle.std.specs.Prelude.{◌≡◌, ◌≤◌, ℕ, ◌+◌, List}
 use Rattle.line_accounts.specs.declared.law.TheConstants.{MAX_BALANCE}
 use Rattle.qolb_script.specs.declared.job.Job.{Job}

@@ -1,5 +1,5 @@
--- Workers whose threads have ended. The definitions in this file were made for this project; none is taken from the
--- literature.
+-- What a worker has done when the worker's thread has ended. The definitions in this file were made for this project;
+-- none is taken from the literature.
 use Rattle.std.specs.Prelude.{◌≡◌, ◌⊎◌, ℕ, ◌+◌, ◌<◌, ◌≤◌, List, [], length, Option, Some, None, slice_get}
 use Rattle.qolb_script.specs.declared.job.Job.{Job}
 use Rattle.qolb_script.specs.declared.schedule.TheConstants.{MAX_COMMANDS}

@@ -1,4 +1,4 @@
-//! Workers that share a bank, whose accounts are stored in lines.
+//! Runs workers that share a bank. The accounts of the bank are stored in queued lines.
 ghost use Rattle.std.specs.Prelude.{◌≡◌, ◌≤◌, ℕ, [], All, Err, IfOk, IfErr, length, map, vec_len};
 ghost use Rattle.qolb_script.specs.declared.schedule.TheConstants.{MAX_COMMANDS};
 ghost use Rattle.qolb_model.specs.declared.config.TheConstants.{MAX_NODES};
@@ -174,8 +174,9 @@ where
     Ok(all)
 }
 
-/// Wraps each line in a `ParkOnPoll`, so that workers sleep between polls. The order of the lines and their ports stay
-/// the same.
+/// Wraps each line in a `ParkOnPoll`, so that workers sleep between polls.
+///
+/// The order of the lines and their ports stay the same.
 fn all_asleep<R: Wait, L: ParkingLine<AccountLaw> + Drop>(
     rt: &R,
     alloc: Global,

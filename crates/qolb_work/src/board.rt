@@ -1,4 +1,4 @@
-//! Workers that share a task board.
+//! Runs workers that share a task board, which is stored in one queued line.
 ghost use Rattle.std.specs.Prelude.{◌≡◌, ◌*◌, ℕ, [], ◌∷◌, ◌≤◌, All, Err, IfOk, IfErr, IfNone, Some, true, false, length, map, vec_len};
 ghost use Rattle.qolb_script.specs.declared.schedule.TheConstants.{MAX_COMMANDS};
 ghost use Rattle.qolb_model.specs.declared.config.TheConstants.{MAX_NODES};
@@ -76,8 +76,10 @@ impl<L: LineSync<BoardLaw>> JobTarget for Board<L> {
     }
 }
 
-/// Puts the task on the board. Tries again whenever the line was not granted in time or the port was busy, and blocks
-/// until the line is granted or closed.
+/// Puts the task on the board.
+///
+/// Tries again whenever the line was not granted in time or the port was busy, and blocks until the line is granted or
+/// closed.
 ///
 /// Returns `Some(true)` if the task was stored, `Some(false)` if the board was full, and `None` if the line is closed.
 fn put_at_last<R: Wait, L: LineSync<BoardLaw>>(
@@ -107,8 +109,10 @@ fn put_at_last<R: Wait, L: LineSync<BoardLaw>>(
     unreachable!()
 }
 
-/// Takes a task from the board. Tries again whenever the line was not granted in time or the port was busy, and blocks
-/// until the line is granted or closed.
+/// Takes a task from the board.
+///
+/// Tries again whenever the line was not granted in time or the port was busy, and blocks until the line is granted or
+/// closed.
 ///
 /// Returns `Some(true)` if a task was taken, `Some(false)` if the board had no task, and `None` if the line is closed.
 fn take_at_last<R: Wait, L: LineSync<BoardLaw>>(

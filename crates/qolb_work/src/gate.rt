@@ -1,20 +1,23 @@
-//! Gates, each of which decides when a worker may start its next job.
+//! A gate decides when a worker may start its next job.
 ghost use Rattle.std.specs.Prelude.{◌≡◌, ℕ, false};
 
 use std::thread::yield_now;
 
-/// The number of times that a gate may refuse a worker before the same job. After this many refusals, the worker gives
-/// up.
+/// The number of times that a gate may refuse a worker before the same job.
+///
+/// After this number of refusals, the worker gives up.
 pub const MAX_REFUSALS: u32 = 1_000_000;
 
 /// Decides when a worker may start its next job.
 pub trait Gate {
-    /// `may_refuse gate worker` says that the gate may refuse this worker. A gate that does not define `may_refuse` may
-    /// refuse every worker.
+    /// `may_refuse gate worker` says that the gate may refuse this worker.
+    ///
+    /// A gate that does not define `may_refuse` may refuse every worker.
     ghost may_refuse: { Self → ℕ → Type 0 } = { λ gate worker. Unit {0} };
 
-    /// Tells the gate the number of all jobs. The call comes once, before the workers begin. By default, it does
-    /// nothing.
+    /// Tells the gate the number of all jobs.
+    ///
+    /// The call comes once, before the workers begin. By default, it does nothing.
     fn begins(&self, _jobs: usize) {}
 
     /// Returns `true` if the worker may start job number `at`. The jobs of each worker are counted from 0.

@@ -1,4 +1,5 @@
-//! Runs workers that share queued lines of any kind: a task board, or the accounts of a bank.
+//! Runs worker threads that share a task board or the accounts of a bank. The tasks and the accounts are stored in
+//! queued lines, which are queue locks with 64 bytes of data.
 #![tactic(auto)]
 
 mod bank;

@@ -10,8 +10,9 @@ use line_lanes::Line64;
 use qolb_model::{Keep, LineConfig, OpenError, OpenLine};
 use std::alloc::Global;
 
-/// Opens a line that holds zeros, with a port for each worker. The line has no lease, so the number of its acquisitions
-/// is not limited.
+/// Opens a line that holds zeros, with a port for each worker.
+///
+/// The line has no lease, so the number of its acquisitions is not limited.
 pub(crate) fn open_line<K: Keep, L: OpenLine<K>>(
     alloc: Global,
     label: u64,

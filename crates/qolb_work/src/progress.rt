@@ -1,4 +1,4 @@
-//! A gate that reports the progress of the work.
+//! A gate that lets every worker start the next job at once, and reports how many jobs are finished.
 use crate::gate::Gate;
 use std::io;
 use std::rt::Clock;
@@ -17,8 +17,10 @@ pub struct Progress<'a, R> {
     done: AtomicU64,
     /// The last second, counted from `start`, in which a worker wrote a message.
     said: AtomicU64,
-    /// This is `true` while a worker writes a message. Meanwhile, no other worker writes. Therefore the number in a
-    /// message is never smaller than the number in the message before.
+    /// This is `true` while a worker writes a message.
+    ///
+    /// Meanwhile, no other worker writes. Therefore the number in a message is never smaller than the number in the
+    /// message before.
     writing: AtomicBool,
 }
 
@@ -39,8 +41,10 @@ impl<'a, R: Clock + Eprint> Progress<'a, R> {
         })
     }
 
-    /// Writes how many jobs are done. Does nothing if another worker is writing, or if a worker has already written in
-    /// this second. A failed write is ignored.
+    /// Writes how many jobs are done.
+    ///
+    /// Does nothing if another worker is writing, or if a worker has already written in this second. A failed write is
+    /// ignored.
     fn say(&self) {
         let Ok(time) = self.start.elapsed(self.rt) else {
             return;

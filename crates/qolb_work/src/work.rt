@@ -1,4 +1,4 @@
-//! Runs work scripts: the workers share a board, or the lines of a bank.
+//! Runs work scripts, in which worker threads share a task board or a bank.
 ghost use Rattle.std.specs.Prelude.{◌≡◌, ℕ, Err, IfOk, IfErr};
 ghost use Rattle.qolb_work.specs.declared.work.RunError.TheVariants.{Memory};
 ghost use Rattle.qolb_work.specs.Workers.{MayStop};
@@ -24,8 +24,9 @@ pub enum RunError {
     /// A memory allocation was refused, or a thread could not be started.
     #[error("out of memory")]
     Memory,
-    /// The worker with this number gave up, and no worker with a smaller number did. A worker gives up when the gate
-    /// has refused it `MAX_REFUSALS` times before the same job.
+    /// The worker with this number gave up, and no worker with a smaller number did.
+    ///
+    /// A worker gives up when the gate has refused it `MAX_REFUSALS` times before the same job.
     #[error("stalled {0}")]
     Stalled(u64),
 }

@@ -1,4 +1,4 @@
-//! Workers, each of which does its jobs in a thread of its own.
+//! Runs each worker in a thread of its own, and collects the workers' states when the threads have ended.
 ghost use Rattle.std.specs.Prelude.{◌≡◌, ◌+◌, ◌++◌, ◌∷◌, [], ◌<◌, ◌≤◌, ℕ, List, All, IfSome, IfOk, IfErr, MatchOption, Some, length, map, vec_len, vec_capacity};
 ghost use Rattle.qolb_script.specs.declared.job.Job.{Job};
 ghost use Rattle.qolb_script.specs.declared.schedule.TheConstants.{MAX_COMMANDS};
@@ -34,8 +34,9 @@ pub(crate) trait JobTarget {
     /// `has_done target worker state jobs` says that the worker, in this state, has done these jobs at this place.
     ghost has_done: { Self → ℕ → Self.WorkerState → List Job → Type 0 };
 
-    /// `was_told target worker state` says that the worker, in this state, was told that a line of this place is
-    /// closed.
+    /// `was_told target worker state` says that the worker, in this state, was told that a line is closed.
+    ///
+    /// The line is one of this place.
     ghost was_told: { Self → ℕ → Self.WorkerState → Type 0 };
 
     /// `takes target job` says that the job is of a kind that this place can do.
@@ -53,7 +54,7 @@ pub(crate) trait JobTarget {
             → has_done self.now worker hand.old done → was_told self.now worker hand.new };
 }
 
-/// The task of each worker's thread: it does the worker's jobs, each of them once the gate allows the job.
+/// The task of each worker's thread, which is to do the worker's jobs. Each job begins once the gate allows it.
 #[derive(Drop)]
 struct Jobs<'a, G> {
     gate: &'a G,
@@ -151,8 +152,9 @@ where
     Some(hand)
 }
 
-/// Moves the states of all workers into `room` and returns them. If a worker gave up, returns an error that names the
-/// first such worker.
+/// Moves the states of all workers into `room` and returns them.
+///
+/// If a worker gave up, returns an error that names the first such worker.
 pub(crate) fn all_done<H: Drop>(joined: Joined<H>, room: Vec<H>) -> Result<Vec<H>, RunError>
     requires empty { room.items ≡ [] }
     requires room { vec_len joined.back ≤ vec_capacity room }

@@ -1,4 +1,5 @@
-//! A second copy of the program `qolb`, with a recorded run of a script that it refuses.
+//! A copy of the program `qolb` that is stored with a recorded run. In the recorded run, the program refuses a script
+//! and ends with exit status 1.
 #![tactic(auto)]
 
 use qolb_serve::run;
