@@ -1,5 +1,5 @@
-"""Reads the list of the repository's crates and their dependencies, and runs work on several crates in parallel.
-Most tools import this module.
+"""Reads the list of the repository's crates and their dependencies, and runs a job for each of several crates in
+parallel. Most tools import this module.
 """
 
 import os

@@ -1,6 +1,8 @@
-"""Computes the answer that each script must have. The definitions are written here a second time, in Python, from docs/SCRIPTS.md and not from the program.
+"""Computes the answer that the program must give to a script. This module implements the definitions a second time, in Python. It was written from
+docs/SCRIPTS.md and not from the program.
 
-A script is bytes. `answer_to` returns what a run must end with: a reply, `bad line N`, or a check of the report of workers. `run` runs the built program.
+A script is given as bytes. `answer_to` returns the expected outcome of a run: a reply, `bad line N`, or a function that checks the report of the workers.
+`run` runs the built program.
 """
 
 import os

@@ -7,9 +7,10 @@ The mutants in a crate's must-fail/, which the gate tries too, and those in its 
 
 A mutant without a test is evidence only if the prover refuses it because of a goal: a promise of the changed function, a requirement of a call in it, or
 something on which one of its callers relies. A mutant that only renames goals is no evidence: it is refused because answers name goals that no longer
-exist, and a harmless change in the same place would be refused, too. In most cases, a mutant has a test because no clause can state what the mutant breaks
-(for example, that threads run at the same time). Only that test is run, without a proof, by `rt try --test`. A test that takes all memory fails there
-whatever the code does, so its mutants are judged by `rt test`, and only with --proved, which proves all crates from the changed one upwards.
+exist, and a harmless change in the same place would be refused, too. In most cases, a mutant has a test because no contract can state what the mutant
+breaks (for example, that threads run at the same time). Only that test is run, without a proof, by `rt try --test`. A test that takes all memory fails
+under `rt try` whatever the code does. The mutants of such a test are judged by `rt test`, and only with --proved, which proves the changed crate and all
+crates that depend on it.
 
 For mutants without a test, this program first calls `tools/prove` and then reuses the work that it keeps. Mutants that edit the bodies of different
 functions of a crate are tried in one check, and each is refused by the goals of its own function. A mutant gets a check of its own if it edits anything

@@ -4,15 +4,16 @@ the processor is the model that tools/explore_nodes.py describes.
 
     tools/explore_lock.py [MOST] [--scene BEGINNING ..] [--fault WORDS | --no-faults] [--seconds S] [--jobs 2] | --anchors
 
-The program makes all runs with at most MOST (2) turns of the schedule. First it uses the library as it is, with four tickets and with one ticket in a round.
-Then it uses each library with a planted fault, beginning with the runs of few turns, up to the number that the fault names. With --seconds each scene takes at
-most S seconds of processor time, and the program names the scenes that did not end by then. The program needs GCC.
+The program makes all runs with at most MOST (2) turns of the schedule. First it explores the library as it is, with four tickets and with one ticket in a
+round. Then it explores each library with a planted fault, beginning with the runs that have few turns, and with at most as many turns as the fault names. With
+--seconds, each scene is stopped after S seconds of processor time, and the program names the scenes that were stopped. The program needs GCC.
 
 In no run may a thread sleep without being woken, two threads hold the lock at once, freed memory be accessed, two accesses race, a call return a wrong result,
-a thread enter a shut lock, or an entry stay in its list. No thread with a ticket may be overtaken by a call that began later; in a barging lock, by no more
-such calls than the limit allows, and by none once a task sleeps as the first waiter. Each library with a planted fault must fail in some run, and no library
-with a harmless change may fail. The program ends with status 1 if this is not so, or if a scene did not end. Each invariant of the library (INVARIANT in
-c/src/lock) must hold in each run, and a planted fault of its own must break it. The other faults are found by the checks of the scenes, without the invariants.
+a thread enter a shut lock, or an entry stay in its list. In a strict lock, no thread with a ticket may be overtaken by a call that began later. In a barging
+lock, no more such calls may overtake the thread than the limit allows, and none once a task sleeps as the first waiter. Each library with a planted fault must
+fail in some run, and no library with a harmless change may fail. The program ends with status 1 if one of these conditions is violated, or if a scene did not
+end. Each invariant of the library (INVARIANT in c/src/lock) must hold in each run, and a planted fault of its own must break it. The other faults are found by
+the checks of the scenes, without the invariants.
 
 A planted fault replaces text in one function, or elsewhere in a file; tools/mutants.py finds the text. With --anchors nothing is explored: the program names
 each change whose text it does not find, and the place where the text is now.

@@ -11,14 +11,14 @@ place where the text is now. The program needs GCC.
 A turn of the schedule is one of these: another thread runs although the current thread could continue; a timeout expires; a plain store stays in its thread's
 store buffer, where the other threads do not see it, or leaves the buffer before it must. Stores become visible as on x86-64: in their order, and at the latest
 before the thread's next read-modify-write step or system call. Other behaviours that C11 allows for sequentially consistent, releasing and acquiring steps are
-not explored. However, races are defined as in C11: two accesses race if neither happens before the other and one of them is plain. A model replaces the line.
-Each call on this model takes one step, or two; that the real calls behave in this way is proved elsewhere. No scene contains the halves of a request
+not explored. Races, however, are defined as in C11: two accesses race if neither happens before the other and one of them is plain. A model replaces the line.
+Each call on this model takes one or two steps. It is proved elsewhere that the real calls behave in this way. No scene contains the halves of a request
 (qolb_prepend and qolb_link), reads or writes of the line, or leases. Prefetches are left out, because no run can observe them.
 
 In no run may a thread sleep without being woken, two threads hold the line at once, two threads call one node at the same time or make its calls in a wrong
-order, freed memory be accessed, the memory of a line remain whose nodes are closed, or a call return a wrong result. Each library with a planted fault must
-fail in some run, because otherwise this program does not find the errors that it exists for, and no library with a harmless change may fail. The program ends
-with status 1 if this is not so. tools/explore_lock.py does the same for locks.
+order, freed memory be accessed, the memory of a line remain allocated when all its nodes are closed, or a call return a wrong result. Each library with a
+planted fault must fail in some run, because otherwise this program does not find the errors that it exists for, and no library with a harmless change may
+fail. The program ends with status 1 if one of these conditions is violated. tools/explore_lock.py does the same for locks.
 """
 
 import argparse

@@ -1,4 +1,4 @@
-"""Computes the tables in the pages that show figures from c/bench/figures. docs/compare compares these tables
+"""Computes those tables of the pages that show figures from c/bench/figures. docs/compare compares the computed tables
 with the pages.
 """
 

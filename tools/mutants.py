@@ -1,5 +1,5 @@
-"""Reads the mutants of crates: how they are written, where a mutant's text is in its crate, and how the mutant changes the crate's files. A mutant is a
-deliberately wrong edit of a crate, which the prover or a test must refuse.
+"""Reads the mutants of crates. A mutant is a deliberately wrong edit of a crate, which the prover or a test must refuse. This module reads their
+notation, finds the text that a mutant replaces, and computes how the mutant changes the files of the crate.
 
 A mutant in a crate's mutants.edits names a function, a text in it, and the text that replaces it:
 

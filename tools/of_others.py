@@ -1,5 +1,6 @@
 #!/usr/bin/env python3
-"""Runs tests of locks that others wrote: Concurrency Kit's tests with the library's nodes and locks, and the Open POSIX test suite with the preload library.
+"""Runs tests of locks that other projects wrote: Concurrency Kit's tests with the library's nodes and locks, and the Open POSIX test suite with the preload
+library.
 
     tools/of_others.py [--seconds N] [--part ck|posix] [--write] [FOLDER]
 

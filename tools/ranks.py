@@ -6,7 +6,7 @@
 In each state the following must hold. A productive event lowers the rank (a ranking function) by at least one. No event raises the rank except a
 request, which raises it by at most 5. For each open request, no event raises the request's rank while the request is open, and a productive event
 lowers this rank by one unless its node is making a later request. If a request is open, the node that the line names has a productive event. With k
-pending nodes the rank is at most 5k - 3. The longest sequence of productive events is exactly as long as the rank; only this last statement is
+pending nodes the rank is at most 5k - 3. The longest sequence of productive events is exactly as long as the rank. Only this last statement is
 proved nowhere else. The program ends with status 1 at the first state that violates a statement.
 
 The events are implemented here a second time, from the table in docs/SCRIPTS.md. Leases and bytes are left out, because they do not affect the

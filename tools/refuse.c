@@ -1,7 +1,7 @@
 /* A preload library that makes one call of a program fail. The environment variable REFUSE names the kind and the
- * number of this call, for example memory:3, thread:1, read:2 or write:5. If SHORT is set, each read and write of
- * several bytes transfers only one byte. If INTERRUPT is set, each read and write is interrupted once before it
- * succeeds.
+ * number of this call, for example memory:3, thread:1, read:2 or write:5. If the variable SHORT is set, each read and
+ * write of several bytes transfers only one byte. If the variable INTERRUPT is set, each read and write is interrupted
+ * once before it succeeds.
  *
  * If a call was made to fail, the library writes a byte to the file descriptor REFUSE_TELL. When the program ends, the
  * library writes the total number of bytes of memory that the program requested to TAKEN_TELL. ROOM is the number of

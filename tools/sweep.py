@@ -1,5 +1,6 @@
 #!/usr/bin/env python3
-"""Makes each allocation, each start of a thread, each read and each write of the built program fail in turn, until a run passes.
+"""Runs the built program again and again. In each run, another allocation, start of a thread, read or write is made to fail,
+until a run passes.
 
     tools/sweep.py [PROGRAM]
 
@@ -7,8 +8,8 @@ If an allocation or the start of a thread fails, the program must end with statu
 fails, it must end with status 4, `read fault` and nothing on standard output; if a write fails, with status 4, `write fault` and a prefix of the
 answer. With reads and writes of one byte, and with each of them interrupted once, the answer must be complete. If the program has little address
 space beyond what it starts with, it must report that memory is lacking, or give the complete answer. The expected answers come from
-definitions.py. The program must use lines of the named kind; this is checked by the amount of memory that it requests, which differs between the
-kinds. The test needs Linux with glibc and cc.
+definitions.py. The program must use lines of the named kind. The test checks this by the amount of memory that the program requests, because
+this amount differs between the kinds. The test needs Linux with glibc and cc.
 """
 
 import itertools

@@ -1,4 +1,4 @@
-/* The clock that all benchmarks use, and a function that pins a thread to one processor. */
+/* The clock for all benchmarks, and a function that pins a thread to one processor. */
 #ifndef CLOCK_H
 #define CLOCK_H
 

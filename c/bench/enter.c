@@ -1,4 +1,4 @@
-/* Measures how long one thread takes to enter and leave a lock that no other thread wants. The locks are:
+/* Measures how long one thread takes to enter and leave a lock that no other thread requests. The locks are:
  *
  * - a strict qolb_lock, once alone and once while a thread waits on its condition, and a barging qolb_lock;
  * - a node of each kind of line (qolb_acquire and qolb_deqolb);

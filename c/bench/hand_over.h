@@ -1,4 +1,5 @@
-/* Measures how long a cache line takes to move from one processor to another, for peers.c and phases.h. */
+/* Measures how long it takes to move a cache line from one processor to another. peers.c and phases.h use this
+ * header. */
 #ifndef HAND_OVER_H
 #define HAND_OVER_H
 

@@ -1,5 +1,5 @@
-/* The kinds of lines and their names. The benchmarks define them here, because the header of an older library lacks
- * them. */
+/* The kinds of lines and their names. The benchmarks do not take them from qolb.h, because the qolb.h of an older
+ * library does not have them. */
 #include <qolb.h>
 #ifndef QOLB_KINDS
 #define QOLB_KINDS 3

@@ -1,4 +1,5 @@
-"""Describes the machine for the benchmarks, and repeats a run during which the machine was busy with other work."""
+"""Describes the machine on which benchmarks run. If the machine was busy with other work during a run, this module
+repeats the run."""
 
 import contextlib
 import os

@@ -1,6 +1,6 @@
-/* Compares the speed of a line's nodes with that of MCS locks and a mutex. Threads acquire a node with qolb_acquire, or
- * with a polling loop of their own. The program contains all these ways of acquiring and measures them in short
- * alternating phases (phases.h). c/bench/nodes builds and runs it.
+/* Compares the speed of a line's nodes with that of MCS locks and a mutex. A thread acquires the line with
+ * qolb_acquire, or with a hand-written polling loop. The program contains all these ways of acquiring a line or lock,
+ * and measures them in short alternating phases (phases.h). c/bench/nodes builds and runs it.
  *
  *   ./nodes THREADS MICROSECONDS PHASE_MS SECONDS at=0,2,1,3 KIND [loops] [polls] [acquire]
  *   ./nodes machine at=0,1,2,3

@@ -1,9 +1,9 @@
 /* Measures several ways of acquiring a line or lock in one program, in short alternating phases, and measures
- * hand-overs between processors. nodes.c includes this file, and phases.py runs the program. nodes.c defines an enum
- * of the ways, which ends with WAYS, the names of the ways, and the functions that are declared here.
+ * hand-overs between processors. nodes.c includes this file, and phases.py runs the program. nodes.c defines an enum of
+ * the ways (its last member is WAYS), the names of the ways, and the functions that this header declares.
  *
- * The address of a lock affects its speed. Therefore each way has PLACES lines or locks, and uses one after the
- * other. */
+ * The speed of a lock depends on its address. Therefore each way has PLACES lines or locks at different addresses, and
+ * uses one after the other. */
 #ifndef PHASES_H
 #define PHASES_H
 

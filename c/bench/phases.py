@@ -4,8 +4,8 @@ module.
 Before and after each program, the time of a hand-over between each two processors is measured. On a virtual machine two processors may be hyperthreads of one
 core, so a pair whose hand-over takes less than 60 ns is called quick. Threads are pinned to processors that form no quick pair. A program that used a quick
 pair nevertheless is run again, at most AGAIN times. A program of a quiet part is also run again if other programs or other virtual machines used more than 3 %
-of the processor time during its run. The output contains the number of repeated runs. If a run is kept although it does not meet these conditions, its column
-`kept` says so.
+of the processor time during its run. The output contains the number of repeated runs. If a run is kept although it does not meet these conditions, the column
+`kept` of this run says so.
 """
 
 import datetime

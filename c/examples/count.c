@@ -1,4 +1,5 @@
-/* Two threads count together, in C. The count is stored in a line, on which each thread has a node. Prints 2000. */
+/* Two threads count together, in C. The count is stored in a line, and each thread has a node of this line. Prints
+ * 2000. */
 #include <pthread.h>
 #include <qolb.h>
 #include <stdio.h>

@@ -1,4 +1,4 @@
-//! Two threads count together, in Rust. The count is stored in a line, on which each thread has a node. Prints
+//! Two threads count together, in Rust. The count is stored in a line, and each thread has a node of this line. Prints
 //! 2000.
 #[path = "../rust/qolb.rs"]
 mod qolb;

@@ -1,5 +1,5 @@
-/* An event loop with tasks: one thread serves four jobs that enter the same lock, and this thread waits only in poll().
- * Another thread enters the lock as well. Prints 5000. */
+/* An event loop with tasks. One thread runs four jobs, which all enter the same lock, and this thread never blocks
+ * except in poll(). Another thread enters the lock as well. Prints 5000. */
 #define _GNU_SOURCE
 #include <poll.h>
 #include <pthread.h>

@@ -1,5 +1,5 @@
-//! A small executor for the examples: `block_on` runs one future, and a pool of threads runs many. A program that already has an
-//! executor uses that executor instead.
+//! A small executor for the examples: `block_on` runs one future, and a pool of threads runs many futures. A program that
+//! already has an executor does not need this file.
 #![allow(dead_code)] // a program uses only the part that it needs
 
 use std::collections::VecDeque;

@@ -1,5 +1,5 @@
-// C++20 coroutines that enter a lock and run on an event loop with one thread. This file is meant as a template.
-// Another thread enters the same lock. Prints 4000.
+// C++20 coroutines that enter a lock and run on an event loop with one thread. Another thread enters the same lock.
+// Prints 4000. This file is meant as a template.
 #include <condition_variable>
 #include <coroutine>
 #include <cstdlib>

@@ -1,5 +1,5 @@
 // QOLB for C++14 and later: locks, which are strict or barging, and lines, which hand over 64 bytes. The manual pages
-// qolb_lock(3), qolb_node(3) and qolb_task(3) say what each call returns, and which rules its callers must keep.
+// qolb_lock(3), qolb_node(3) and qolb_task(3) say what each call returns, and what its callers must guarantee.
 //
 //     qolb::lock lock;                             // a timed mutex, for the guards of the standard library
 //     qolb::lock often(qolb::barging{1024});       // arriving threads may overtake, a bounded number of times
@@ -16,7 +16,8 @@
 //     qolb::Guard turn(opened.second[0]);
 //     turn.set_lane(0, turn.lane(0) + 1);
 //
-// In C++20 a coroutine waits for a lock by co_await qolb::enter(lock, loop): see Coroutines below.
+// In C++20 a coroutine waits for a lock with co_await qolb::enter(lock, loop). The section Coroutines below explains
+// this.
 #ifndef QOLB_HPP
 #define QOLB_HPP
 

@@ -4,8 +4,9 @@
  *
  * Each ordinary mutex that the program locks gets a qolb_lock of its own, which takes half a KB. Each condition
  * variable on which the program waits with such a mutex gets a qolb_cond. The C library still handles recursive,
- * error-checking, robust, shared and priority mutexes, and any mutex for which no memory is left. The first use of a
- * mutex decides whether it is replaced; this holds until the program destroys or initialises the mutex again.
+ * error-checking, robust, shared and priority mutexes, and any mutex for which no memory is left. The library decides
+ * at the first use of a mutex whether to replace it. This decision holds until the program destroys or initialises the
+ * mutex again.
  *
  * The replaced mutexes behave like those of the C library:
  *

@@ -1,5 +1,6 @@
-/* Declarations that the files of the preload library share: its own memory, its tables that map addresses to locks, and
- * the number of the process. preload_memory.c implements them for preload.c; preload_report.c adds counters. */
+/* Declarations that the files of the preload library share. preload_memory.c implements the memory of the library, the
+ * tables that map addresses to locks, and the number of the process; preload.c uses them. preload_report.c adds
+ * counters. */
 #ifndef QOLB_PRELOAD_H
 #define QOLB_PRELOAD_H
 

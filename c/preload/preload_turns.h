@@ -1,6 +1,6 @@
-/* Enters and leaves the lock that replaces a mutex, for preload.c. As with a pthread mutex, any thread may unlock it,
- * and a thread that locks a mutex which it already holds waits until another thread unlocks it. Therefore the holder's
- * ticket is stored next to the lock, and not in the thread's table (../src/lock/turns.c). */
+/* Enters and leaves the lock that replaces a mutex, for preload.c. As with a pthread mutex, any thread may unlock the
+ * mutex, and a thread that locks a mutex which it already holds waits until another thread unlocks it. Therefore the
+ * holder's ticket is stored next to the lock, and not in the thread's table (../src/lock/turns.c). */
 #ifndef QOLB_PRELOAD_TURNS_H
 #define QOLB_PRELOAD_TURNS_H
 

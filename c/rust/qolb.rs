@@ -24,32 +24,34 @@
 //!
 //! # How it differs from `std::sync::Mutex`
 //!
-//! - A mutex made by [`Mutex::new`] is strict: a thread that locks it draws a ticket with one atomic step, and the mutex serves tickets in order. All
-//!   waiting threads wait until the next one runs.
-//! - A mutex made by [`Mutex::with_barging`] lets arriving threads overtake the queue, but only a bounded number of times. Use it if more threads, of any
-//!   program, want processors than there are.
+//! - A mutex made by [`Mutex::new`] is strict: a thread that locks it draws a ticket with one atomic step, and the mutex serves tickets in order. If
+//!   the thread with the next ticket is not running, all waiting threads wait until it runs.
+//! - A mutex made by [`Mutex::with_barging`] lets arriving threads overtake the queue, but only a bounded number of times. Use such a mutex if more
+//!   threads, of any program, are ready to run than there are processors.
 //! - [`Mutex::lock`] fails with [`Stopped`] if the mutex was shut ([`MutexGuard::shut`]) or the calling thread holds it. A mutex is never poisoned.
 //! - [`Mutex::try_lock_for`] has a timeout, and [`Mutex::lock_async`] is for tasks.
-//! - The 320 bytes of the lock are put into a box at the first use. If there is no memory for the box, the process ends, as for any failed allocation.
+//! - The 320 bytes of the lock are put into a box at the first use. If there is no memory for the box, the process ends, as it does after any failed
+//!   allocation.
 //!
 //! # What is proved
 //!
-//! What is proved of a lock is proved of its core, the part that decides which thread is next:
+//! The proofs about a lock are proofs about its core, which is the part that decides which thread is next:
 //!
 //! - The core has at most one holder.
 //! - It serves tickets in order.
-//! - With a barging limit of B it counts at most B - 1 acquisitions of barging threads, which enter without a ticket, between two consecutive grants to
-//!   waiting threads.
+//! - With a barging limit of B, it counts at most B - 1 acquisitions of barging threads between two consecutive grants to waiting threads. A barging
+//!   thread enters without a ticket.
 //! - It tells a releasing thread whether the next waiter has announced that it is about to sleep. In a barging lock this covers announcements that were
 //!   made while the releasing thread held the lock.
 //!
 //! Of a line it is proved that it has at most one holder, that its requests end in the order in which they were made, and which bytes each holder
 //! receives.
 //!
-//! This file is not proved, and neither is the C code below it, which waits and wakes and implements timeouts, conditions and tasks. Both are tested. The
-//! C code was also model-checked, at the commit that PROVED names, in small scenes: two or three threads, at most one context switch for a lock and two
-//! for a line, and stand-ins for the core and the lines. Two claims are argued: how many threads may overtake one waiter, and that a holder sees what
-//! earlier holders wrote. Nothing is proved of the protected value itself, nor that a waiting thread is ever granted the lock.
+//! This file is not proved. The C code below it, which puts threads to sleep, wakes them, and implements timeouts, conditions and tasks, is not proved
+//! either. Both are tested. The C code was also model-checked, at the commit that PROVED names, in small scenes: two or three threads, at most one
+//! context switch for a lock and two for a line, and stand-ins for the core and the lines. For two claims there is only an informal argument: how many
+//! threads may overtake one waiter, and that a holder sees what earlier holders wrote. Nothing is proved about the protected value itself. It is not
+//! proved either that a waiting thread is ever granted the lock.
 //!
 //! # Nodes
 //!
@@ -73,22 +75,23 @@
 //!
 //! A task of an executor waits without blocking a thread: `node.turn().await` returns a guard of a node's line ([`Node::turn`]), and
 //! `mutex.lock_async().await` returns a guard of a [`Mutex`]. These futures work with any executor. They make their request when they are first polled,
-//! and tasks and threads wait in one queue. A future that is dropped withdraws its request. The guards of `lock_async` may go to another thread, if the
-//! value may.
+//! and tasks and threads wait in one queue. A future that is dropped withdraws its request. A guard of `lock_async` may move to another thread if the
+//! value may move there.
 //!
-//! The thread that releases calls the task's waker. A waker that panics in `wake` ends the process. A waker that polls the task at once, and keeps the
+//! The releasing thread calls the task's waker. If the waker panics in `wake`, the process ends. A waker that polls the task at once, and keeps the
 //! guard that it gets, may keep the lock from the thread in whose release or wait the waker is called.
 //!
 //! # A panic while a line or a mutex is held
 //!
 //! While the thread unwinds, the guard is dropped, and this releases the line or the mutex. If the guard of a node was leaked, the node releases the line
-//! when it is dropped. The writes that the holder has made stay, and no other thread is told of the panic. If no thread may see an unfinished change, make
-//! the change in a copy and write the copy back at the end. With `panic = "abort"` the process ends, and its lines end with it.
+//! when it is dropped. The writes of the holder stay, and no other thread is told of the panic. If no other thread may see an unfinished change, make the
+//! change in a copy and write the copy back at the end. With `panic = "abort"` the process ends, and its lines end with it.
 //!
 //! # The thread sanitizer
 //!
-//! The sanitizer does not see into the library. With `--cfg qolb_tsan` beside `-Zsanitizer=thread` it is told of each acquisition and each release of a
-//! [`Mutex`] and of a [`RawQolb`], and so it reports no race between accesses that these protect.
+//! The thread sanitizer does not see into the library. If `--cfg qolb_tsan` is given in addition to `-Zsanitizer=thread`, this file tells the sanitizer
+//! of each acquisition and each release of a [`Mutex`] and of a [`RawQolb`]. The sanitizer then reports no race between accesses that these locks
+//! protect.
 #![allow(dead_code, unexpected_cfgs)]
 
 use std::cell::UnsafeCell;

@@ -2,8 +2,9 @@
  * callback instead of waking a thread (callbacks.c). calls.c uses this header for nodes, and lock/tasks.c uses it for
  * tasks.
  *
- * The callbacks of nodes are stored in their line (line.h). The callbacks of tasks are stored here and not in the lock,
- * because the memory of a lock may be freed while a thread that has left the lock is still inside `qolb_lock_leave`. */
+ * The callbacks of nodes are stored in their line (line.h). The callbacks of tasks are stored in the library and not in
+ * the lock, because the memory of a lock may be freed while a thread that has left the lock is still inside
+ * `qolb_lock_leave`. */
 #ifndef QOLB_CALLBACKS_H
 #define QOLB_CALLBACKS_H
 

@@ -1,5 +1,5 @@
-/* Macros for compiler features that all internal files of the library use: the visibility of symbols, thread-local
- * data, and the distance in bytes that keeps two objects out of one cache line. */
+/* Macros for all internal files of the library: for the visibility of symbols, for thread-local data, and for the
+ * distance in bytes at which two objects are never in the same cache line. */
 #ifndef QOLB_COMMON_H
 #define QOLB_COMMON_H
 

@@ -1,5 +1,5 @@
-/* The proved core of a lock, which decides which thread is next. crates/qolb_locks/src/exports.rt exports these
- * calls, and the files of lock/ make them. Any number of threads may make calls on one lock at the same time, and no
+/* The proved core of a lock, which decides which thread is next. crates/qolb_locks/src/exports.rt exports the calls on
+ * the core, and the files of lock/ use them. Any number of threads may make calls on one lock at the same time, and no
  * call waits. A call takes at most three atomic steps. A ticket's first call on a lock takes one more, and a release
  * takes two more for each withdrawn request that it skips, of which there are at most 64. Only the call that opens a
  * lock allocates memory.
@@ -9,9 +9,9 @@
  * In a strict lock (one whose barging limit is at most 1) a thread draws a ticket, waits until the ticket's turn
  * comes, checks that the lock is open, and then holds the lock. At the end it releases the ticket's turn.
  *
- * In a barging lock a thread that arrives while the lock word is free takes the lock word, and gives it back when it
- * leaves. A thread that does not get the lock word draws a ticket. When the ticket's turn comes, the thread is the
- * queue head. The queue head takes the lock word and then releases its turn in the queue, so that the next waiter
+ * In a barging lock, a thread that arrives while the lock word is free takes the lock word, and gives the word back
+ * when it leaves. A thread that does not get the lock word draws a ticket. When the ticket's turn comes, the thread is
+ * the queue head. The queue head takes the lock word and then releases its turn in the queue, so that the next waiter
  * becomes the queue head; when it leaves, it gives back the lock word.
  *
  * Each call returns a result that qolb.h or this file defines. MISUSE always means that the call changed nothing.
@@ -19,14 +19,14 @@
  * No call can check the following rules, which the callers must keep (docs/PROVED.md):
  *
  * - A `qolb_core` is one that the opening call wrote, or a copy of it.
- * - A ticket consists of zeros, or is as its last call left it, except that the caller may set `lock_word`. At most
- *   one call uses a ticket at a time. A ticket may be moved, but it must not be copied. The caller may store only
- *   the number, label and state of a ticket that is not WAITING, and later rebuild the ticket from these with zeros
- *   in the other fields, because calls read no other field of such a ticket except the guess `lock_word`.
+ * - A ticket consists of zeros, or is as the last call with this ticket left it, except that the caller may set
+ *   `lock_word`. At most one call uses a ticket at a time. A ticket may be moved, but it must not be copied. The caller
+ *   may store only the number, label and state of a ticket that is not WAITING, and later rebuild the ticket from these
+ *   with zeros in the other fields, because calls read no other field of such a ticket except the guess `lock_word`.
  * - Each opening of a lock has a label of its own.
- * - The lock's bytes are used for nothing else while calls on the lock may be made, and no call is made once they
- *   are used for something else. From then on, a ticket of this lock may be used with another lock if the ticket is
- *   FREE. */
+ * - While calls on the lock may be made, its bytes are used for nothing else. Once the bytes are used for something
+ *   else, no call on the lock is made. From then on, a ticket of this lock may be used with another lock if the ticket
+ *   is FREE. */
 #ifndef QOLB_CORE_H
 #define QOLB_CORE_H
 

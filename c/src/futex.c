@@ -1,6 +1,6 @@
 /* Reads the clock, and puts threads to sleep and wakes them (futex.h). On Linux this file makes futex calls; the calls
  * for locks pass a bit set, so that a wake-up reaches only one class of sleepers. On other systems a sleeping thread
- * looks again every 200 us. This file is tested, but not proved. */
+ * wakes every 200 us and checks the word. This file is tested, but not proved. */
 #define _GNU_SOURCE
 #include "futex.h"
 #include <errno.h>

@@ -1,11 +1,11 @@
-/* The functions with which the proved part allocates memory. The proved part calls them by names that begin with
- * rattle_, and they call the program's malloc and free.
+/* The functions with which the proved part of the library allocates memory. Their names begin with rattle_, and they
+ * call the program's malloc and free.
  *
  * Two nodes should not share a cache line, because each call of a thread writes to the block of its node, and to words
  * and slots of the line. Therefore each of these blocks begins at a multiple of 128 bytes, and no other block begins
- * within its last 128 bytes. So no cache line contains data of two nodes, and neither does any pair of cache lines that
- * the processor fetches together. A slot, which contains the 64 bytes of a line and the data that belong to them, lies
- * within one such pair. Data that all nodes of a line read and none writes are in a smaller block. */
+ * within its last 128 bytes. So no cache line contains data of two nodes. The same holds for each pair of cache lines
+ * that the processor fetches together. A slot, which contains the 64 bytes of a line and the data that belong to them,
+ * lies within one such pair. Data that all nodes of a line read and none writes are in a smaller block. */
 #include "heap.h"
 #include <stdint.h>
 #include <stdlib.h>

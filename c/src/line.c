@@ -1,5 +1,6 @@
 /* Opens lines and frees their nodes, and allocates the memory that the C code needs for a line (line.h). The last user
- * of a line frees this memory by qolb_let_go_ of callbacks.c. This file is tested and model-checked, but not proved. */
+ * of a line frees this memory with qolb_let_go_ (callbacks.c). This file is tested and model-checked, but not
+ * proved. */
 #include "line.h"
 #include "heap.h"
 #include <stdlib.h>

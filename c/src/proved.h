@@ -1,11 +1,11 @@
-/* The proved calls on nodes, as crates/qolb_nodes/src/lib.rt exports them. calls.c and line.c make these calls. Without
- * _proved_, the name of a proved call is the name of the call in qolb.h that makes it. core.h has the proved calls on
- * locks.
+/* The proved calls on nodes, as crates/qolb_nodes/src/lib.rt exports them. calls.c and line.c make these calls. The
+ * name of a proved call, without its ending _proved_, is the name of the call in qolb.h that makes it. core.h has the
+ * proved calls on locks.
  *
  * No call can check the following rules, which the callers must keep (docs/PROVED.md). A handle consists of zeros, or
- * is as its last call left it. At most one call uses a handle at a time. A handle may be moved, but it must not be
- * copied. Each other argument points to a valid object of its type, which overlaps neither another argument nor the
- * handle. */
+ * is as the last call with this handle left it. At most one call uses a handle at a time. A handle may be moved, but it
+ * must not be copied. Each other argument points to a valid object of its type, which overlaps neither another argument
+ * nor the handle. */
 #ifndef QOLB_PROVED_H
 #define QOLB_PROVED_H
 

@@ -11,14 +11,15 @@
  *   more                              2 us
  *   unknown                           20 us
  *
- * A waiter that has seen as many threads before it as there are processors knows that not all of them can run at once.
- * Once fewer than twice as many threads as processors are before it, it yields instead of pausing, because a thread
- * that is nearer to its turn may need this processor.
+ * If a waiter has seen as many threads before it as there are processors, not all of these threads can run at once.
+ * While fewer than twice as many threads as processors are before such a waiter, it yields instead of pausing, because
+ * a thread that is nearer to its turn may need this processor.
  *
  * After spinning, the waiter sleeps. Sleeping and waking cost about 50 us, so a wait takes at most about twice the time
  * of the best possible choice (Karlin and others, SOSP 1991). Where other programs compete for the processors, a
- * spinning thread may keep the holder from running. Therefore each thread adapts how long it spins: a spin that ends in
- * sleep halves the limit for the thread's next spin, and each spin starts with a limit that is one eighth longer.
+ * spinning thread may keep the holder from running. Therefore each thread adapts the time limit of its spins. A spin
+ * that ends in sleep halves the limit for the thread's next spin, and at the beginning of each spin the limit grows by
+ * one eighth.
  *
  * A thread that finds a barging lock taken spins in another way before it joins the queue: it polls the lock word, and
  * each pause is twice as long as the previous one.

@@ -1,6 +1,6 @@
-/* Observes each access of a call to the words of one page of memory, and can make another call before each access. The
- * page is protected, so each access faults; the signal handler then lets the processor execute this access as a single
- * step. core_calls.c uses this header. It needs x86-64. */
+/* Observes each access that a call makes to the words of one page of memory, and can make another call before each
+ * access. The page is protected, so each access faults; the signal handler then lets the processor execute this access
+ * as a single step. core_calls.c uses this header. It needs x86-64. */
 #ifndef ACCESSES_H
 #define ACCESSES_H
 #define _GNU_SOURCE

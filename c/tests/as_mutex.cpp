@@ -1,6 +1,7 @@
 // Tests a program that is written for std::mutex and std::condition_variable. The program is compiled twice: with these
-// two types, and with those of the library. It uses a queue of bounded length, waits with deadlines, accounts under two
-// locks at once, and guards that are moved. Both versions must print the numbers that the comments below derive.
+// two types, and with those of the library. It uses a bounded queue, waits with deadlines, accounts that two locks
+// protect at the same time, and guards that are moved. Both versions must print the numbers that the comments below
+// derive.
 #ifdef STD
 #include <condition_variable>
 #include <mutex>

@@ -1,6 +1,6 @@
 // Tests coroutines that are resumed inside a release (qolb::Inline), in one thread. During such a release, one
-// coroutine gives up a request and requests the line again. Its node stays busy until the node behind it, whose
-// notification is deferred, has released the line. Prints only errors.
+// coroutine withdraws its request and requests the line again. The node of this coroutine stays busy until the next
+// node, whose notification is deferred, has released the line. Prints only errors.
 #include <cstdio>
 #include <cstdlib>
 #include <qolb.hpp>

@@ -1,6 +1,6 @@
-/* Tests that a thread which is cancelled while it waits still completes the wait: it is granted the line or times out,
- * and ends at its next cancellation point. So the queue never contains a request of an ended thread, and the line is
- * handed over. Prints only errors. */
+/* Tests that a thread which is cancelled while it waits still completes the wait: the thread is granted the line or
+ * times out, and ends at its next cancellation point. Therefore the queue never contains a request of a thread that has
+ * ended, and the line is handed over. Prints only errors. */
 #define _POSIX_C_SOURCE 200809L
 #include "want.h"
 #include <pthread.h>

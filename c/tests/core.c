@@ -1,12 +1,9 @@
 /* Tests the proved core of a lock (src/core.h), strict and
  * barging.
  *
- * In the first part many threads use one lock. The sums must be
- * exact, no two threads may hold the lock at once, and tickets
- * must have their turns in order. Barging threads may overtake
- * only as often as the bound allows. No thread may get the lock
- * while it is shut. A thread that sleeps on the announced
- * address and value must be woken.
+ * In the first part many threads use one lock. The sums must be exact, no two threads may hold the lock at once, and
+ * tickets must have their turns in order. Barging threads may overtake the queue only as often as the bound allows. No
+ * thread may get the lock while it is shut. A thread that sleeps on the announced address and value must be woken.
  *
  * The second part has one thread. Every call that the ticket's
  * state does not allow must return MISUSE and change nothing,

@@ -1,5 +1,5 @@
-/* Tests locks with large numbers of calls that time out, with large numbers of waiting tasks and threads, and with many
- * locks on the stack.
+/* Tests extreme numbers: many calls on locks that time out, many waiting tasks and threads, and many locks on the
+ * stack.
  *
  *   build/crowds [SECONDS [THREADS [LOCKS]]]     1 second of calls that time out at once, 1,000 threads, 20,000 locks
  *

@@ -1,5 +1,5 @@
-/* A program for held.gdb, which asks gdb which thread holds each of its locks. Each lock is held by a thread, by a
- * task, or by nobody. gdb numbers the threads in the order in which they begin; the thread that ends is number 2. */
+/* A program for held.gdb, which asks gdb who holds each lock of the program. Each lock is held by a thread, by a task,
+ * or by nobody. gdb numbers the threads in the order in which they begin, and thread 2 ends. */
 #define _GNU_SOURCE
 #include "want.h"
 #include <pthread.h>

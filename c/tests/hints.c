@@ -1,5 +1,5 @@
-/* Tests that a node prefetches the words and slots that the hand-over will read and write (../src/hints.h). Prints only
- * errors. */
+/* Tests that a node prefetches the words and slots that it is about to read and write during a hand-over
+ * (../src/hints.h). Prints only errors. */
 #define _GNU_SOURCE
 #include <hints.h>
 #include <stdio.h>

@@ -2,8 +2,8 @@
  * waiter must get the signal. `make check` runs this program both alone and with the preload library
  * (../preload/preload.c). Prints only errors.
  *
- * This program delays two calls that preload.c makes during the wait. The C library makes neither of them by its name,
- * so in the run without preload.c the thread is cancelled while it sleeps. */
+ * This program delays two functions that preload.c calls during the wait. The C library calls neither of them by name.
+ * In the run without preload.c nothing is delayed, and the thread is cancelled while it sleeps. */
 #define _GNU_SOURCE
 #include "mutexes.h"
 #include <dlfcn.h>

@@ -1,8 +1,8 @@
-/* Tests that the first use of a pthread call does not deadlock with dlopen. A thread that holds a mutex makes the
- * program's first call to some other pthread function, while a second thread is in dlopen, where a constructor waits
- * for the mutex. The program also tests that such a call does not change the result of dlerror. `make check` runs this
- * program both alone and with the preload library (../preload/preload.c). The plugin that the second thread opens is
- * also compiled from this file. Prints only errors. */
+/* Tests that a program's first call to a pthread function does not deadlock with dlopen. A thread that holds a mutex
+ * makes the program's first call to some other pthread function, while a second thread is in dlopen, where a
+ * constructor waits for the mutex. The program also tests that such a call does not change the result of dlerror. `make
+ * check` runs this program both alone and with the preload library (../preload/preload.c). The plugin that the second
+ * thread opens is also compiled from this file. Prints only errors. */
 #define _GNU_SOURCE
 #include <dlfcn.h>
 #include <pthread.h>

@@ -1,6 +1,6 @@
 /* Tests thread numbers. If a thread holds more locks than its table can hold, each further lock stores the number of
- * this thread as its holder. No two threads of a process may have the same number. The same holds in the child of a
- * fork, whose first thread keeps the number that it had in the parent. Prints only errors. */
+ * this thread as its holder. No two threads of a process may have the same number. The same must hold in the child of a
+ * fork, where the first thread keeps the number that it had in the parent. Prints only errors. */
 #define _POSIX_C_SOURCE 200809L
 #include "want.h"
 #include <pthread.h>

@@ -1,7 +1,7 @@
-/* Tests a program whose malloc enters a lock, even when the C library itself calls malloc. So the program's first call
- * on a lock may happen inside pthread_atfork, and the first call of a thread may happen inside pthread_setspecific, or
- * in a free after the thread's last destructor. A thread's first call on a lock must allocate no memory. Prints only
- * errors. */
+/* Tests a program whose malloc enters a lock, even when the C library itself calls malloc. Therefore the program's
+ * first call on a lock may happen inside pthread_atfork. A thread's first call on a lock may happen inside
+ * pthread_setspecific, or in a free after the thread's last destructor. A thread's first call on a lock must allocate
+ * no memory. Prints only errors. */
 #include <qolb.h>
 #include <pthread.h>
 #include <stdio.h>

@@ -1,6 +1,6 @@
-/* A program for probes.gdb, which stops it at the probes of the library (../src/probes.h). The threads of this program
- * wait one at a time: one times out, one is granted a line, one is notified that the line is closed, and one waits for
- * a lock. The line has the label 7. Prints only errors. */
+/* A program for probes.gdb, which stops the program at each probe of the library (../src/probes.h). The threads of this
+ * program wait one at a time: one times out, one is granted a line, one is notified that the line is closed, and one
+ * waits for a lock. The line has the label 7. Prints only errors. */
 #define _GNU_SOURCE
 #include <qolb.h>
 

@@ -5,7 +5,8 @@
  *
  *   build/races WAY     WAY is one of the numbers below
  *
- * The second thread uses the data after the first, and only the lock or the condition shows this order to the tools. */
+ * The second thread uses the data after the first thread. The tools can see this order only from the lock or the
+ * condition. */
 #define _GNU_SOURCE
 #include <qolb.h>
 #include <stdlib.h>

@@ -1,8 +1,8 @@
-/* Tests a thread that is stopped inside the call with which it leaves a lock, while it wakes the next holder. During
- * this stop all other threads can enter, whichever call was stopped. The lock can be destroyed, and its memory may be
- * freed. The program also stops a thread that shuts a lock, while it wakes a thread that waits on a condition. The
- * woken thread gets the result CLOSED once the lock is shut for all threads. The program is linked with --wrap for
- * syscall. Prints only errors. */
+/* Tests a thread that is stopped inside a call that leaves a lock, just while it wakes the next holder. While the
+ * thread is stopped, all other threads must be able to enter, whichever call was stopped. It must also be possible to
+ * destroy the lock and to free its memory. The program also stops a thread that shuts a lock, while it wakes a thread
+ * that waits on a condition. The woken thread gets the result CLOSED once the lock is shut for all threads. The program
+ * is linked with --wrap for syscall. Prints only errors. */
 #define _GNU_SOURCE
 #include <qolb.h>
 #include <stdarg.h>

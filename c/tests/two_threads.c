@@ -1,4 +1,4 @@
-/* Tests lines of each kind. Two threads add to one lane. Then the test makes every mistake that the library must
+/* Tests lines of each kind. Two threads add to one lane. Then the test makes every incorrect call that the library must
  * refuse, opens a line with each possible number of nodes, and frees a node that has closed its line. Prints only
  * errors. */
 #define _POSIX_C_SOURCE 200809L

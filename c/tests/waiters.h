@@ -1,4 +1,5 @@
-/* Helper functions for tests with waiting threads: checks, the time, and waiting until another thread sleeps. */
+/* Helper functions for tests with waiting threads: they check results, read the clock, and wait until another thread
+ * sleeps. */
 #ifndef WAITERS_H
 #define WAITERS_H
 

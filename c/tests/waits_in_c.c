@@ -1,4 +1,4 @@
-/* C functions that wait and release with the nodes of a Rust program (waits.rs). */
+/* C functions that wait for a line and release it, with the nodes of a Rust program (waits.rs). */
 #include <qolb.h>
 
 struct calls {

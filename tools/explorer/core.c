@@ -1,7 +1,7 @@
 /* A stand-in in C for the proved core of a lock. It returns the results of the calls in c/src/core.h, which
- * crates/qolb_locks exports, and takes the same atomic steps on the same words. The library does not contain this file:
- * ../explore_lock.py model-checks the C code of the lock with it, and c/tests/core_calls.c compares it with the proved
- * core.
+ * crates/qolb_locks exports, and takes the same atomic steps on the same words. This file is not part of the library.
+ * ../explore_lock.py uses it to model-check the C code of the lock, and c/tests/core_calls.c compares it with the
+ * proved core.
  *
  * The core has 8-byte words: word 0 is the lock word, word 16 is the tail, words 17 to 20 are the cells, and no other
  * word is ever written. A cell contains sixteen bits for withdrawn tickets, from bit 16 on the number of sleepers, and

@@ -1,8 +1,8 @@
 /* Replaces the constants of c/src/lock/lock.h when the lock is model-checked. ../explore_lock.py includes this file
- * before each file of the library, and sets WIDTH. The numbers are smaller: there is less room in tables, and a thread
- * polls fewer times before it makes the same decision. Each scene sets the limits on tickets and the memory for
- * entries. All tasks have the same key. lock_scenes.c stores the data of each thread, because one thread of the system
- * runs all threads of the model. */
+ * before each file of the library, and sets WIDTH. The constants are smaller than those of the library: tables have
+ * fewer places, and a thread polls fewer times before it makes the same decision. Each scene sets the limits on tickets
+ * and the memory for entries. All tasks have the same key. lock_scenes.c stores the data of each thread, because one
+ * thread of the system runs all threads of the model. */
 #ifndef EXPLORED_H
 #define EXPLORED_H
 

@@ -1,6 +1,6 @@
 /* Makes the runs of scenes on a model of the processor's memory. ../explore_nodes.py describes the model; it builds and
  * starts this program, and so does ../explore_lock.py. Each run starts from the beginning and follows a list of
- * choices, of which only a limited number may differ from the plain schedule. */
+ * choices. Only a limited number of these choices may differ from the plain schedule. */
 #define _GNU_SOURCE
 #include "explorer.h"
 #include <qolb.h>

@@ -1,5 +1,5 @@
-/* Scenes of the lock in which a timeout expires while another thread stays inside, and scenes that check which waiters
- * a signal reaches (lock_scenes.c). */
+/* Scenes for the model checker, in addition to those of lock_scenes.c. In some of them a timeout expires while another
+ * thread stays inside the lock; others check which waiters a signal reaches. */
 #include "lock_scenes.h"
 
 /* ---- Limits ---- */

@@ -1,5 +1,5 @@
-"""The edits of the lock's C code that ../explore_lock.py tries. Each edit names a file, a function (or nothing, for text
-outside functions), the text in it, and the text that replaces it.
+"""The wrong edits of the lock's C code that ../explore_lock.py tries. Each edit names a file, a function (or nothing,
+for text outside functions), the text that is replaced, and the new text.
 """
 
 ENTER, LEAVE, TURNS, OPENS, CONDITIONS, ABANDONED, TASKS, HEADER, ENTRIES = (

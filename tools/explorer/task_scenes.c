@@ -1,5 +1,5 @@
-/* The actions of tasks in the runs of the lock (lock_scenes.c). Each task belongs to a thread, which makes the task's
- * calls, except for those that other threads make on the task's behalf. */
+/* The actions of tasks in the scenes of the lock (lock_scenes.c). Each task belongs to a thread. This thread makes the
+ * calls of the task, except for those that other threads make on the task's behalf. */
 #include "lock_scenes.h"
 
 /* ---- A task's calls ---- */

@@ -1,5 +1,6 @@
 #!/usr/bin/env python3
-"""Writes docs/figures/*.svg, the pictures in the pages that the program qolb does not draw: two diagrams, which are drawn here, and the plots of plots.py.
+"""Writes docs/figures/*.svg, which are the pictures in the pages that the program qolb does not draw. This program draws two diagrams itself, and plots.py
+draws the plots.
 
     tools/pictures/draw.py            writes the pictures
     tools/pictures/draw.py --check    writes nothing, and ends with status 1 if a picture differs from the one that would be written

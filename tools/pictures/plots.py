@@ -1,5 +1,5 @@
-"""Plots figures from c/bench/figures: the speed of our locks compared with other locks, the memory of a line, and a simulation of larger
-machines.
+"""Plots figures from c/bench/figures: the speed of the library's locks compared with that of other locks, the memory of a line, and a
+simulation of larger machines.
 """
 
 import math

@@ -1,5 +1,5 @@
-/* Abseil's mutex, for peers.c. Its deadlock detector is turned off, because an optimised build does not have it but
- * Debian's build does. */
+/* Abseil's mutex, for peers.c. The deadlock detector of the mutex is turned off: Debian's build contains the detector,
+ * and an optimised build does not. */
 #include "lock.h"
 #include <absl/synchronization/mutex.h>
 #include <new>

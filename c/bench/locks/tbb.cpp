@@ -1,4 +1,4 @@
-/* oneTBB's fair mutex for peers.c, a queue lock whose waiters yield. */
+/* oneTBB's fair mutex, for peers.c. This mutex is a queue lock, and its waiters yield the processor. */
 #include "lock.h"
 #include <new>
 #include <oneapi/tbb/queuing_mutex.h>

@@ -6,10 +6,10 @@
  * by the holder, and a shut notifies all waiters in it. The thread sleeps on the word `told` of its struct, which is
  * set once.
  *
- * The lock must not be destroyed while a thread waits on a condition. Therefore the lock counts this thread among the
- * threads without a ticket, from before the thread leaves the lock until it has a ticket again. A waiter that is
- * notified of a shut also requests the lock, and gets the result CLOSED when its turn comes, after the shut is
- * complete. */
+ * The lock must not be destroyed while a thread waits on a condition. Therefore the lock counts a thread that waits on
+ * a condition among the threads without a ticket, from before the thread leaves the lock until it has a ticket again. A
+ * waiter that is notified of a shut also requests the lock, and gets the result CLOSED when its turn comes, after the
+ * shut is complete. */
 #include "entries.h"
 
 enum { NOTHING, SIGNALLED, SHUT };

@@ -2,7 +2,7 @@
  * files of this folder offer each other.
  *
  * The decision logic is proved: each atomic step that grants, passes on, withdraws, shuts or counts is taken by a call
- * of core.h, which gets the lock and a ticket. The files of this folder look up the ticket, spin, sleep and wake. A
+ * of core.h, which gets the lock and a ticket. The files of this folder look up the ticket, spin, sleep and wake. Each
  * file calls only files that are below it in this list:
  *
  *   conditions.c   waits on a condition, and notifies its waiters of a shut

@@ -1,9 +1,9 @@
 /* The table of the locks that a thread holds (lock.h). This file is tested and model-checked, but not proved.
  *
  * The address of a lock determines its preferred place in the table. If this place is taken, the lock gets any free
- * place. If all places are taken, the number of the holder's ticket is stored in the lock itself, which no other thread
- * can hold at the same time. So a thread can hold any number of locks without allocating memory for them. If a thread
- * ends while it holds a lock, the lock stays held. */
+ * place. If all places are taken, the number of the holder's ticket is stored in the lock itself. This is possible
+ * because a lock has only one holder at a time. So a thread can hold any number of locks without allocating memory for
+ * them. If a thread ends while it holds a lock, the lock stays held. */
 #include "lock.h"
 
 /* ../../package/qolb.gdb finds the holder of a lock by this table, and repeats these numbers. */

@@ -1,5 +1,5 @@
--- The data invariant which states that the first lane of a line never decreases. The definitions in this file were made
--- for this project; none is taken from the literature.
+-- The data invariant of a line whose first lane never decreases. The definitions in this file were made for this
+-- project; none is taken from the literature.
 use Rattle.std.specs.Prelude.{ℕ, ◌≤◌, List}
 use Rattle.std.proofs.Math.Nat.{le_refl}
 use Rattle.line_lanes.specs.Lane.{lane_of}

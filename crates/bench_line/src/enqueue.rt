@@ -1,5 +1,4 @@
-//! The two ways in which a node requests the line in the stress run: with one call, or with two calls and a pause
-//! between them.
+//! The two ways to request a line that the stress run uses: one call, or two calls with a pause between them.
 ghost use Rattle.std.specs.Prelude.{◌≡◌, ◌⊎◌, IsTrue};
 ghost use Rattle.qolb_model.specs.PortStates.{may_ask};
 ghost use Rattle.qolb_model.specs.AtTurn.{IsGranted};
@@ -30,7 +29,7 @@ pub trait EnqueueStrategy<L: LineSync<NonDecreasing>> {
     fn late_links(&self) -> u64;
 }
 
-/// Requests by one call, on any line.
+/// Makes each request with one call, on any line.
 #[derive(Clone, Copy)]
 pub struct AtOnce;
 
@@ -44,7 +43,8 @@ impl<L: LineSync<NonDecreasing>> EnqueueStrategy<L> for AtOnce {
     }
 }
 
-/// Requests by `prepend` and `link`, on a link line. Between the two calls, other nodes release, ask and withdraw.
+/// Makes each request with the two calls `prepend` and `link`, on a link line. Between the two calls, other nodes
+/// release, ask and withdraw.
 #[derive(Drop)]
 pub struct TwoCalls {
     late: AtomicU64,

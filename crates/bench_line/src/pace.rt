@@ -1,4 +1,4 @@
-//! Computes and prints the time of one round, where a round acquires and releases a lock once.
+//! Computes and prints the time of one round. In a round, a thread acquires and releases a lock once.
 ghost use Rattle.std.specs.Prelude.{◌≡◌, ◌*◌, ◌/◌, max};
 ghost use Rattle.std.specs.Duration.{as_nanos};
 

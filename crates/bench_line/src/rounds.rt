@@ -1,4 +1,4 @@
-//! Measures a line: each thread repeatedly acquires the line, adds 1, and releases it.
+//! Measures a line: each thread repeatedly acquires the line, adds 1 to its first lane, and releases it.
 ghost use Rattle.std.specs.Prelude.{◌≡◌, IsTrue};
 ghost use Rattle.qolb_model.specs.PortStates.{may_ask};
 ghost use Rattle.qolb_model.specs.AtTurn.{IsGranted};

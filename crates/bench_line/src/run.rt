@@ -1,5 +1,5 @@
-//! Runs one measurement: it opens a line, runs a task with all nodes of the line, merges the views of the ports, and
-//! finishes the line.
+//! Runs one measurement: opens a line, runs the same task on every node of the line, and finishes the line, which
+//! returns the line's last bytes.
 ghost use Rattle.std.specs.Prelude.{All, IfOk, IsTrue};
 ghost use Rattle.qolb_model.specs.PortStates.{may_ask};
 
@@ -48,9 +48,9 @@ pub fn open<L: OpenLine<NonDecreasing>>(
     }
 }
 
-/// Runs `task` in a thread for each port, and finishes the line.
+/// Runs `task` for each port, in a thread of its own, and then finishes the line.
 ///
-/// The ports' views are merged in between. Returns the line's last bytes.
+/// Before the line is finished, the views of the ports are merged. Returns the last bytes of the line.
 pub fn run_task<
     R: Threads + Wait + Clock + Sync,
     L: LineSync<NonDecreasing> + Sync + Drop,

@@ -1,4 +1,4 @@
-//! A task that every node of a line executes, each in a thread of its own.
+//! Runs one task on every node of a line, with a thread for each node.
 ghost use Rattle.std.specs.Prelude.{IsTrue};
 ghost use Rattle.qolb_model.specs.PortStates.{may_ask};
 

@@ -1,4 +1,4 @@
--- Proof that the atomic exchange which adds a turn to the book preserves the invariant.
+-- Proof that the invariant of the book still holds after the atomic step that adds a critical section to the book.
 use Rattle.std.proofs.Common.{◌≡◌, ℕ, ◌+◌, ◌<◌, ◌==◌, Bool, true, false, List, [], ◌∷◌, ◌++◌, length, refl, ap, sym, subst, arith, ◌∙◌, inl, length-append, None}
 use Rattle.std.proofs.lemmas.List.{append-nil}
 use Rattle.std.proofs.lemmas.Bool.Decides.{nat_tests}

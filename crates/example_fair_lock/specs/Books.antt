@@ -1,4 +1,4 @@
--- The invariant of a book, and what each of its steps reveals.
+-- The invariant of a book, which records a history of critical sections, and what a caller learns from adding to it.
 use Rattle.std.specs.Prelude.{ℕ, ◌≡◌, ◌==◌, true, List, [], ◌∷◌, ◌++◌, length, MatchBool}
 use Rattle.logbook.specs.Pages.{Cell, Step, View, Book, Named}
 use Rattle.example_fair_lock.specs.declared.turn.Turn.{Turn}

@@ -1,4 +1,4 @@
--- Histories of critical sections (turns).
+-- Histories of critical sections, which are called turns here: what each turn found, and what it left.
 use Rattle.std.specs.Prelude.{◌≡◌, ℕ, ◌+◌, ◌%◌, ◌^◌, ◌<◌, ◌==◌, ◌&&◌, Bool, true, List, [], ◌∷◌, length, Some, slice_get}
 use mathlib.Core.List.{IsPrefix}
 use Rattle.example_fair_lock.specs.declared.turn.Turn.{Turn}

@@ -1,5 +1,5 @@
-//! A book records the history of all critical sections, which only grows. The history exists only in proofs; at run
-//! time, the threads share one word, which contains the length of the history.
+//! A book, which records the history of all critical sections. The history only grows, and exists only in proofs. At
+//! run time, the threads share one word that contains the length of the history.
 ghost use Rattle.std.specs.Prelude.{◌≡◌, ◌+◌, ◌==◌, ◌<◌, ◌≤◌, ◌^◌, ◌++◌, ◌∷◌, ◌⊎◌, [], length, MatchBool};
 ghost use mathlib.Core.List.{IsPrefix};
 ghost use Rattle.example_fair_lock.specs.Turns.{IsChain, IsLonger, last_left};

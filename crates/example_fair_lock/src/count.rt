@@ -1,9 +1,9 @@
-//! A count of acquisitions, for which it is proved that the threads together acquire the lock exactly as often as
-//! intended.
+//! Threads count how often they acquire a lock. It is proved that they acquire the lock exactly as often as intended,
+//! all threads taken together.
 //!
-//! Each thread has one proof token, called a ticket, for each time that it will enter. Next to the count, the value
-//! under the lock contains the book of all unused tickets. Therefore the count and the number of unused tickets always
-//! add up to the intended number of acquisitions.
+//! In the proof, a thread has one ticket for each acquisition that it still has to make. The lock protects the count
+//! together with a book of all unused tickets. The count and the number of unused tickets always add up to the intended
+//! number of acquisitions.
 ghost use Rattle.std.specs.Prelude.{◌≡◌, ℕ, ◌+◌, ◌*◌, ◌^◌, ◌<◌, ◌≤◌, IfSome};
 
 use fair_lock::FairLock;

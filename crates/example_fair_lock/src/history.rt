@@ -1,5 +1,5 @@
-//! A number under a lock, together with the history of all critical sections that changed it. Each critical section
-//! begins with the number that the previous one left, whichever thread executed it.
+//! A lock that protects a number, together with the history of all critical sections that changed the number. Each
+//! critical section begins with the number that the previous critical section left, whichever threads executed the two.
 ghost use Rattle.std.specs.Prelude.{◌≡◌, [], ◌∷◌, ◌++◌, length, Some, IfSome, IfNone, slice_get};
 ghost use Rattle.example_fair_lock.specs.Turns.{BeginsWithTheLast, HasAdded, last_left};
 

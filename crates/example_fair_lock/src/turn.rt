@@ -1,4 +1,4 @@
-//! The record of one critical section (a turn) in the history.
+//! The record that the history keeps of one critical section.
 
 /// What a turn found, and what it left.
 #[derive(Clone, Copy)]

@@ -1,4 +1,4 @@
--- Lemmas for the counter: one round, the ports before the first round, and the number at the end.
+-- Lemmas for the counter: the effect of one addition, the ports before the first addition, and the number at the end.
 use Rattle.std.proofs.Common.{◌≡◌, ◌≢◌, ℕ, suc, ◌+◌, ◌-◌, ◌*◌, ◌%◌, ◌^◌, ◌<◌, inl, inr, true, false, refl, List, [], ◌∷◌, length, map, Some, None, option_map, slice_get, get_or, IsTrue, ap, sym, subst, ◌∙◌, arith}
 use Rattle.std.specs.List.{sum_by}
 use Rattle.std.proofs.lemmas.List.Sums.{sum_by-cons}

@@ -1,4 +1,5 @@
--- Lemmas for the mailbox: what one turn adds to the sums of its port, and what the mailbox contains at the end.
+-- Lemmas for the mailbox: how one turn changes the sums that are computed for a port, and what the mailbox contains at
+-- the end.
 use Rattle.std.proofs.Common.{◌≡◌, ◌≢◌, ℕ, zero, suc, ◌+◌, ◌-◌, ◌%◌, ◌^◌, ◌<◌, min, true, false, refl, List, [], ◌∷◌, length, map, get_or, Some, None, ap, sym, subst, ◌∙◌, arith}
 use Rattle.std.specs.List.{sum_by}
 use Rattle.line_lanes.specs.Lane.{lane_of}

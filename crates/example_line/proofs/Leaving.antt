@@ -1,4 +1,4 @@
--- Lemmas about one turn: what it found, and how it left the line.
+-- Lemmas about one turn in which a node holds the line: what it found in the line, and what it left there.
 use Rattle.std.proofs.Common.{◌≡◌, ℕ, ◌^◌, ◌<◌, false, List, ◌∷◌, ◌++◌, length, drop, replicate, ap, sym, subst, ◌∙◌, arith}
 use Rattle.line_lanes.specs.declared.line.Line64.{Line64}
 use Rattle.line_lanes.specs.Lane.{lane_of, with_lane_of}

@@ -1,4 +1,4 @@
--- Lemmas for the sale of seats: one turn of a clerk, the ports before the first turn, and the number of seats that are
+-- Lemmas for the sale of seats: what a clerk sells in one turn, the ports before the first turn, and the total that is
 -- sold at the end.
 use Rattle.std.proofs.Common.{◌≡◌, ◌⊎◌, ℕ, ◌+◌, ◌*◌, ◌<◌, ◌≤◌, inl, inr, Bool, true, false, cond, List, [], ◌∷◌, length, map, None, slice_get, Some, get_or, min, ap, sym, subst, ◌∙◌, arith, eq-eqb, ne_eqb}
 use Rattle.std.proofs.lemmas.Bool.{cases_lt}

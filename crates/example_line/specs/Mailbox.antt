@@ -1,5 +1,5 @@
--- The possible outcomes of a request for the mailbox, and of a turn in which a node holds it. The definitions in this
--- file were made for this project; none is taken from the literature.
+-- The possible outcomes of a request for the mailbox, and of a turn in which a node holds the mailbox. The definitions
+-- in this file were made for this project; none is taken from the literature.
 use Rattle.std.specs.Prelude.{◌≡◌, ◌≢◌, ◌⊎◌, ℕ, zero, suc, ◌+◌, ◌-◌, ◌%◌, ◌^◌, min, false, List, ◌∷◌, ◌++◌, length, drop, replicate, slice_get, Some}
 use Rattle.line_lanes.specs.Lane.{lane_of}
 use Rattle.qolb_model.specs.declared.write.Write.{Write}

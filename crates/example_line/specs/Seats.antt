@@ -1,5 +1,5 @@
--- The data invariant which states that at most `SEATS` seats are sold. The definitions in this file were made for this
--- project; none is taken from the literature.
+-- The data invariant of the sale of seats: at most `SEATS` seats are sold. The definitions in this file were made for
+-- this project; none is taken from the literature.
 use Rattle.std.specs.Prelude.{◌≡◌, ◌⊎◌, ℕ, ◌+◌, ◌≤◌, ◌==◌, nat_lt, if◌then◌else◌, List}
 use Rattle.line_lanes.specs.Lane.{lane_of}
 use Rattle.qolb_model.specs.declared.view.View.{View}

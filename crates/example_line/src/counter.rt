@@ -1,4 +1,5 @@
-//! A counter that threads share: each thread acquires the line, adds 1 to its first lane, and releases the line.
+//! A counter that threads share in the first lane of a line. A thread acquires the line, adds 1 to the lane, and
+//! releases the line.
 ghost use Rattle.std.specs.Prelude.{◌≡◌, ◌⊎◌, ◌+◌, ◌*◌, ◌%◌, ◌^◌, IfSome, IsTrue, drop};
 ghost use Rattle.line_lanes.specs.Lane.{lane_of};
 ghost use Rattle.qolb_model.specs.PortStates.{may_ask};

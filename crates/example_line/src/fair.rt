@@ -1,5 +1,5 @@
-//! A proof of fairness in a program that uses lines: while a node waits, the number of other nodes' turns is bounded.
-//! The bound follows from the contracts that every kind of line satisfies.
+//! A program that proves the fairness of its own waits: while a node waits, the other nodes have only a bounded number
+//! of turns. The bound follows from the contracts that every kind of line satisfies.
 ghost use Rattle.std.specs.Prelude.{◌≡◌, ◌+◌, ◌≤◌, length, IsTrue};
 ghost use Rattle.qolb_model.specs.PortStates.{may_ask};
 ghost use Rattle.qolb_model.specs.Enqueueing.{Asks};

@@ -1,5 +1,5 @@
-//! A thread acquires a line with a timeout. If the wait times out, the node withdraws its request, and may request the
-//! line again later.
+//! A thread acquires a line with a timeout. If the wait times out, the request of its node is withdrawn, and the node
+//! may request the line again later.
 ghost use Rattle.std.specs.Prelude.{◌≡◌, ◌≢◌, IsTrue};
 ghost use Rattle.qolb_model.specs.PortStates.{may_ask};
 ghost use Rattle.qolb_model.specs.Enqueueing.{Asks};

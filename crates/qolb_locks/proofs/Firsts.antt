@@ -1,4 +1,5 @@
--- Lemmas about the atomic steps of a ticket's first call, which creates its seat.
+-- Lemmas about the first call with a ticket on a lock: how many atomic steps it takes, including those that create the
+-- ticket's seat.
 use Rattle.std.proofs.Common.{◌≡◌, ℕ, ◌+◌, [], ◌∷◌, sym, ap, ◌∙◌, arith}
 use Rattle.lock_core.specs.declared.view.View.{View}
 use Rattle.qolb_locks.specs.declared.ticket.Ticket.{Ticket}

@@ -1,4 +1,4 @@
--- The data field of a `LockRef`, and how a proof opens a `&` to a `LockRef`. The proofs assume `Logic`.
+-- The value of a `LockRef` in memory, and how a proof gets from a `&LockRef` to its field. The proofs assume `Logic`.
 use Rattle.std.proofs.Common.{◌≡◌, ℕ, List, [], ◌∷◌, ◌++◌, refl, ap, ◌∙◌}
 use seplogic.Ra.Ura.{Ura}
 use mir.Val.{Val, vstruct, vcons, vnil, of_list}

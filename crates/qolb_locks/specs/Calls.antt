@@ -1,5 +1,5 @@
--- What each call on a lock guarantees, depending on its answer. `was` and `now` are the ticket before and after the
--- call. The definitions in this file were made for this project; none is taken from the literature.
+-- What each call on a lock guarantees for each of the call's answers. `was` and `now` are the ticket before and after
+-- the call. The definitions in this file were made for this project; none is taken from the literature.
 use Rattle.std.specs.Prelude.{◌≡◌, ◌≢◌, ℕ, ◌<◌, ◌≤◌, ◌+◌, ◌*◌, ◌/◌, ◌%◌, ◌⊎◌, true, false, max, [], ◌∷◌}
 use Rattle.std.specs.declared.option.Option.{Option}
 use Rattle.std.specs.declared.option.Option.TheVariants.{Some}

@@ -1,5 +1,5 @@
--- What each exported function guarantees about the lock that C code passes to it. The definitions in this file were
--- made for this project; none is taken from the literature.
+-- The form of what exported functions guarantee: a statement about the lock to which the given reference refers, and
+-- about the answer. The definitions in this file were made for this project; none is taken from the literature.
 use Rattle.std.specs.Prelude.{◌≡◌, ℕ, Option, Some}
 use Rattle.qolb_locks.specs.declared.answer.Answer.{Answer}
 use Rattle.qolb_locks.specs.declared.answer.Answer.TheVariants as answer

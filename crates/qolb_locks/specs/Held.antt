@@ -1,4 +1,4 @@
--- What a ticket owns of its lock in the proofs.
+-- What a ticket owns in the proofs: the same as a `Badge` of the lock's table.
 use Rattle.std.specs.Prelude.{ℕ, List}
 use base.Fml.{Fml}
 use base.Stored.{Coded}

@@ -1,5 +1,5 @@
--- What holds if two tickets of one lock meet, which means that a proof compares what they know. The definitions in this
--- file were made for this project; none is taken from the literature.
+-- The statements that a proof uses when it compares what two tickets of one lock know. The definitions in this file
+-- were made for this project; none is taken from the literature.
 use Rattle.std.specs.Prelude.{◌≡◌, ◌≤◌, ◌⊎◌, [], ◌∷◌}
 use Rattle.lock_core.specs.declared.view.View.{View}
 use Rattle.lock_core.specs.Views.{max_newcomers_of}

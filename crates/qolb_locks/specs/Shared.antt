@@ -1,4 +1,5 @@
--- What a reference to a lock holds: nothing, or the same as a `&'static` to the lock, which can be copied.
+-- What a `LockRef` owns: nothing if it refers to no lock, and otherwise the same as a `&'static` reference to the lock.
+-- What it owns can be copied.
 use Rattle.std.specs.Prelude.{[]}
 use base.Fml.{Fml, ftrue}
 use base.Stored.{Coded}

@@ -1,11 +1,11 @@
-//! The answers of the calls on locks, as C code receives them.
+//! The answers that calls on locks return to C code.
 
 /// The answer of a call. C reads it as this number.
 #[derive(Clone, Copy, Debug, PartialEq, Eq)]
 pub enum Answer {
     /// The call is done.
     Done = 0,
-    /// The ticket is at its turn, or its caller is inside.
+    /// The ticket's turn has come, or its caller is inside the lock.
     Granted = 1,
     /// The request waits.
     Waiting = 3,

@@ -1,6 +1,7 @@
-//! Barging: a ticket takes the lock word without a number in the queue, and so its thread overtakes the queue.
+//! Barging: a thread takes the lock word without drawing a number in the queue, and thereby overtakes the waiting
+//! threads.
 //!
-//! A thread that barges is called a *newcomer* (`lock_core`).
+//! The crate `lock_core` calls a thread that barges a *newcomer*.
 ghost use Rattle.qolb_locks.specs.declared.answer.Answer.{Answer};
 ghost use Rattle.qolb_locks.specs.declared.ticket.State.{State};
 ghost use Rattle.qolb_locks.specs.Calls.{IsMisuse, OnlyEntry, StepsUpTo, StepsFirst, Barges};
@@ -56,9 +57,10 @@ fn barge_first(lock: &Lock, ticket: &mut Ticket) -> Answer
     barge_again(lock, ticket)
 }
 
-/// Takes the lock word without waiting, if the word is as the ticket guesses, free for barging threads, and open.
+/// Takes the lock word without waiting, if the word has the value that the ticket guesses, is free for barging threads,
+/// and says that the lock is open.
 ///
-/// Otherwise the answer is `Busy`, and the ticket has the word that the call found.
+/// Otherwise the answer is `Busy`, and the ticket then contains the value that the call found in the word.
 #[inline(always)]
 pub fn barge(lock: &Lock, ticket: &mut Ticket) -> Answer
     requires { IsKnown lock.now ticket.old }

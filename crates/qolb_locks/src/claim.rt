@@ -1,4 +1,5 @@
-//! A claim: what a ticket owns of its lock in the proofs, namely a seat of the lock's table.
+//! A claim is the part of a ticket that owns a seat of the lock's table in the proofs. A caller needs a seat to take
+//! atomic steps on the table.
 ghost use Rattle.std.specs.Prelude.{◌≡◌, ℕ, List, [], ◌∷◌};
 ghost use base.Stored.{coded_list};
 ghost use Rattle.atomic_table.specs.Seated.{TableId, table_id_coded};

@@ -1,4 +1,4 @@
-//! Requests: a ticket draws a number, which is its place in the order.
+//! Requests: a ticket draws a number, and the lock serves the tickets in the order of these numbers.
 ghost use Rattle.std.specs.Prelude.{◌≡◌};
 ghost use Rattle.qolb_locks.specs.declared.ticket.State.{State};
 ghost use Rattle.qolb_locks.specs.Calls.{IsMisuse, OnlyRequest, OnlySeat, StepsUpTo, StepsFirst, Learns, IfDrawn, IsBehind, Looks, DrawsAndChecks, Tries, DrawsNear};
@@ -21,7 +21,7 @@ pub(crate) fn take_new_seat(lock: &Lock, ticket: &mut Ticket)
     ticket.label = lock.label;
 }
 
-/// Requests the lock with a ticket that has a seat of it, and polls once.
+/// Requests the lock with a ticket that has a seat of this lock, and polls once.
 #[inline(always)]
 fn draw_again(lock: &Lock, ticket: &mut Ticket) -> Answer
     requires { Has State.Free lock.now ticket.old }
@@ -38,7 +38,7 @@ fn draw_again(lock: &Lock, ticket: &mut Ticket) -> Answer
     ticket.settle(rounds)
 }
 
-/// Requests the lock with a ticket that has no seat of it yet, and polls once.
+/// Requests the lock with a ticket that has no seat of this lock yet, and polls once.
 ///
 /// The function is not inlined, so that the common call saves no registers for it.
 #[inline(never)]
@@ -76,8 +76,8 @@ pub fn draw(lock: &Lock, ticket: &mut Ticket) -> Answer
     draw_again(lock, ticket)
 }
 
-/// Requests a strict lock with a ticket that has a seat of it. If the ticket is at its turn at once, checks whether the
-/// lock is open.
+/// Requests a strict lock with a ticket that has a seat of this lock. If the ticket's turn has come at once, checks
+/// whether the lock is open.
 #[inline(always)]
 fn draw_and_check_again(lock: &Lock, ticket: &mut Ticket) -> Answer
     requires strict { IsStrict lock.now }
@@ -100,8 +100,8 @@ fn draw_and_check_again(lock: &Lock, ticket: &mut Ticket) -> Answer
     ticket.tell(open)
 }
 
-/// Requests a strict lock with a ticket that has no seat of it yet. If the ticket is at its turn at once, checks
-/// whether the lock is open.
+/// Requests a strict lock with a ticket that has no seat of this lock yet. If the ticket's turn has come at once,
+/// checks whether the lock is open.
 ///
 /// The function is not inlined, so that the common call saves no registers for it.
 #[inline(never)]
@@ -117,10 +117,10 @@ fn draw_and_check_first(lock: &Lock, ticket: &mut Ticket) -> Answer
     draw_and_check_again(lock, ticket)
 }
 
-/// Requests a strict lock and polls once, and if the ticket is at its turn, checks whether the lock is open. This is
-/// `draw` and `check_open` in one call.
+/// Requests a strict lock and polls once. If the ticket's turn has come, checks whether the lock is open. This call
+/// combines `draw` and `check_open`.
 ///
-/// The answer is `Closed` if the lock is shut. The caller must then pass the turn on by `release`.
+/// The answer is `Closed` if the lock is shut. The caller must then pass the turn on with `release`.
 #[inline(always)]
 pub fn draw_and_check(lock: &Lock, ticket: &mut Ticket) -> Answer
     requires { IsKnown lock.now ticket.old }
@@ -145,7 +145,7 @@ pub fn draw_and_check(lock: &Lock, ticket: &mut Ticket) -> Answer
     draw_and_check_again(lock, ticket)
 }
 
-/// Tries for the lock with a ticket that has a seat of it.
+/// Requests the lock if no caller has it and none waits, with a ticket that has a seat of this lock.
 #[inline(always)]
 fn try_draw_again(lock: &Lock, ticket: &mut Ticket) -> Answer
     requires { Has State.Free lock.now ticket.old }
@@ -166,7 +166,7 @@ fn try_draw_again(lock: &Lock, ticket: &mut Ticket) -> Answer
     Answer::Granted
 }
 
-/// Tries for the lock with a ticket that has no seat of it yet.
+/// Requests the lock if no caller has it and none waits, with a ticket that has no seat of this lock yet.
 ///
 /// The function is not inlined, so that the common call saves no registers for it.
 #[inline(never)]
@@ -183,7 +183,7 @@ fn try_draw_first(lock: &Lock, ticket: &mut Ticket) -> Answer
 
 /// Requests the lock if no caller has it and none waits. The request is behind the ticket's last turn at this lock.
 ///
-/// A call that does not request the lock leaves nothing behind.
+/// If the call does not request the lock, it leaves nothing behind.
 #[inline(always)]
 pub fn try_draw(lock: &Lock, ticket: &mut Ticket) -> Answer
     requires { IsKnown lock.now ticket.old }
@@ -205,7 +205,7 @@ pub fn try_draw(lock: &Lock, ticket: &mut Ticket) -> Answer
     try_draw_again(lock, ticket)
 }
 
-/// Requests the lock with a ticket that has a seat of it, if the request could be withdrawn.
+/// Requests the lock with a ticket that has a seat of this lock, if the request could be withdrawn.
 #[inline(always)]
 fn draw_near_again(lock: &Lock, ticket: &mut Ticket) -> Answer
     requires { Has State.Free lock.now ticket.old }
@@ -241,7 +241,7 @@ fn draw_near_again(lock: &Lock, ticket: &mut Ticket) -> Answer
     }
 }
 
-/// Requests the lock with a ticket that has no seat of it yet, if the request could be withdrawn.
+/// Requests the lock with a ticket that has no seat of this lock yet, if the request could be withdrawn.
 ///
 /// The function is not inlined, so that the common call saves no registers for it.
 #[inline(never)]
@@ -258,8 +258,8 @@ fn draw_near_first(lock: &Lock, ticket: &mut Ticket) -> Answer
 
 /// Requests the lock if the request could be withdrawn. The request is behind the ticket's last turn at this lock.
 ///
-/// A call that does not request the lock leaves nothing behind. Its answer is `Far` if too many requests are before the
-/// new one, and `Busy` if another caller drew a ticket at that moment.
+/// If the call does not request the lock, it leaves nothing behind. Its answer is `Far` if too many requests are before
+/// the new one, and `Busy` if another caller drew a ticket at that moment.
 #[inline(always)]
 pub fn draw_near(lock: &Lock, ticket: &mut Ticket) -> Answer
     requires { IsKnown lock.now ticket.old }

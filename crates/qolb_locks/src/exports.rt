@@ -1,7 +1,8 @@
-//! Exports the proved core of a lock, which many threads share, to C. `c/src/core.h` declares these functions.
+//! Exports the calls on the proved core of a lock to C. Many threads may share a lock. `c/src/core.h` declares the
+//! exported functions.
 //!
-//! C code refers to a lock by a reference, which it may copy, and to a request by a ticket, which belongs to one
-//! caller. The header core.h also lists what the C code must guarantee.
+//! C code refers to a lock by a reference, which may be copied. It represents a request by a ticket, which belongs to
+//! one caller. The header core.h also lists what the C code must guarantee.
 ghost use Rattle.std.specs.Prelude.{◌≡◌, ◌≢◌, true};
 ghost use Rattle.lock_core.specs.Views.{SameRequest};
 ghost use Rattle.qolb_locks.specs.declared.answer.Answer.{Answer};
@@ -15,7 +16,7 @@ use crate::lock_ref::LockRef;
 use crate::ticket::Ticket;
 use std::alloc::Global;
 
-/// Returns C's number of an answer.
+/// Returns the number that represents an answer in C code.
 #[inline(always)]
 fn number(answer: Answer) -> u32
     ensures { result ≡ number_of answer }
@@ -57,7 +58,7 @@ pub extern "C" fn qolb_core_draw_proved_(lock: &LockRef, ticket: &mut Ticket) ->
     number(crate::draw(lock.get(), ticket))
 }
 
-/// Requests a strict lock, polls once, and if the ticket is at its turn, checks whether the lock is open.
+/// Requests a strict lock and polls once. If the ticket's turn has come, checks whether the lock is open.
 #[unsafe(no_mangle)]
 pub extern "C" fn qolb_core_draw_and_check_proved_(lock: &LockRef, ticket: &mut Ticket) -> u32
     requires { Of lock.now.lock (λ l. IsKnown l ticket.old) }
@@ -80,7 +81,8 @@ pub extern "C" fn qolb_core_draw_and_check_proved_(lock: &LockRef, ticket: &mut 
     number(crate::draw_and_check(lock.get(), ticket))
 }
 
-/// Requests the lock if the request could be withdrawn. A call that does not request it leaves nothing behind.
+/// Requests the lock if the request could be withdrawn. If the call does not request the lock, it leaves nothing
+/// behind.
 #[unsafe(no_mangle)]
 pub extern "C" fn qolb_core_draw_near_proved_(lock: &LockRef, ticket: &mut Ticket) -> u32
     requires { Of lock.now.lock (λ l. IsKnown l ticket.old) }
@@ -99,7 +101,8 @@ pub extern "C" fn qolb_core_draw_near_proved_(lock: &LockRef, ticket: &mut Ticke
     number(crate::draw_near(lock.get(), ticket))
 }
 
-/// Requests the lock if no caller has it and none waits. A call that does not request it leaves nothing behind.
+/// Requests the lock if no caller has it and none waits. If the call does not request the lock, it leaves nothing
+/// behind.
 #[unsafe(no_mangle)]
 pub extern "C" fn qolb_core_try_draw_proved_(lock: &LockRef, ticket: &mut Ticket) -> u32
     requires { Of lock.now.lock (λ l. IsKnown l ticket.old) }
@@ -117,7 +120,7 @@ pub extern "C" fn qolb_core_try_draw_proved_(lock: &LockRef, ticket: &mut Ticket
     number(crate::try_draw(lock.get(), ticket))
 }
 
-/// Polls whether the request is at its turn.
+/// Polls whether the turn of the request has come.
 #[unsafe(no_mangle)]
 pub extern "C" fn qolb_core_poll_proved_(lock: &LockRef, ticket: &mut Ticket) -> u32
     requires { Of lock.now.lock (λ l. IsKnown l ticket.old) }
@@ -135,7 +138,7 @@ pub extern "C" fn qolb_core_poll_proved_(lock: &LockRef, ticket: &mut Ticket) ->
     number(crate::poll(lock.get(), ticket))
 }
 
-/// Counts the waiter as a sleeper of its cell, unless it is at its turn.
+/// Counts the waiter as a sleeper of its cell, unless the waiter's turn has come.
 ///
 /// The ticket then has the word at which the waiter may sleep.
 #[unsafe(no_mangle)]
@@ -155,7 +158,7 @@ pub extern "C" fn qolb_core_announce_sleep_proved_(lock: &LockRef, ticket: &mut 
     number(crate::announce_sleep(lock.get(), ticket))
 }
 
-/// Takes back the count of a sleeper.
+/// Stops counting the waiter as a sleeper.
 #[unsafe(no_mangle)]
 pub extern "C" fn qolb_core_retract_sleep_proved_(lock: &LockRef, ticket: &mut Ticket) -> u32
     requires { Of lock.now.lock (λ l. IsKnown l ticket.old) }
@@ -207,7 +210,8 @@ pub extern "C" fn qolb_core_release_proved_(lock: &LockRef, ticket: &mut Ticket)
     number(crate::release(lock.get(), ticket))
 }
 
-/// Checks, for a ticket at its turn in a strict lock, whether the lock is open. The caller is served only if it is.
+/// Checks whether a strict lock is open, for a ticket whose turn has come. The caller is served only if the lock is
+/// open.
 #[unsafe(no_mangle)]
 pub extern "C" fn qolb_core_check_open_proved_(lock: &LockRef, ticket: &mut Ticket) -> u32
     requires { Of lock.now.lock (λ l. IsKnown l ticket.old) }
@@ -223,9 +227,10 @@ pub extern "C" fn qolb_core_check_open_proved_(lock: &LockRef, ticket: &mut Tick
     number(crate::check_open(lock.get(), ticket))
 }
 
-/// Takes the lock word without waiting, if the word is as the ticket guesses, free for barging threads, and open.
+/// Takes the lock word without waiting, if the word has the value that the ticket guesses, is free for barging threads,
+/// and says that the lock is open.
 ///
-/// Otherwise the ticket has the word that the call found.
+/// Otherwise the ticket then contains the value that the call found in the word.
 #[unsafe(no_mangle)]
 pub extern "C" fn qolb_core_barge_proved_(lock: &LockRef, ticket: &mut Ticket) -> u32
     requires { Of lock.now.lock (λ l. IsKnown l ticket.old) }
@@ -265,9 +270,9 @@ pub extern "C" fn qolb_core_take_lock_word_proved_(lock: &LockRef, ticket: &mut 
     number(crate::take_lock_word(lock.get(), ticket))
 }
 
-/// Leaves the lock word, if the word is as the ticket guesses.
+/// Gives the lock word back, if the word has the value that the ticket guesses.
 ///
-/// Otherwise the ticket has the word that the call found, and the caller must call again.
+/// Otherwise the ticket then contains the value that the call found in the word, and the caller must call again.
 #[unsafe(no_mangle)]
 pub extern "C" fn qolb_core_leave_lock_word_proved_(lock: &LockRef, ticket: &mut Ticket) -> u32
     requires { Of lock.now.lock (λ l. IsKnown l ticket.old) }
@@ -283,7 +288,7 @@ pub extern "C" fn qolb_core_leave_lock_word_proved_(lock: &LockRef, ticket: &mut
     number(crate::leave_lock_word(lock.get(), ticket))
 }
 
-/// Requests for the queue head that the thread inside leave the lock word for the queue head alone.
+/// Requests that the thread inside leave the lock word to the queue head alone.
 #[unsafe(no_mangle)]
 pub extern "C" fn qolb_core_request_handoff_proved_(lock: &LockRef, ticket: &mut Ticket) -> u32
     requires { Of lock.now.lock (λ l. IsKnown l ticket.old) }
@@ -333,8 +338,8 @@ pub extern "C" fn qolb_core_shut_proved_(lock: &LockRef, ticket: &mut Ticket) ->
     number(crate::shut(lock.get(), ticket))
 }
 
-/// Reopens the lock for a ticket whose caller was told at its turn that the lock is shut, if no caller drew a ticket
-/// after it.
+/// Reopens the lock, if no caller drew a ticket after the given one. The caller of the given ticket must have been told
+/// at its turn that the lock is shut.
 #[unsafe(no_mangle)]
 pub extern "C" fn qolb_core_reopen_proved_(lock: &LockRef, ticket: &mut Ticket) -> u32
     requires { Of lock.now.lock (λ l. IsKnown l ticket.old) }

@@ -1,4 +1,5 @@
-//! The calls of the queue head: it takes the lock word, requests a handoff, and announces that it sleeps on the word.
+//! The calls for the queue head of a barging lock, which is the waiter whose turn in the queue has come. The queue head
+//! takes the lock word, requests that the holder leave the word to it, or announces that it sleeps on the word.
 ghost use Rattle.lock_core.specs.Views.{SameRequest};
 ghost use Rattle.qolb_locks.specs.declared.answer.Answer.{Answer};
 ghost use Rattle.qolb_locks.specs.declared.ticket.State.{State};
@@ -50,7 +51,7 @@ pub fn take_lock_word(lock: &Lock, ticket: &mut Ticket) -> Answer
     }
 }
 
-/// Requests for the queue head that the thread inside leave the lock word for the queue head alone.
+/// Requests that the thread inside leave the lock word to the queue head alone.
 ///
 /// The answer is `Busy` if the lock word changed at that moment.
 pub fn request_handoff(lock: &Lock, ticket: &mut Ticket) -> Answer

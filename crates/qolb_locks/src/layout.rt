@@ -1,4 +1,5 @@
-//! The facts about a lock's core that C code needs in addition to the calls: sizes, numbers of words, bits and limits.
+//! Constants of a lock's core that C code needs in addition to the calls: sizes, positions of words and bits, and
+//! limits.
 //!
 //! `tools/snapshot` writes these numbers, with their comments, to `c/proved/qolb_layout.h`. The sizes of the blocks
 //! that a call allocates are not in this file, because `tools/snapshot` measures them.

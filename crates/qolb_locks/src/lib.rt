@@ -1,8 +1,8 @@
-//! The locks of `lock_core`, behind handles for C code, as a static library. A caller has a reference to the lock, and a
-//! ticket of its own. `exports.rt` exports the calls to C.
+//! A static library with which C code uses the locks of the crate `lock_core`. Each caller has a reference to the lock
+//! and a ticket of its own. `exports.rt` exports the calls to C.
 //!
-//! Each call first checks the state of the ticket. If that state does not allow the call, the answer is `Misuse` and
-//! nothing changes. Each call takes a bounded number of atomic steps, and no call waits.
+//! Each call first checks the state of the ticket. If this state does not allow the call, the call changes nothing and
+//! answers `Misuse`. Each call takes a bounded number of atomic steps, and no call waits.
 #![tactic(auto)]
 
 mod answer;

@@ -1,4 +1,4 @@
-//! A reference to a lock, which C code may copy and share between threads. The lock itself is never freed.
+//! A reference to a lock. C code may copy the reference and share it between threads. No call frees the lock.
 ghost use Rattle.std.specs.Prelude.{◌≡◌};
 ghost use Rattle.std.specs.declared.option.Option.{Option};
 ghost use Rattle.std.specs.declared.option.Option.TheVariants.{None, Some};
@@ -8,7 +8,7 @@ ghost use Rattle.qolb_locks.specs.Shared.{lock_coded, refers};
 use crate::lock::Lock;
 use std::marker::Model;
 
-/// A reference to a lock, as C has it.
+/// A reference to a lock, as C code stores it.
 #[repr(C)]
 #[derive(Drop)]
 pub struct LockRef {

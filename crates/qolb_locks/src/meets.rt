@@ -1,7 +1,8 @@
-//! The theorems about two tickets of one lock.
+//! Theorems about two tickets of the same lock.
 //!
-//! Each function states that two tickets can be in the stated situation only if more requests were open at the lock
-//! than the proofs allow. No program calls these functions, but a proof about callers may use them.
+//! Each function of this file is a theorem about a situation that would be an error, such as two tickets that are
+//! served at the same time. The theorem states that two tickets can be in this situation only if more requests were
+//! open at the lock than the proofs allow. No program calls these functions, but a proof about callers may use them.
 ghost use Rattle.std.specs.Prelude.{◌≡◌, ◌<◌, ◌≤◌};
 ghost use Rattle.lock_core.specs.Meets.{IsWaiting, IsWaitingOpen, IsWaitingShut, IsStillAsleep, GrantedToNobodyAsleepAt, HadPlaceOf};
 ghost use Rattle.lock_core.specs.Views.{Timely, NeverInTime, HasTurn, KnowsShut, LeftQuietly, ServedOpen, SleepsAtLockWord};

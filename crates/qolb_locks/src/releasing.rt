@@ -1,4 +1,5 @@
-//! Releases: a ticket that has the turn grants the next number, and a ticket that holds the lock word leaves it.
+//! Releases: a ticket whose turn has come passes the turn to the next number, and a ticket that holds the lock word
+//! gives the word back.
 ghost use Rattle.std.specs.Prelude.{◌≡◌, ◌+◌, ◌%◌, ◌^◌, true, false};
 ghost use Rattle.lock_core.specs.Layout.{max_passed};
 ghost use Rattle.lock_core.specs.Views.{HasEnded, HasTurnOf, IsIdle};
@@ -105,8 +106,8 @@ fn release_inside(lock: &Lock, ticket: &mut Ticket) -> Answer
     Answer::Misuse
 }
 
-/// Leaves the lock word, if it is as the ticket guesses. The call leaves the word to the queue head alone if the queue
-/// head has requested that, or if as many threads were inside as the barging limit allows.
+/// Gives the lock word back, if the word has the value that the ticket guesses. The call leaves the word to the queue
+/// head alone if the queue head has requested that, or if as many threads were inside as the barging limit allows.
 ///
 /// The answer is `Busy` if the word has another value. The ticket then has that value, and the caller must call again.
 #[inline(always)]

@@ -12,8 +12,8 @@ use crate::lock::Lock;
 use crate::ticket::{State, Ticket};
 use lock_core::layout::SHUT;
 
-/// Checks, for a ticket at its turn in a strict lock, whether the lock is open. The caller is served only if it is. If
-/// the lock is shut, the caller must pass the turn on by `release`.
+/// Checks whether a strict lock is open, for a ticket whose turn has come. The caller is served only if the lock is
+/// open. If the lock is shut, the caller must pass the turn on by `release`.
 #[inline(always)]
 pub fn check_open(lock: &Lock, ticket: &mut Ticket) -> Answer
     requires { IsKnown lock.now ticket.old }
@@ -119,8 +119,8 @@ fn reopen_shut(lock: &Lock, ticket: &mut Ticket) -> bool
     open
 }
 
-/// Reopens the lock for a ticket whose caller was told at its turn that the lock is shut, if no caller drew a ticket
-/// after it.
+/// Reopens the lock, if no caller drew a ticket after the given one. The caller of the given ticket must have been told
+/// at its turn that the lock is shut.
 ///
 /// The caller is then served. If another caller drew a ticket, the answer is `Busy`, and the lock stays shut.
 pub fn reopen(lock: &Lock, ticket: &mut Ticket) -> Answer

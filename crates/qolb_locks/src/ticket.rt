@@ -1,4 +1,4 @@
-//! A ticket, which represents the request of one caller and lies in memory of the C code.
+//! The type of a ticket, which represents the request of one caller. C code provides the memory for the ticket.
 ghost use Rattle.std.specs.Prelude.{◌≡◌, ◌<◌, ◌≤◌, true, false};
 ghost use Rattle.qolb_locks.specs.declared.answer.Answer.{Answer};
 ghost use Rattle.qolb_locks.specs.Calls.{IsHead};

@@ -1,4 +1,4 @@
-//! Waiting: a ticket polls, announces that its thread is about to sleep, and retracts the announcement.
+//! Waiting: a ticket polls, announces that its thread is about to sleep, and takes this announcement back.
 ghost use Rattle.lock_core.specs.Views.{SameRequest};
 ghost use Rattle.qolb_locks.specs.declared.ticket.State.{State};
 ghost use Rattle.qolb_locks.specs.Calls.{IsMisuse, OnlyRounds, OnlySleep, StepsUpTo, Learns, Looks, AnnouncesSleep};
@@ -9,7 +9,7 @@ use crate::lock::Lock;
 use crate::ticket::{State, Ticket};
 use lock_core::SleepResult;
 
-/// Polls whether the request is at its turn.
+/// Polls whether the turn of the request has come.
 #[inline(always)]
 pub fn poll(lock: &Lock, ticket: &mut Ticket) -> Answer
     requires { IsKnown lock.now ticket.old }
@@ -30,8 +30,8 @@ pub fn poll(lock: &Lock, ticket: &mut Ticket) -> Answer
     ticket.settle(rounds)
 }
 
-/// Counts the waiter as a sleeper of its cell, unless it is at its turn. The ticket then has the word at which the
-/// waiter may sleep.
+/// Counts the waiter as a sleeper of its cell, unless the waiter's turn has come. The ticket then has the word at which
+/// the waiter may sleep.
 ///
 /// The waiter is not counted if the cell changed at that moment, for which the answer is `Waiting`, or if the cell can
 /// count no more sleepers, for which it is `Full`.
@@ -75,7 +75,7 @@ pub fn announce_sleep(lock: &Lock, ticket: &mut Ticket) -> Answer
     }
 }
 
-/// Takes back the count of a sleeper.
+/// Stops counting the waiter as a sleeper.
 #[inline(always)]
 pub fn retract_sleep(lock: &Lock, ticket: &mut Ticket) -> Answer
     requires { IsKnown lock.now ticket.old }

@@ -1,4 +1,4 @@
--- Proof that the parts of a node's box own what the box owns.
+-- Proof that the pointer and the allocator of a node's box together own what the box owns.
 use mir.Syntax.{impl, tnil, dnil}
 use mathlib.Core.List.{[]}
 use denote.Signature.{Slot, plain}

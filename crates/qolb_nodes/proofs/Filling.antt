@@ -1,4 +1,4 @@
--- Lemmas about lists of handles and boxes of nodes while they are being filled.
+-- Lemmas for opening a line: how the lists of handles and of boxed nodes change while they are filled one by one.
 use Rattle.std.proofs.Common.{◌≡◌, All, ℕ, zero, suc, ◌<◌, List, [], ◌∷◌, ◌++◌, map, length, set, drop, get_or, Option, Some, None, Box, Global, slice_get, refl, sym, ap, ◌∙◌, subst, arith, append_assoc, length-append}
 use Rattle.qolb_nodes.specs.declared.any_node.AnyNode.{AnyNode}
 use Rattle.qolb_nodes.specs.declared.handle.Handle.{Handle}

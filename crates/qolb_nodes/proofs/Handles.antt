@@ -1,4 +1,5 @@
--- The machine value of a handle, and the two cases of what a handle owns. The proofs assume `Logic`.
+-- The value of a handle in memory, and what a handle owns: nothing if the handle is null, and otherwise a boxed node.
+-- The proofs assume `Logic`.
 use Rattle.std.proofs.Common.{◌≡◌, ℕ, List, [], ◌∷◌, ◌++◌, refl, ap, ◌∙◌}
 use seplogic.Ra.Ura.{Ura}
 use mir.Raw.{raw as bare}

@@ -1,4 +1,4 @@
--- Proof that one poll is the same as a wait that makes a single poll.
+-- Proof that a poll has the same effect as a wait that polls only once.
 use Rattle.std.proofs.Common.{arith}
 use Rattle.qolb_nodes.specs.declared.answer.Answer.{Answer}
 use Rattle.qolb_nodes.specs.declared.any_node.AnyNode.{AnyNode}

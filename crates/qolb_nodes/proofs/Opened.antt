@@ -1,4 +1,4 @@
--- Lemmas about an opened line, and about the handles that contain its nodes.
+-- Lemmas about a line that was just opened, and about the handles that received its nodes.
 use Rattle.std.proofs.Common.{◌≡◌, ℕ, zero, suc, ◌<◌, List, [], ◌∷◌, ◌++◌, map, length, drop, get_or, Option, Some, None, slice_get, refl, sym, ap, ◌∙◌, subst, arith}
 use Rattle.std.specs.Prelude.{Result, Ok, Err, IfOk}
 use Rattle.qolb_model.specs.declared.config.LineConfig.{LineConfig}

@@ -1,4 +1,4 @@
--- Lemmas about how an exported function reports to C code what the call on its node did.
+-- Lemmas about exported functions: what each of them reports to C code about the call that it made on a node.
 use Rattle.std.proofs.Common.{◌≡◌, ℕ, refl, sym, ap, ◌∙◌, subst}
 use Rattle.std.specs.Prelude.{Option, Some, None}
 use Rattle.qolb_nodes.specs.declared.answer.Answer.{Answer}

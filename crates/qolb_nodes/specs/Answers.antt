@@ -1,5 +1,5 @@
--- How the answers of calls on a node follow from the answers of its line. The definitions in this file were made for
--- this project; none is taken from the literature.
+-- How the answer of a call on a node follows from the answer of the same call on its line. The definitions in this file
+-- were made for this project; none is taken from the literature.
 use Rattle.std.specs.Prelude.{Bool, true, false}
 use Rattle.qolb_model.specs.declared.answer.Enq.{Enq}
 use Rattle.qolb_model.specs.declared.answer.Enq.TheVariants as enq

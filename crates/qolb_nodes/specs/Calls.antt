@@ -1,5 +1,5 @@
--- What each call on a node of any kind guarantees. `was` and `now` are the node before and after the call. The
--- definitions in this file were made for this project; none is taken from the literature.
+-- What each call on a node guarantees, whatever the kind of its line. `was` and `now` are the node before and after the
+-- call. The definitions in this file were made for this project; none is taken from the literature.
 use Rattle.std.specs.Prelude.{◌≡◌, ◌≢◌, ℕ, ◌+◌, ◌<◌, ◌≤◌, List, Bool, true}
 use Rattle.line_lanes.specs.Lane.{lane_of}
 use Rattle.qolb_model.specs.declared.answer.Enq.TheVariants as enq

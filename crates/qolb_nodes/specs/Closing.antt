@@ -1,5 +1,5 @@
--- What closing a node guarantees. The definitions in this file were made for this project; none is taken from the
--- literature.
+-- What the call that frees a node guarantees. The definitions in this file were made for this project; none is taken
+-- from the literature.
 use Rattle.std.specs.Prelude.{◌≡◌, true, false, Option, Some, None}
 use Rattle.qolb_model.specs.PortStates.{may_ask}
 use Rattle.qolb_nodes.specs.declared.answer.Answer.{Answer}

@@ -1,5 +1,5 @@
--- What each exported function guarantees about its handle: how it changes the node, if there is one. The definitions in
--- this file were made for this project; none is taken from the literature.
+-- What each exported function guarantees about the handle that it receives: how the node of the handle changes, if the
+-- handle has one. The definitions in this file were made for this project; none is taken from the literature.
 use Rattle.std.specs.Prelude.{◌≡◌, ℕ, true, false, Option, Some, None}
 use Rattle.qolb_model.specs.PortStates.{may_ask}
 use Rattle.qolb_nodes.specs.declared.answer.Answer.{Answer}

@@ -1,5 +1,5 @@
--- The memory that a handle owns: no memory if the handle is null, and otherwise the memory of a box that contains its
--- node. The definitions in this file were made for this project; none is taken from the literature.
+-- The memory that a handle owns: none if the handle is null, and otherwise that of a box with a node in it. The
+-- definitions in this file were made for this project; none is taken from the literature.
 use base.Fml.{Fml, ftrue, ffalse}
 use base.Stored.{Coded}
 use denote.RawPtr.{Ptr, block_ptr, null_ptr}

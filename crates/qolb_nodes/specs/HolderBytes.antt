@@ -1,5 +1,5 @@
--- What a holder can read from its line. The definitions in this file were made for this project; none is taken from the
--- literature.
+-- What a node can read from its line while it holds the line. The definitions in this file were made for this project;
+-- none is taken from the literature.
 use Rattle.std.specs.Prelude.{◌≡◌, ℕ, ◌<◌}
 use Rattle.line_lanes.specs.declared.line.Line64.{Line64}
 use Rattle.line_lanes.specs.Lane.{lane_of}

@@ -1,5 +1,5 @@
--- The amount of memory that a line takes, as it is reported to C code. The definitions in this file were made for this
--- project; none is taken from the literature.
+-- The amount of memory that is reported to C code for a line. The definitions in this file were made for this project;
+-- none is taken from the literature.
 use Rattle.std.specs.Prelude.{◌≡◌, ℕ, Some}
 use Rattle.qolb_model.specs.Opening.{AreNodes}
 use Rattle.line_kinds.specs.Locks.{bytes_of}

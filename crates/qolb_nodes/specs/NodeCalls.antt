@@ -1,6 +1,6 @@
--- What each call on a node guarantees about the node's port, for a node of one given kind of line. `was` and `now` are
--- the node before and after the call. The definitions in this file were made for this project; none is taken from the
--- literature.
+-- What each call on a node guarantees about the node's port, if the kind of the node's line is known. `was` and `now`
+-- are the node before and after the call. The definitions in this file were made for this project; none is taken from
+-- the literature.
 use Rattle.std.specs.Prelude.{◌≡◌, ℕ, ◌+◌, ◌<◌, List, Bool, true}
 use Rattle.line_lanes.specs.declared.line.Line64.{Line64}
 use Rattle.qolb_model.specs.declared.answer.Enq.{Enq}

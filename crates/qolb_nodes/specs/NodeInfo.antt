@@ -1,6 +1,6 @@
--- The properties of a node of any kind of line that the definitions use. Only this file lists the kinds and
--- distinguishes between them. The definitions in this file were made for this project; none is taken from the
--- literature.
+-- The properties of a node that the other definitions use, whatever the kind of its line. Only this file lists the
+-- kinds of lines and distinguishes between them. The definitions in this file were made for this project; none is taken
+-- from the literature.
 use Rattle.std.specs.Prelude.{ℕ, List, [], ◌∷◌}
 use Rattle.qolb_model.specs.declared.view.View.{View}
 use Rattle.line_generic.specs.declared.discipline.Discipline as discipline

@@ -1,5 +1,5 @@
--- A node as its callers see it, whatever its kind of line. The definitions in this file were made for this project;
--- none is taken from the literature.
+-- What callers can see of a node: its line, and its port on that line. The kind of the line makes no difference. The
+-- definitions in this file were made for this project; none is taken from the literature.
 use Rattle.std.specs.Prelude.{◌≡◌, ℕ, ◌+◌, ◌*◌, ◌%◌, ◌^◌, ◌<◌, ◌≤◌, List, Option, Some, None}
 use Rattle.line_lanes.specs.Lane.{lane_of, with_lane_of}
 use Rattle.line_lanes.specs.Mask.{placed_mask}

@@ -1,5 +1,5 @@
--- The numbers by which C code receives answers. The definitions in this file were made for this project; none is taken
--- from the literature.
+-- The numbers that represent answers and states in C code. The definitions in this file were made for this project;
+-- none is taken from the literature.
 use Rattle.std.specs.Prelude.{ℕ}
 use Rattle.qolb_model.specs.declared.answer.PortState.{PortState}
 use Rattle.qolb_model.specs.declared.answer.PortState.TheVariants as state

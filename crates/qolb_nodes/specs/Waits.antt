@@ -1,4 +1,4 @@
--- The words on which the nodes of a line wait, as numbers for C code. The definitions in this file were made for this
+-- The numbers that tell C code on which words of a line its nodes wait. The definitions in this file were made for this
 -- project; none is taken from the literature.
 use Rattle.std.specs.Prelude.{ℕ, Option}
 use Rattle.qolb_model.specs.declared.view.View.{View}

@@ -1,4 +1,4 @@
-//! The answers of the calls on nodes, as C code receives them.
+//! The answers that calls on nodes return to C code.
 ghost use Rattle.std.specs.Prelude.{◌≡◌};
 ghost use Rattle.qolb_nodes.specs.Answers.{enq_told, prep_told, poll_told, out_told, clear_told};
 

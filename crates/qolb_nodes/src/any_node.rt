@@ -1,4 +1,4 @@
-//! A node of a line of any kind.
+//! The type of a node whose line may be of any kind: a ring, a link line or a ticket line.
 ghost use Rattle.std.specs.Prelude.{◌≡◌, ◌<◌, Some, MatchOption, map, IfOk, IfErr};
 ghost use Rattle.qolb_model.specs.Opening.{MayNotOpen};
 ghost use Rattle.qolb_nodes.specs.Calls.{view_of, state_of, Enqolbs, Polls, Waits, Prepends, LinksUp, Withdraws, LooksIfClear, Reads, ReadsLane, Writes, WritesLane, WritesLaneAt, AddsLane, Releases, TellsTurns, TellsWord};
@@ -51,7 +51,7 @@ macro_rules! of_any {
 }
 
 impl AnyNode {
-    /// Returns what the node is, and where it waits.
+    /// Returns the data about the node that C code reads.
     #[inline(always)]
     pub fn shown(&self) -> Shown
         ensures number { result.number ≡ (view_of self.now).node }
@@ -75,7 +75,7 @@ impl AnyNode {
         }
     }
 
-    /// Polls whether the request is at its turn.
+    /// Polls whether the turn of the request has come.
     pub fn poll(&mut self) -> Answer
         ensures { Polls self.old self.new result }
     {
@@ -100,7 +100,7 @@ impl AnyNode {
         }
     }
 
-    /// Links the request to its predecessor's. Only a node of a link line allows this call.
+    /// Links the request to the request before it. Only a node of a link line allows this call.
     pub fn link(&mut self) -> Answer
         ensures { LinksUp self.old self.new result }
     {
@@ -110,7 +110,7 @@ impl AnyNode {
         }
     }
 
-    /// Withdraws the request, unless it is at its turn.
+    /// Withdraws the request, unless its turn has come.
     pub fn withdraw(&mut self) -> Answer
         ensures { Withdraws self.old self.new result }
     {
@@ -189,7 +189,7 @@ impl AnyNode {
         of_any!(self, node => node.write_lane(k, value))
     }
 
-    /// Adds `by` modulo 2^64 to lane `k`, for the holder. `was` receives what the lane had before.
+    /// Adds `by` modulo 2^64 to lane `k`, for the holder. `was` receives the previous value of the lane.
     pub fn add_lane(&mut self, k: u64, by: u64, was: &mut u64) -> Answer
         ensures { AddsLane k by was.old was.new self.old self.new result }
     {
@@ -203,7 +203,7 @@ impl AnyNode {
         }
     }
 
-    /// Writes the bytes of the mask, for the holder.
+    /// Writes those bytes of the line that the mask selects, for the holder.
     #[inline(always)]
     pub fn write(&mut self, mask: Mask, bytes: &Line64) -> Answer
         ensures { Writes mask.0 bytes.now.bytes self.old self.new result }
@@ -292,7 +292,7 @@ impl IntoAny for Node<Ticket> {
 ///
 /// # Errors
 ///
-/// The call fails for the reasons of `OpenLine::open_with`.
+/// The call fails for the same reasons as `OpenLine::open_with`.
 pub(crate) fn nodes_of_kind(
     alloc: Global,
     lines: Lock,

@@ -1,4 +1,4 @@
-//! The handle by which C code refers to a node: a pointer, which is null if there is no node.
+//! The handle with which C code refers to a node. A handle is a pointer, which is null if the handle has no node.
 ghost use Rattle.std.specs.Prelude.{◌≡◌, true, false};
 ghost use Rattle.std.specs.Option.{MatchOption};
 ghost use Rattle.std.specs.declared.option.Option.{Option};
@@ -18,7 +18,7 @@ use std::marker::Model;
 use std::mem;
 use std::ptr::null_mut;
 
-/// A node that C holds, or none. C sees one pointer, and a handle of zeros is empty.
+/// A handle with which C code refers to a node, or to no node. C code sees one pointer, and a handle of zeros is empty.
 #[repr(C)]
 #[derive(Drop)]
 pub struct Handle {

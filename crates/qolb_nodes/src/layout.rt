@@ -1,5 +1,5 @@
-//! The facts about nodes and their lines that C code needs in addition to the calls: limits, distances of words, and
-//! bits.
+//! Constants of lines and their nodes that C code needs in addition to the calls: the maximum number of nodes, the
+//! distance between the words on which nodes wait, and the meaning of bits in a word.
 //!
 //! `tools/snapshot` writes these numbers, with their comments, to `c/proved/qolb_layout.h`. The sizes of the blocks
 //! that a call allocates are not in this file, because `tools/snapshot` measures them.

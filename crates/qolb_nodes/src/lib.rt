@@ -1,10 +1,10 @@
-//! Exports the nodes of lines of any kind to C, as a static library. `c/src/proved.h` declares these functions, and the
-//! files of `c/src` call them.
+//! A static library with which C code makes calls on nodes, whatever the kind of their line. `c/src/proved.h` declares
+//! the exported functions, and the files of `c/src` call them.
 //!
-//! C code has a handle for each node, which is a struct with one pointer that is null if there is no node. Each export
-//! calls the node of its handle. Each call on a node first checks the node's state. If that state does not allow the
-//! call, the answer is `Misuse` and nothing changes. Only `qolb_open_proved_` and `qolb_memory_proved_` take the kind of a
-//! line as an argument.
+//! C code refers to each node by a handle. A handle is a struct with one pointer, which is null if the handle has no
+//! node. An exported function receives a handle, and makes its call on the node of this handle. Each call on a node
+//! first checks the node's state. If this state does not allow the call, the call changes nothing and answers `Misuse`.
+//! Only `qolb_open_proved_` and `qolb_memory_proved_` take the kind of a line as an argument.
 #![tactic(auto)]
 
 ghost use Rattle.std.specs.Prelude.{◌≡◌, true, false, None};
@@ -39,13 +39,13 @@ pub struct Bytes {
     pub bytes: [u8; 64],
 }
 
-/// What a node is, and where it waits, as C reads it.
+/// The data about a node that C code reads: its number, its state, and the words on which it and its successors wait.
 #[repr(C)]
 #[derive(Drop)]
 pub struct Look {
     /// The node's number, which counts from 1.
     pub number: u64,
-    /// The label of its line.
+    /// The label of the node's line.
     pub label: u64,
     /// The number of turns left, including the holder's own. The number is 2^64 - 1 without a lease, and 0 if the node
     /// does not hold the line.
@@ -65,14 +65,14 @@ pub struct Look {
 /// A number that is not a word of any line, so no node waits there.
 const NO_WORD: u64 = u64::MAX;
 
-/// Returns C's number of an answer.
+/// Returns the number that represents an answer in C code.
 fn number(answer: Answer) -> u32
     ensures { result ≡ number_of answer }
 {
     answer as u32
 }
 
-/// Returns C's number of a node's state. A handle without a node has the number 0.
+/// Returns the number that represents a node's state in C code. For a handle without a node, this number is 0.
 fn state_number(state: PortState) -> u32
     ensures { result ≡ state_number state }
 {
@@ -87,7 +87,8 @@ fn state_number(state: PortState) -> u32
     }
 }
 
-/// Calls the handle's node, and returns the answer's number, which is that of `Misuse` for an empty handle.
+/// Makes a call on the node of the handle, and returns the number of the answer. For an empty handle, the answer is
+/// `Misuse`.
 macro_rules! told {
     ($handle:ident, $node:ident => $call:expr) => {
         match $handle.get_mut() {
@@ -97,7 +98,7 @@ macro_rules! told {
     };
 }
 
-/// Opens a line, and puts its nodes into the first of the handles.
+/// Opens a line, and puts its nodes into the first handles of the given array.
 ///
 /// The line's first holder finds the bytes of `opening`. `kind` is 0 for a ring, 1 for a link line, and 2 for a ticket
 /// line. The line closes at the last turn of its lease; a lease of 2^64 - 1 means that it has none.
@@ -124,7 +125,7 @@ pub extern "C" fn qolb_open_proved_(
     number(open(alloc, kind, label, config, out))
 }
 
-/// Returns the number of bytes of the table of such a line. Does not allocate.
+/// Returns the number of bytes that the table of such a line takes. Does not allocate.
 ///
 /// Returns 0 if `qolb_open_proved_` would refuse this kind or number of nodes.
 #[unsafe(no_mangle)]
@@ -142,7 +143,7 @@ pub extern "C" fn qolb_enqolb_proved_(node: &mut Handle) -> u32
     told!(node, called => called.enqolb())
 }
 
-/// Polls whether the request is at its turn. Does not block.
+/// Polls whether the turn of the request has come. Does not block.
 #[unsafe(no_mangle)]
 pub extern "C" fn qolb_poll_proved_(node: &mut Handle) -> u32
     ensures { Calls Polls node.old.held node.new.held result }
@@ -150,7 +151,7 @@ pub extern "C" fn qolb_poll_proved_(node: &mut Handle) -> u32
     told!(node, called => called.poll())
 }
 
-/// Polls at most `polls` times whether the request is at its turn, with a pause between two polls.
+/// Polls at most `polls` times whether the turn of the request has come, with a pause between two polls.
 #[unsafe(no_mangle)]
 pub extern "C" fn qolb_wait_proved_(node: &mut Handle, polls: u64) -> u32
     ensures { Calls (Waits polls) node.old.held node.new.held result }
@@ -158,7 +159,7 @@ pub extern "C" fn qolb_wait_proved_(node: &mut Handle, polls: u64) -> u32
     told!(node, called => called.wait(polls))
 }
 
-/// Makes a request that must then be linked to its predecessor's. Only a node of a link line allows this call.
+/// Makes a request that must then be linked to the request before it. Only a node of a link line allows this call.
 #[unsafe(no_mangle)]
 pub extern "C" fn qolb_prepend_proved_(node: &mut Handle) -> u32
     ensures { Calls Prepends node.old.held node.new.held result }
@@ -166,7 +167,7 @@ pub extern "C" fn qolb_prepend_proved_(node: &mut Handle) -> u32
     told!(node, called => called.prepend())
 }
 
-/// Links the request to its predecessor's. Only a node of a link line allows this call.
+/// Links the request to the request before it. Only a node of a link line allows this call.
 #[unsafe(no_mangle)]
 pub extern "C" fn qolb_link_proved_(node: &mut Handle) -> u32
     ensures { Calls LinksUp node.old.held node.new.held result }
@@ -174,7 +175,7 @@ pub extern "C" fn qolb_link_proved_(node: &mut Handle) -> u32
     told!(node, called => called.link())
 }
 
-/// Withdraws the request, unless it is at its turn.
+/// Withdraws the request, unless its turn has come.
 #[unsafe(no_mangle)]
 pub extern "C" fn qolb_withdraw_proved_(node: &mut Handle) -> u32
     ensures { Calls Withdraws node.old.held node.new.held result }
@@ -182,7 +183,7 @@ pub extern "C" fn qolb_withdraw_proved_(node: &mut Handle) -> u32
     told!(node, called => called.withdraw())
 }
 
-/// Polls whether the node may make a request that would not be answered busy. Makes no request.
+/// Checks whether the node could now request the line without getting the answer `Busy`. Makes no request.
 #[unsafe(no_mangle)]
 pub extern "C" fn qolb_clear_proved_(node: &mut Handle) -> u32
     ensures { Calls LooksIfClear node.old.held node.new.held result }
@@ -199,7 +200,7 @@ pub extern "C" fn qolb_read_proved_(node: &mut Handle, out: &mut Bytes) -> u32
     told!(node, called => called.read(&mut out.bytes))
 }
 
-/// Writes the bytes of the mask, for the holder: byte k if bit k is set.
+/// Writes those bytes of the line that the mask selects, for the holder. Bit k of the mask selects byte k.
 #[unsafe(no_mangle)]
 pub extern "C" fn qolb_write_proved_(node: &mut Handle, mask: u64, bytes: &Bytes) -> u32
     ensures { Calls (Writes mask bytes.now.bytes) node.old.held node.new.held result }
@@ -225,7 +226,7 @@ pub extern "C" fn qolb_write_lane_proved_(node: &mut Handle, lane: u64, value: u
     told!(node, called => called.write_lane(lane, value))
 }
 
-/// Adds `by` modulo 2^64 to one of the eight lanes, for the holder. `was` receives what the lane had before.
+/// Adds `by` modulo 2^64 to one of the eight lanes, for the holder. `was` receives the previous value of the lane.
 #[unsafe(no_mangle)]
 pub extern "C" fn qolb_add_lane_proved_(node: &mut Handle, lane: u64, by: u64, was: &mut u64) -> u32
     ensures calls { Calls (AddsLane lane by was.old was.new) node.old.held node.new.held result }
@@ -250,7 +251,8 @@ pub extern "C" fn qolb_shut_proved_(node: &mut Handle) -> u32
     told!(node, called => called.release(true))
 }
 
-/// Tells C what the node is, on which word it waits, and which waiters C should wake after a release.
+/// Tells C code the number and the state of the node, the word on which it waits, and which waiters C code should wake
+/// after a release.
 ///
 /// If there is no node, the number, the label, the turns left and the state are 0, and the words are 2^64 - 1.
 #[unsafe(no_mangle)]

@@ -1,4 +1,4 @@
-//! A node of a shared line of one kind.
+//! The type of a node for one kind of line. `any_node.rt` combines these types for all kinds into one.
 ghost use Rattle.std.specs.Prelude.{◌≡◌, ◌<◌, ◌≤◌, Some, MatchOption};
 ghost use Rattle.std.specs.Arc.{arc_value};
 ghost use Rattle.qolb_model.specs.Calls.{Polls};
@@ -19,32 +19,32 @@ use std::sync::Arc;
 // The wake policy of these lines wakes no thread at a release, because a static library has no system call that waits
 // or wakes. In C, waiters sleep at places of their own, and these calls return the words on which they wait.
 
-/// A line with the discipline `Q`.
+/// A line with the queue algorithm `Q`, whose waiters sleep in C code.
 pub type LineFor<Q> = Line<Free, Q, SleepersElsewhere>;
 
-/// The number by which C says that a line has no lease.
+/// The number with which C code says that a line has no lease.
 pub const NO_LEASE: u64 = u64::MAX;
 
-/// What a node is, and where it waits.
+/// The data about a node that C code reads: its number, its state, and the words on which it and its successors wait.
 #[derive(Clone, Copy)]
 pub struct Shown {
     /// The node's number.
     pub number: u64,
-    /// The label of its line.
+    /// The label of the node's line.
     pub label: u64,
     /// The state after the node's last call.
     pub state: PortState,
-    /// C's number of the turns left, or 0 if the node does not hold the line.
+    /// The number of turns left, as C code receives it, or 0 if the node does not hold the line.
     pub turns_left: u64,
-    /// The word on which the node waits, if it does.
+    /// The word on which the node waits, if it waits.
     pub wait_word: u64,
-    /// The word of the next holder, as the node noted it at its last release.
+    /// The word of the next holder, which the node recorded at its last release.
     pub went_to: u64,
-    /// The word of the waiter behind the next holder, as the node noted it.
+    /// The word of the waiter behind the next holder, which the node recorded.
     pub went_ahead: u64,
 }
 
-/// A node: a share of a line, and a port of that line.
+/// A node, which consists of a shared reference to a line and of a port of this line.
 #[derive(Drop)]
 pub struct Node<L: LineSync<Free>> {
     line: Arc<L, Global>,
@@ -95,8 +95,8 @@ impl<Q: Discipline<Free>> Node<LineFor<Q>> {
         LineFor::<Q>::state(&self.port)
     }
 
-    /// Returns `Done` if the node's last request is clear, so that its next one is not answered `Busy`. Otherwise
-    /// returns `Busy`.
+    /// Returns `Done` if the node's last request is clear, and otherwise `Busy`. If the last request is clear, the next
+    /// request is not answered `Busy`.
     ///
     /// Returns `Misuse` if the node waits or holds the line.
     pub fn is_clear(&mut self) -> Answer
@@ -121,8 +121,8 @@ impl<Q: Discipline<Free>> Node<LineFor<Q>> {
         }
     }
 
-    /// Returns C's number of the turns left, including the holder's own, which is at least 1. Returns 0 if the node
-    /// does not hold the line.
+    /// Returns the number of turns left, as C code receives it. The number includes the holder's own turn, so it is at
+    /// least 1. Returns 0 if the node does not hold the line.
     fn turns_left(&self) -> u64
         ensures turns { Holds self.now → result ≡ turns_of self.now }
         ensures not_zero { Holds self.now → 1 ≤ result }
@@ -137,7 +137,7 @@ impl<Q: Discipline<Free>> Node<LineFor<Q>> {
         }
     }
 
-    /// Writes the bytes of the mask, for the holder.
+    /// Writes those bytes of the line that the mask selects, for the holder.
     ///
     /// Returns `Misuse` if the node does not hold the line.
     #[inline(always)]
@@ -154,7 +154,7 @@ impl<Q: Discipline<Free>> Node<LineFor<Q>> {
         Answer::Done
     }
 
-    /// Returns what the node is, and where it waits.
+    /// Returns the data about the node that C code reads.
     #[inline(always)]
     pub fn shown(&self) -> Shown
         ensures number { result.number ≡ self.now.port.view.node }
@@ -193,7 +193,7 @@ impl<Q: Discipline<Free>> Node<LineFor<Q>> {
         }
     }
 
-    /// Polls at most `polls` times whether the request is at its turn, with a pause between two polls.
+    /// Polls at most `polls` times whether the turn of the request has come, with a pause between two polls.
     ///
     /// Returns `Misuse` if the node does not wait, or if `polls` is 0.
     #[inline(always)]
@@ -208,7 +208,7 @@ impl<Q: Discipline<Free>> Node<LineFor<Q>> {
         Answer::of_poll(poll_on(&*self.line, &mut self.port, polls))
     }
 
-    /// Withdraws the request, unless it is at its turn.
+    /// Withdraws the request, unless its turn has come.
     ///
     /// Returns `Misuse` if the node does not wait.
     pub fn withdraw(&mut self) -> Answer
@@ -265,21 +265,21 @@ impl<Q: Discipline<Free>> Node<LineFor<Q>> {
         self.line.wait_word(&self.port) as u64
     }
 
-    /// Returns the word of the next holder, as the node noted it at its last release.
+    /// Returns the word of the next holder, which the node recorded at its last release.
     fn went_to(&self) -> u64
         ensures { self.now.port.went_to ≡ Some result }
     {
         self.line.went_to(&self.port) as u64
     }
 
-    /// Returns the word of the waiter behind the next holder, as the node noted it.
+    /// Returns the word of the waiter behind the next holder, which the node recorded.
     fn went_ahead(&self) -> u64 {
         self.line.went_ahead(&self.port) as u64
     }
 }
 
 impl Node<Link> {
-    /// Makes a request that must then be linked to its predecessor's.
+    /// Makes a request that must then be linked to the request before it.
     ///
     /// Returns `Misuse` if the node waits or holds the line.
     pub fn prepend(&mut self) -> Answer
@@ -293,7 +293,7 @@ impl Node<Link> {
         Answer::of_prep(self.line.prepend(&mut self.port))
     }
 
-    /// Links the request to its predecessor's.
+    /// Links the request to the request before it.
     ///
     /// Returns `Misuse` if the node has no request to link.
     pub fn link(&mut self) -> Answer

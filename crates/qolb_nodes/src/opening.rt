@@ -1,4 +1,4 @@
-//! Opens a line for C code.
+//! Opens a line for C code, and puts the nodes of the line into handles.
 ghost use Rattle.std.specs.Prelude.{◌≡◌, ◌≢◌, ◌≤◌, ◌++◌, ℕ, true, false, length, map, drop, Some, None, IsTrue, IfOk, IfErr};
 ghost use Rattle.qolb_model.specs.Opening.{MayOpen, MayNotOpen};
 ghost use Rattle.qolb_nodes.specs.Opens.{AreOfLine, held_by, AreEmpty, HasNode, AreOpened, WhyRefused, refused_by};
@@ -13,7 +13,7 @@ use qolb_model::{Free, LineConfig, MAX_NODES, OpenError, OpenLine};
 use std::alloc::Global;
 use std::sync::Arc;
 
-/// Opens a line of this kind, and puts its nodes into the first of the handles.
+/// Opens a line of this kind, and puts its nodes into the first handles of `out`.
 pub fn open(alloc: Global, kind: u32, label: u64, config: LineConfig, out: &mut [Handle]) -> Answer
     ensures opened { result ≡ Answer.Done → AreOpened kind label config out.old out.new }
     ensures unchanged { result ≢ Answer.Done → held_by out.new ≡ held_by out.old }
@@ -40,7 +40,8 @@ pub fn open(alloc: Global, kind: u32, label: u64, config: LineConfig, out: &mut 
     }
 }
 
-/// Returns the number of bytes of the table of such a line, or 0 if the line would not be opened.
+/// Returns the number of bytes that the table of such a line takes, or 0 if `open` would refuse this kind or number of
+/// nodes.
 pub fn memory(kind: u32, nodes: u64) -> u64
     ensures { TellsMemory kind nodes result }
 {
@@ -83,7 +84,7 @@ fn are_empty(handles: &mut [Handle], many: usize) -> bool
 ///
 /// # Errors
 ///
-/// The call fails for the reasons of `OpenLine::open_with`.
+/// The call fails for the same reasons as `OpenLine::open_with`.
 pub(crate) fn new_nodes<L: OpenLine<Free> + Drop>(
     alloc: Global,
     label: u64,
@@ -117,7 +118,7 @@ where
 ///
 /// # Errors
 ///
-/// The call fails with `Memory` if the allocator returns none.
+/// The call fails with `Memory` if the allocator returns no memory.
 pub(crate) fn boxed<N: IntoAny>(
     alloc: Global,
     nodes: Vec<N>,

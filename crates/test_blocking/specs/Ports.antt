@@ -1,5 +1,5 @@
--- The ports of a line in a test. The definitions in this file were made for this project; none is taken from the
--- literature.
+-- The ports that the tests use: each belongs to the line and may make a request. The definitions in this file were made
+-- for this project; none is taken from the literature.
 use Rattle.std.specs.Prelude.{IsTrue}
 use Rattle.qolb_model.specs.declared.view.View.{View}
 use Rattle.qolb_model.specs.PortStates.{may_ask}

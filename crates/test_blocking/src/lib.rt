@@ -1,6 +1,6 @@
-//! Tests of parking, wake-ups, timeouts and fairness, and of the example programs on each kind of line.
+//! Tests of sleeping, wake-ups, timeouts and fairness, and tests of the example programs on each kind of line.
 //!
-//! The modules of this crate are compiled only for its tests, so that they are proved only once.
+//! Each module of this crate is compiled only for the tests, because otherwise it would be proved twice.
 #![tactic(auto)]
 
 #[cfg(test)]

@@ -1,6 +1,6 @@
-//! Runs the examples and the waiting calls on all kinds of lines. The tests are generic over the line. The kinds are
-//! named in only one place, because wherever a kind is named, the prover needs a few seconds to check that it is a
-//! line.
+//! Runs the examples and the waiting calls on all kinds of lines. The tests are generic over the line. Only one place
+//! names the kinds of lines: wherever a kind is named, the prover takes a few seconds to check that this kind
+//! implements the trait of lines.
 ghost use Rattle.std.specs.Prelude.{◌≡◌, IsTrue};
 ghost use Rattle.qolb_model.specs.PortStates.{may_ask};
 

@@ -1,4 +1,4 @@
--- Lemmas about the ports that the tests use.
+-- Lemmas about the lists of ports that the tests use.
 use Rattle.std.proofs.Common.{◌≡◌, ℕ, List, [], ◌∷◌, ◌++◌, Bool, true, false, if◌then◌else◌, suc, ◌<◌, length, arith, sym, subst, get_or, All}
 use Rattle.std.proofs.lemmas.List.Elements.{All-push}
 use Rattle.std.specs.List.{swap_remove}

@@ -1,5 +1,5 @@
--- Ports in tests, some of which may belong to another line. The definitions in this file were made for this project;
--- none is taken from the literature.
+-- Ports in tests. If a port has the label of the line under test, it must belong to this line. The definitions in this
+-- file were made for this project; none is taken from the literature.
 use Rattle.std.specs.Prelude.{◌≡◌, ℕ, List}
 use Rattle.std.specs.List.{All}
 use Rattle.qolb_model.specs.declared.view.View.{View}

@@ -1,4 +1,5 @@
-//! A line with its ports, which a test calls by node number. A call is made only if the port's state allows it.
+//! A line together with its ports. A test names the port for a call by the number of the node. If the state of this
+//! port does not allow the call, the call is not made.
 ghost use Rattle.std.specs.Prelude.{◌≡◌, All, IfErr, IsTrue};
 ghost use Rattle.qolb_model.specs.PortStates.{may_ask};
 
@@ -80,7 +81,7 @@ impl<Q: SplitEnqueue<Free>> SplitCalls for Line<Free, Q> {
     }
 }
 
-/// A line and some ports, each the line's own if it has its label.
+/// A line and some ports. A port that has the label of the line belongs to the line.
 #[derive(Drop)]
 pub struct CheckedLine<L: LineSync<Free> + Drop>
 where
@@ -147,7 +148,7 @@ where
         Some(L::state(port))
     }
 
-    /// Asks for the node. Returns `None` if its port is not there or may not ask.
+    /// Requests the line for the node. Returns `None` if the node's port is not there or may not make a request.
     pub fn ask(&mut self, node: u64) -> Option<Enq> {
         let mut port = self.take(node)?;
         let answer = if self.owns(&port) && L::state(&port).may_ask() {
@@ -159,7 +160,7 @@ where
         answer
     }
 
-    /// Polls for the node. Returns `None` if its port is not there or not queued.
+    /// Polls for the node. Returns `None` if the node's port is not there or is not queued.
     pub fn poll(&mut self, node: u64) -> Option<Poll> {
         let mut port = self.take(node)?;
         let answer = if self.owns(&port) && L::state(&port) == PortState::Queued {
@@ -171,7 +172,7 @@ where
         answer
     }
 
-    /// Withdraws for the node. Returns `None` if its port is not there or not queued.
+    /// Withdraws the request of the node. Returns `None` if the node's port is not there or is not queued.
     pub fn withdraw(&mut self, node: u64) -> Option<Out> {
         let mut port = self.take(node)?;
         let answer = if self.owns(&port) && L::state(&port) == PortState::Queued {
@@ -333,7 +334,7 @@ impl<L: SplitCalls + Drop> CheckedLine<L>
 where
     L::Port: Drop,
 {
-    /// Makes the first half of a request for the node. Returns `None` if its port may not ask.
+    /// Makes the first half of a request for the node. Returns `None` if the node's port may not make a request.
     pub fn prepend(&mut self, node: u64) -> Option<Prep> {
         let mut port = self.take(node)?;
         let may_ask = L::state(&port).may_ask();

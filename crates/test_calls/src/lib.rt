@@ -1,6 +1,6 @@
-//! Tests of the calls of each kind of line. One thread makes the calls for all nodes.
+//! Tests of the calls on each kind of line. One thread makes the calls for all nodes.
 //!
-//! The modules of this crate are compiled only for its tests, so that they are proved only once.
+//! Each module of this crate is compiled only for the tests, because otherwise it would be proved twice.
 #![tactic(auto)]
 
 #[cfg(test)]

@@ -1,6 +1,6 @@
-//! Tests each call of each kind of line. The expected answers are written once, for any line. A test names a kind by
-//! its queue algorithm. Then the prover proves only once, for all queue algorithms, that such a line implements the
-//! trait of lines; it would prove this again for each line type that a test names.
+//! Tests each call on each kind of line. The expected answers are written once, for any line. A test names the queue
+//! algorithm of a line and not the type of the line. The prover then proves only once, for all queue algorithms, that a
+//! line implements the trait of lines. If tests named types, it would prove this again for each of them.
 
 mod asleep;
 mod did;

@@ -1,6 +1,6 @@
-//! Tests of the fair lock: each answer, timeouts, closing, and threads that share a value.
+//! Tests of the fair lock: each answer of its calls, timeouts, closing the lock, and threads that share a value.
 //!
-//! The modules of this crate are compiled only for its tests, so that they are proved only once.
+//! Each module of this crate is compiled only for the tests, because otherwise it would be proved twice.
 #![tactic(auto)]
 
 #[cfg(test)]

@@ -1,4 +1,4 @@
-//! The list of the tests of the fair lock, with the threads that they start.
+//! The list of the tests of the fair lock, and functions that these tests share.
 mod answers;
 mod order;
 mod threads;

@@ -1,5 +1,5 @@
-//! Counts what threads do in their critical sections. Only the holder writes these counts, so plain loads and stores
-//! lose nothing.
+//! Counts what threads do in their critical sections. Only the holder of the lock writes these counts, so plain loads
+//! and stores are enough.
 use std::sync::atomic::{AtomicU64, Ordering};
 
 /// What was seen in critical sections.

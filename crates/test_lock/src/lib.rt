@@ -1,6 +1,7 @@
-//! Tests of the lock's core: several threads share a lock, and single callers get each possible answer.
+//! Tests of a lock's core. In some tests several threads share a lock; in others, a few callers in one thread get each
+//! possible answer.
 //!
-//! The modules of this crate are compiled only for its tests, so that they are proved only once.
+//! Each module of this crate is compiled only for the tests, because otherwise it would be proved twice.
 #![tactic(auto)]
 
 #[cfg(test)]

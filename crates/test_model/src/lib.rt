@@ -1,6 +1,6 @@
-//! Worked examples of the code that runs without threads: the bytes of a line, the plain line, the core of the link
-//! line, the format of a board, the scripts that readers accept and refuse, and the text of each answer, step and
-//! report. The tests are in a crate of their own, because a crate that contains tests is proved twice.
+//! Tests of the code that runs without threads. They cover the bytes of a line, the plain line, the core of the link
+//! line, the format of a board, the readers of scripts, and the text of each answer, step and report. The tests are in
+//! a crate of their own, because a crate that contains tests is proved twice.
 #![tactic(auto)]
 
 #[cfg(test)]

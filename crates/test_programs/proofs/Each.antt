@@ -1,4 +1,4 @@
--- Lemmas about a property that holds for every item of a list.
+-- Lemmas for proving that a property holds for every item of a list.
 use Rattle.std.proofs.Common.{◌≡◌, List, [], ◌∷◌, ◌++◌, Bool, true, false, if◌then◌else◌, sym, subst, All}
 use Rattle.std.proofs.lemmas.List.Elements.{All-nil, All-cons, All-push}
 

@@ -1,4 +1,4 @@
--- Lemmas about a line that one node hands over to another.
+-- Lemmas about a handoff of the line from one node to another: which bytes the next holder sees.
 use Rattle.std.proofs.Common.{◌≡◌, ℕ, List, [], ◌∷◌, length, ap, sym, ◌∙◌, arith, Some}
 use Rattle.qolb_model.specs.declared.config.LineConfig.{LineConfig}
 use Rattle.qolb_model.specs.declared.answer.PortState.TheVariants.{Holding}

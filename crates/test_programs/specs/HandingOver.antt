@@ -1,5 +1,5 @@
--- A line that one node hands over to another. The definitions in this file were made for this project; none is taken
--- from the literature.
+-- What holds after one node has handed the line to another: which bytes the next holder sees. The definitions in this
+-- file were made for this project; none is taken from the literature.
 use Rattle.std.specs.Prelude.{◌≡◌, ℕ, length, List}
 use Rattle.qolb_model.specs.declared.view.View.{View}
 use Rattle.qolb_model.specs.Views.{Extends, bytes_of}

@@ -1,5 +1,5 @@
--- Ports between calls, for the tests of programs. The definitions in this file were made for this project; none is
--- taken from the literature.
+-- The states of ports that the tests of programs rely on: the port may make a request, or it waits or holds the line.
+-- The definitions in this file were made for this project; none is taken from the literature.
 use Rattle.std.specs.Prelude.{◌≡◌, ◌⊎◌, IsTrue}
 use Rattle.qolb_model.specs.declared.answer.PortState.TheVariants.{Queued, Holding}
 use Rattle.qolb_model.specs.declared.view.View.{View}

@@ -1,4 +1,4 @@
-//! Makes calls on a board, one after another, and checks their answers.
+//! Makes calls on a task board, one after another, and checks the answers.
 ghost use Rattle.std.specs.Prelude.{IsTrue};
 ghost use Rattle.qolb_model.specs.PortStates.{may_ask};
 

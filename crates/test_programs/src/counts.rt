@@ -1,5 +1,5 @@
-//! Nodes that count in the first lane of a line. Each node has its own thread; in one test, a release races with a
-//! withdrawal.
+//! Nodes that count in the first lane of a line, each in its own thread. One of the functions lets a release race with
+//! a withdrawal.
 ghost use Rattle.std.specs.Prelude.{◌≡◌, All, IfSome};
 ghost use Rattle.line_accounts.specs.NewDesks.{IsNewPort};
 ghost use Rattle.test_programs.specs.Ports.{HoldsOrWaits, MayAskFor};

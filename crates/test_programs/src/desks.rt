@@ -1,4 +1,5 @@
-//! Makes calls on desks, one after another, and checks their answers.
+//! Makes calls on desks, one after another, and checks the answers. A desk groups the ports that one node has on
+//! several lines of accounts.
 ghost use Rattle.std.specs.Prelude.{◌≡◌, ◌+◌, ◌∷◌, [], IsTrue, IfOk, IfSome};
 ghost use Rattle.qolb_model.specs.PortStates.{may_ask};
 ghost use Rattle.line_accounts.specs.Desks.{IsDeskOver};

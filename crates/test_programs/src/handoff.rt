@@ -1,4 +1,4 @@
-//! One node of a line hands the line to another node, on any kind of line.
+//! A handoff on a line of any kind: one node releases the line, and another node is granted it.
 ghost use Rattle.std.specs.Prelude.{◌≡◌, IfSome};
 ghost use Rattle.test_programs.specs.HandingOver.{HandsOver};
 

@@ -1,7 +1,8 @@
-//! Boards, desks and programs with threads on any kind of line, and their tests. The tests require of a line only that
-//! they can open it.
+//! Tests of task boards, of accounts, and of programs with threads, on any kind of line. The crate also contains the
+//! functions that make the calls for these tests. The tests assume of a line only that it can be opened.
 //!
-//! Modules that only these tests call are compiled only for the tests, so that they are proved only once.
+//! Modules that only the tests of this crate call are compiled only for the tests, because otherwise they would be
+//! proved twice.
 #![tactic(auto)]
 
 #[cfg(test)]

@@ -1,5 +1,5 @@
-//! A board that threads share. Two producers put numbered tasks on the board, and two consumers take tasks until all
-//! have been taken.
+//! A task board that four threads share. Two producers put numbered tasks on the board, and two consumers take tasks
+//! until all have been taken.
 ghost use Rattle.std.specs.Prelude.{◌*◌, ◌<◌, ◌^◌, All, IfSome, IsTrue};
 ghost use Rattle.qolb_model.specs.PortStates.{may_ask};
 ghost use Rattle.line_accounts.specs.NewDesks.{IsNewPort};

@@ -1,5 +1,5 @@
-//! Desks that several threads use. Each desk pays in, and then makes random transfers between all accounts. The settled
-//! total must be the sum that was paid in.
+//! Desks that transfer money between accounts, with a thread for each desk. Each desk pays in, and then makes random
+//! transfers between all accounts. The total at the end must be the sum that was paid in.
 ghost use Rattle.std.specs.Prelude.{All, IfSome};
 ghost use Rattle.line_accounts.specs.Desks.{IsDeskOver};
 ghost use Rattle.line_accounts.specs.NewDesks.{IsNewPort};

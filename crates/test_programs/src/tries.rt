@@ -1,4 +1,5 @@
-//! Hooks that count how often the nodes of a line are busy when they try to make a request.
+//! Hooks that count the requests which a line refuses with `Busy`, because an earlier request of the node is still in
+//! the queue.
 use qolb_model::{Keep, ParkingLine};
 use std::sync::atomic::{AtomicU64, Ordering};
 use std::thread::yield_now;

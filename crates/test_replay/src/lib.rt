@@ -1,4 +1,5 @@
-//! Worked examples of replays, step scripts and pictures.
+//! Tests of replays, which execute a script, and of the pictures that are drawn from scripts. The events of a script
+//! are either calls or atomic steps.
 #![tactic(auto)]
 
 #[cfg(test)]

@@ -1,4 +1,5 @@
-//! A wrapper for a line that also calls hooks when a call on the line is made.
+//! A wrapper for a line. Whenever a call on the wrapped line is made, the wrapper also calls functions of the test,
+//! which are called hooks.
 ghost use Rattle.std.specs.Prelude.{◌≡◌, ◌≤◌, map, All, IfOk, IfErr};
 ghost use Rattle.qolb_model.specs.Requests.{Lacks};
 ghost use Rattle.qolb_model.specs.Views.{own};
@@ -13,7 +14,7 @@ use std::alloc::Global;
 use std::sync::Wait;
 use std::time::Duration;
 
-/// What a wrapped line calls beside its own calls, for tests and measurements.
+/// The functions that a wrapped line calls in addition to its own calls, for tests and measurements.
 ///
 /// A hook reads the line and the port, and changes neither. By default a hook does nothing, and `sleep` sleeps at the
 /// line.
@@ -61,7 +62,7 @@ pub trait Hooks {
     }
 }
 
-/// A line with hooks: each call is the inner line's, and `hooks` is called beside it.
+/// A line with hooks. Each call on it makes the same call on the inner line, and also calls `hooks`.
 #[derive(Drop)]
 pub struct HookedLine<H, L> {
     hooks: H,

@@ -1,5 +1,5 @@
 //! Helpers for tests. One helper takes away the memory of a process, so that allocations fail. Another helper wraps a
-//! line, and calls hooks when a call on the line is made.
+//! line, and calls functions of the test (hooks) whenever a call on the line is made.
 #![tactic(auto)]
 
 mod hooked_line;

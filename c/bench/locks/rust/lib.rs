@@ -1,5 +1,5 @@
-//! The mutex of Rust's standard library for peers.c, and with the feature `parking_lot` also that crate's mutex. Each thread stores the guard of a locked
-//! mutex in its own slot of the lock.
+//! The mutex of Rust's standard library, for peers.c. With the feature `parking_lot`, this file also has the mutex of the crate parking_lot. While a
+//! thread holds the mutex, the guard is stored in a slot of the lock that belongs to this thread.
 #![allow(non_upper_case_globals)]
 
 use std::ffi::{c_char, c_int, c_void};

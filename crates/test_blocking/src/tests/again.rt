@@ -1,5 +1,5 @@
-//! Tests a port whose withdrawn request is still in the queue: each blocking call tries again until that request has
-//! been skipped, and then makes a new request. The tests run on each kind of line.
+//! Tests the blocking calls with a port whose withdrawn request is still in the queue. Such a call tries again until
+//! the withdrawn request has been skipped, and then makes a new request. The tests run on each kind of line.
 use crate::tests::held::{Scene, SleepLine, all_see, for_nodes, wait_until};
 use example_line::timed::add_within;
 use line_blocking::{Got, TimedAcquire, acquire, acquire_parking};

@@ -1,5 +1,5 @@
-//! Tests that a release also wakes the waiter behind the next holder, one turn early, and no waiter behind that one.
-//! The tests run on all kinds of lines.
+//! Tests which waiters a release wakes: the next holder and, one turn early, the waiter behind the next holder. All
+//! later waiters must stay asleep. The tests run on all kinds of lines.
 ghost use Rattle.std.specs.Prelude.{◌≡◌};
 
 use crate::tests::held::{Scene, SleepLine, all_see, for_nodes, wait_until};

@@ -1,4 +1,4 @@
-//! Tests that waiters sleep and are woken, and that a node which timed out may make another request. The tests run on
+//! Tests that waiters sleep and are woken, and that a node can make another request after a timeout. The tests run on
 //! all kinds of lines.
 ghost use Rattle.std.specs.Prelude.{◌≡◌, IsTrue};
 ghost use Rattle.qolb_model.specs.PortStates.{may_ask};

@@ -1,4 +1,4 @@
-//! A helper for tests: one node holds a line while other nodes wait behind it, each in its own thread.
+//! A helper for tests, in which one node holds a line while other nodes wait. Each node has a thread of its own.
 ghost use Rattle.std.specs.Prelude.{◌≡◌, All, IfSome, IsTrue, None};
 ghost use Rattle.qolb_model.specs.PortStates.{may_ask};
 ghost use Rattle.line_blocking.specs.Places.{AllAt};

@@ -1,5 +1,5 @@
-//! Tests that the mailbox does not change other lanes, that each addition acquires the line once, and that values
-//! arrive in order.
+//! Tests the example programs. The mailbox must not change other lanes, each addition must acquire the line once, and
+//! values must arrive in order.
 use crate::tests::held::{SleepLine, expect, finish_one, open_one};
 use example_line::{counter, mailbox};
 use line_lanes::{Line64, lane, with_lane};

@@ -1,4 +1,4 @@
-//! Tests how long a sleep takes on the system's clock, on all kinds of lines.
+//! Tests how long a waiter sleeps, measured with the system's clock, on all kinds of lines.
 ghost use Rattle.std.specs.Prelude.{◌≡◌};
 
 use crate::tests::held::{Scene, SleepLine, all_see, expect, for_nodes, open_three, wait_until};

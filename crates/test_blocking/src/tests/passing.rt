@@ -1,4 +1,5 @@
-//! Tests that a node which withdraws from a closed line forwards the line to its sleeping successor.
+//! Tests a node that withdraws its request from a closed line while the next node in the queue sleeps: it must pass the
+//! line on to the sleeper.
 ghost use Rattle.std.specs.Prelude.{◌≡◌, IsTrue};
 ghost use Rattle.qolb_model.specs.PortStates.{may_ask};
 

@@ -1,4 +1,5 @@
-//! Tests `run_scoped` with limited memory: if a thread or a list cannot be allocated, all outputs are dropped.
+//! Tests `run_scoped` with limited memory. If there is no memory for a thread or a list, the outputs of all threads
+//! must be dropped.
 use crate::tests::held::{expect, expect_at};
 use line_blocking::scoped::{ScopedTask, run_scoped};
 use std::alloc::Global;

@@ -1,5 +1,5 @@
-//! Tests what waiters do between two polls: how often `wait_by` calls a strategy, and when. A wait makes all its polls
-//! before the waiter sleeps.
+//! Tests what waiters do between two polls: how often `wait_by` calls the waiting strategy, and when. A waiter must
+//! make all its polls before it sleeps.
 use crate::tests::held::{Scene, SleepLine, all_see_hooked, expect, expect_at, wait_until};
 use line_blocking::{Got, WaitStrategy, acquire_parking, wait, wait_by};
 use qolb_model::{Enq, Free, Keep, LineSync, OpenError, Out, ParkingLine};

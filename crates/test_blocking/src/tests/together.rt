@@ -1,4 +1,4 @@
-//! Tests `run_scoped` without a line.
+//! Tests `run_scoped`, which runs a task in several threads, without a line.
 use crate::tests::held::{expect, wait_until};
 use line_blocking::scoped::{ScopedTask, run_scoped};
 use std::alloc::Global;

@@ -1,4 +1,4 @@
-//! Tables of calls, each with its node and its expected outcome.
+//! Tables of calls. Each row names a node, the call that it makes, and the expected outcome.
 
 use crate::checked_line::{CheckedLine, Instrumented, SplitCalls};
 use crate::tests::rows::expect_at;

@@ -1,5 +1,5 @@
-//! Tests lines whose waiters sleep outside the library. Such a line names the word on which each waiter waits, and the
-//! words that a release granted.
+//! Tests lines that leave it to their caller to put waiters to sleep. Such a line names the word on which each waiter
+//! waits, and the words that a release granted.
 ghost use Rattle.std.specs.Prelude.{IfSome, IsTrue};
 ghost use Rattle.qolb_model.specs.PortStates.{may_ask};
 

@@ -1,4 +1,4 @@
-//! Tests the answers of the link line, on which nodes can make a request in two calls. A release must not wait for the
+//! Tests the answers of the link line, where a node can make a request with two calls. A release must not wait for the
 //! second call.
 
 use crate::checked_line::{CheckedLine, SplitCalls};

@@ -1,4 +1,4 @@
-//! Tests the answers of each kind of line, which one thread calls for all nodes.
+//! Tests the answers of the calls on each kind of line. One thread makes the calls for all nodes.
 
 use crate::checked_line::{CheckedLine, Instrumented};
 use crate::tests::did::{CallOutcome, expect};

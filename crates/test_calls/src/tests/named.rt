@@ -1,4 +1,4 @@
-//! Tests lines that are opened by the functions of their kind, and not through the trait `OpenLine`.
+//! Tests lines that a program opens with the functions of one kind of line, and not through the trait `OpenLine`.
 
 use crate::tests::rows::{expect_at, expect_eq};
 use crate::tests::{Part, over_each};

@@ -1,4 +1,4 @@
-//! Tests each answer of a fair lock, with one thread.
+//! Tests each answer that a call on a fair lock can give, with one thread.
 use super::{Answer, add, add_within, enter, enter_within, lock_of, try_add, try_enter};
 use fair_lock::{FairLock, NewError, OpenError};
 use std::rt::Clock;
@@ -84,7 +84,8 @@ fn a_shut_lock_is_closed_to_all(rt: HostRuntime) {
     }
 }
 
-/// Holds the lock while five calls with a timeout request it. Returns how many of them timed out: none if the lock could not be entered.
+/// Holds the lock while five calls with a timeout request it. Returns how many of these calls timed out, which is none
+/// if the lock could not be entered.
 fn hold_while_five_time_out<R: Wait + Clock>(rt: &R, lock: &FairLock<u64>) -> u64 {
     let mut timed_out = 0u64;
     if let Ok(guard) = lock.enter(rt) {

@@ -1,4 +1,4 @@
-//! Tests that threads get the lock in the order of their requests, even if they slept.
+//! Tests that threads get the lock in the order of their requests, even if they sleep while they wait.
 use super::threads::{append, sum, wait_for};
 use super::{Answer, add, add_within, lock_of, try_enter};
 use fair_lock::FairLock;

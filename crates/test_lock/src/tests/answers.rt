@@ -1,5 +1,5 @@
-//! Tests each possible answer of the calls that use the queue and of those that shut the lock, with a few callers in
-//! one thread.
+//! Tests each possible answer of the calls on the queue, and of the calls that shut the lock. One thread makes all
+//! calls, for a few callers.
 ghost use Rattle.std.specs.Prelude.{◌≤◌, IfOk};
 ghost use Rattle.lock_core.specs.Layout.{IsLockTable};
 

@@ -1,4 +1,4 @@
-//! Tests each possible answer of the calls that use the lock word, with a few callers in one thread.
+//! Tests each possible answer of the calls on the lock word. One thread makes all calls, for a few callers.
 ghost use Rattle.std.specs.Prelude.{◌≤◌, IfOk};
 ghost use Rattle.lock_core.specs.Layout.{IsLockTable};
 

@@ -1,4 +1,4 @@
-//! Tests that a lock can be opened, or that an error gives the reason why not.
+//! Tests opening a lock: the call either opens the lock or returns an error with the reason.
 use lock_core::{LockKind, OpenError, open};
 use std::format;
 use std::test::Fail;

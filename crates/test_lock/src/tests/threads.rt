@@ -1,6 +1,7 @@
-//! Tests a lock that several threads share: they request it, try to get it, withdraw, sleep, and are woken. No two
-//! threads may be inside at the same time, and no acquisition may be lost or counted twice. Tickets must have their
-//! turns in order, and the number of barging threads must stay within its bounds.
+//! Tests a lock that several threads share. The threads request the lock, try to get it without waiting, withdraw their
+//! requests, sleep, and are woken. No two threads may be inside at the same time, and no acquisition may be lost or
+//! counted twice. Tickets must have their turns in order, and the number of barging threads must stay within its
+//! bounds.
 use crate::field::Field;
 use crate::{barging, strict};
 use lock_core::LockKind;

@@ -1,4 +1,4 @@
-//! Tests the format of a board in a line, and lines that are not boards.
+//! Tests how a task board is stored in the 64 bytes of a line, and lines whose bytes are not those of a board.
 use crate::tests::rows::{Bytes, FULL, expect, line_with};
 use line_board::{Tasks, decode, encode};
 use line_lanes::Line64;

@@ -1,4 +1,4 @@
-//! Tests the messages for extreme inputs: numbers just outside their ranges, words that resemble no known word, and
+//! Tests the messages for unusual inputs: numbers just outside their ranges, words that resemble no known word, and
 //! bytes that control a terminal.
 use crate::tests::reasons::refusal_of;
 use crate::tests::rows::expect;

@@ -1,4 +1,5 @@
-//! Tests masks, lanes, and bytes that are placed into a line.
+//! Tests calls on the 64 bytes of a line: masks that select bytes, lanes of eight bytes, and bytes that are placed into
+//! the line.
 use crate::tests::rows::{Bytes, FULL, SEVENS, expect, expect_at, line_with, with_bytes};
 use line_lanes::{
     Line64, Mask, add_lanes, agrees, changed, lane, lane_sum, merge, placed, set_lane, with_lane,

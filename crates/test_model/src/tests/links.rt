@@ -1,4 +1,4 @@
-//! Tests the core of the link line, event by event.
+//! Tests the core of the link line, one event at a time.
 use crate::tests::rows::{expect, expect_at};
 use line_lanes::{Line64, Mask};
 use link_core::{Core, Entry, Event, NotEnabled, Place, Point, Told, replay};

@@ -1,4 +1,4 @@
-//! Tests which allowed words are suggested for a wrong word.
+//! Tests which allowed words an error message suggests in place of a wrong word.
 use crate::tests::rows::expect;
 use qolb_explain::Complaint;
 use qolb_script::{Allowed, Reason};

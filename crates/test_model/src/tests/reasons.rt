@@ -1,4 +1,4 @@
-//! Tests the reasons for refusing a script: the line, and the first fault in that line.
+//! Tests what is reported about a refused script: the number of the refused line of text, and the first fault in it.
 use crate::tests::rows::expect;
 use qolb_explain::complaint_about;
 use qolb_script::{

@@ -1,4 +1,4 @@
-//! Tests the text of the answer to each call and each step.
+//! Tests the text that a script gets as the answer to each call and each step.
 use crate::tests::rows::expect_at;
 use link_core::Told;
 use qolb_model::{Enq, Out, Poll};

@@ -1,4 +1,5 @@
-//! Tests the message for each fault in a script: what would be allowed in its place, and the form of the line.
+//! Tests the message for each fault in a script. The message says what would be allowed in place of the faulty text,
+//! and which form the line of text must have.
 use crate::tests::rows::expect;
 use qolb_explain::Complaint;
 use qolb_script::{Allowed, Form, Reason, ScriptKind};

@@ -1,4 +1,4 @@
-//! Tests readers and writers that remember a fault.
+//! Tests readers and writers that remember whether a read or a write has failed.
 use crate::tests::rows::{expect, expect_at};
 use qolb_script::{Fault, Watched};
 use std::io;

@@ -1,4 +1,4 @@
-//! Tests the answers of the board's calls, on a line of zeros.
+//! Tests the answers of the calls on a task board, which is stored in a line whose bytes are zero at the beginning.
 ghost use Rattle.std.specs.Prelude.{IfSome};
 ghost use Rattle.line_accounts.specs.NewDesks.{IsNewPort};
 

@@ -1,4 +1,4 @@
-//! Tests threads that count together.
+//! Tests threads that count together in a line.
 
 use crate::counts::{race, raise_all};
 use crate::fixtures::{open_zeros, with_two};

@@ -1,4 +1,5 @@
-//! Tests the answers of the desks' calls, and the settled totals, on lines of zeros.
+//! Tests the answers of the calls on desks, and the totals of all accounts at the end. The bytes of the lines are zero
+//! at the beginning.
 ghost use Rattle.std.specs.Prelude.{◌≡◌, All, IfSome};
 ghost use Rattle.line_accounts.specs.Desks.{IsDeskOver};
 ghost use Rattle.line_accounts.specs.NewDesks.{IsNewPort};

@@ -1,4 +1,4 @@
-//! Tests the pictures of schedules.
+//! Tests the pictures that are drawn from schedules, which are scripts of calls.
 use crate::tests::rows::{expect, expect_refusals};
 use crate::tests::styles::{Sheet, are_seen, signs_differ};
 use qolb_draw::{Form, draw_schedule};
@@ -47,8 +47,8 @@ fn draws_scripts(rt: HostRuntime) -> Result<(), Fail> {
     Ok(())
 }
 
-/// A script of 100,000 commands by 200 nodes, on the last of eight lines. The first node holds the line, and each other node waits from its
-/// first command on.
+/// A script of 100,000 commands by 200 nodes, on the last of eight lines. The first node holds the line, and each other
+/// node waits from its first command on.
 fn largest_script(alloc: Global) -> Result<String, Fail> {
     let mut script = String::from_str(alloc, "nodes 200 lines 8\n")?;
     for node in 1..201u64 {

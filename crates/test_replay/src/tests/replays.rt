@@ -1,4 +1,4 @@
-//! Tests replays of schedules on lines of each kind.
+//! Tests replays, which execute a script of calls, on lines of each kind.
 use crate::tests::rows::{expect, expect_at};
 use line_kinds::{ALL, Lock};
 use linked_list_allocator::LocalHeap;
@@ -234,7 +234,8 @@ fn line_of(alloc: Global, place: usize, digits: &str) -> Result<String, Fail> {
     Ok(line)
 }
 
-/// Scripts with a `show`: the reply before it, the place and digits of the bytes that are not zero, and the reply after it.
+/// Scripts with a `show` command. Each entry also has the reply before the `show`, the position and digits of the bytes
+/// that are not zero, and the reply after the `show`.
 static SHOWN: [(&str, &str, usize, &str, &str); 3] = [
     (
         HAND_OVER,

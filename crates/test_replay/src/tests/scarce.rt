@@ -1,4 +1,5 @@
-//! Tests replays with limited memory. Their need for memory shows that a replay opens lines of the requested kind.
+//! Tests replays with limited memory. Lines of different kinds need different amounts of memory, so the tests show that
+//! a replay opens lines of the requested kind.
 use crate::tests::rows::expect_at;
 use line_kinds::{Lock, TicketLine};
 use qolb_model::Free;

@@ -1,4 +1,5 @@
-//! Tests the pictures of step scripts. The expected pictures were drawn by hand, from the effect of each event.
+//! Tests the pictures that are drawn from step scripts, whose events are atomic steps. The expected pictures were drawn
+//! by hand, from the effect of each event.
 use crate::tests::replays::repeated;
 use crate::tests::rows::{expect, expect_refusals};
 use crate::tests::styles::{Sheet, are_seen, signs_differ, steps_are_seen};

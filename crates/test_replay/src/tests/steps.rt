@@ -1,4 +1,4 @@
-//! Tests replays of step scripts.
+//! Tests replays of step scripts, whose events are atomic steps.
 use crate::tests::replays::repeated;
 use crate::tests::rows::{expect, expect_at};
 use linked_list_allocator::LocalHeap;

@@ -142,7 +142,8 @@ static SEEN_IN_STEPS: [(&str, &str, u64); 5] = [
     (".home", "fill", 25),
 ];
 
-/// How words of signs stand and how large they are, that an arrow has its tip, and that what is drawn by lines has some.
+/// How labels of signs are aligned and how large they are, that an arrow has its tip, and that shapes which are drawn
+/// as lines have a line width.
 static RULES: [(&str, &str, &str); 5] = [
     (".small", "text-anchor", "middle"),
     (".small", "font-size", "9px"),

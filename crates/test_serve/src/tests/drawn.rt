@@ -1,4 +1,4 @@
-//! Tests pictures, and runs of step scripts.
+//! Tests the commands that draw pictures and that run step scripts.
 use crate::tests::runs::{expect, told};
 use std::test::Fail;
 

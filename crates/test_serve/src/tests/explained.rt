@@ -1,4 +1,4 @@
-//! Tests refused scripts with `--explain`, which prints what would be allowed.
+//! Tests the option `--explain`, with which the program prints, for a refused script, what would be allowed.
 use crate::tests::runs::{expect, told};
 use std::test::Fail;
 

@@ -1,4 +1,5 @@
-//! Readers and writers that fail at one of their calls, or transfer only a few bytes at a time.
+//! Tests the program with readers and writers that fail at one of their calls, or that transfer only a few bytes at a
+//! time.
 use crate::tests::runs::run;
 use std::io::{self, Read, Write};
 use std::test::Fail;

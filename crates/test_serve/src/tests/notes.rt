@@ -1,4 +1,4 @@
-//! Tests the notes that follow an answer, which explain the answers `misuse` and `refused`.
+//! Tests the notes that the program prints after an answer. A note explains an answer `misuse` or `refused`.
 use crate::tests::runs::{KINDS, expect};
 use std::test::Fail;
 

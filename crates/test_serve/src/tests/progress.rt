@@ -1,4 +1,5 @@
-//! Tests what the program prints in addition to its output: its progress if that is requested, and nothing else.
+//! Tests what the program prints in addition to its output: reports of its progress if they are requested, and nothing
+//! else.
 use crate::tests::hostile::RUNS;
 use crate::tests::runs::told;
 use std::alloc::Global;

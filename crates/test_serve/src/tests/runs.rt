@@ -1,4 +1,5 @@
-//! Tests complete runs of the program: the words and the script, with the expected status and output.
+//! Tests complete runs of the program. Each test gives the words of the command line and a script, and the expected
+//! status and output.
 use crate::tests::long::with_explain;
 use line_kinds::{LOCKS, lock_names};
 use qolb_serve::serve;

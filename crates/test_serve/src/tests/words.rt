@@ -1,4 +1,5 @@
-//! Tests the words of the command line: what they request, which words are refused, and the output of help and version.
+//! Tests the words of the command line: which words select which action, which words are refused, and what help and
+//! version print.
 use crate::tests::runs::{run, told};
 use qolb_serve::refuse_words;
 use std::io;

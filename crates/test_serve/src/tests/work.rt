@@ -1,4 +1,5 @@
-//! Tests boards and banks: their reports, refused scripts, and workers that stall.
+//! Tests work scripts, whose workers share a task board or a bank: the reports, refused scripts, and workers that
+//! stall.
 use crate::tests::runs::expect;
 use qolb_run::TaskError;
 use qolb_serve::fail;

@@ -1,4 +1,4 @@
-//! Tests that each answer and each state has all its variants, in order.
+//! Tests that the type of each answer and each state declares exactly the expected variants, in the expected order.
 use crate::tests::rows::{expect, expect_at};
 use line_accounts::Reply;
 use line_board::Put;

@@ -1,5 +1,5 @@
-//! Tests that workers sleep if they are configured to sleep, and do not sleep otherwise. In these tests a holder keeps
-//! the line until a waiter has waited in the expected way.
+//! Tests that workers sleep while they wait if they are configured to do so, and never sleep otherwise. In these tests
+//! a holder keeps the line until a waiter has waited in the expected way.
 use crate::tests::gates::Closed;
 use crate::tests::rows::expect;
 use line_accounts::AccountLaw;

@@ -1,5 +1,5 @@
-//! Tests a gate with eight workers: each worker must ask the gate before each of its jobs, and a run must name the
-//! first worker that gives up.
+//! Tests a gate, which decides whether a worker may begin its next job, with eight workers. Each worker must ask the
+//! gate before each of its jobs, and a run must name the first worker that gives up.
 use crate::tests::gates::{Begun, Closed};
 use crate::tests::rows::{expect, expect_at};
 use line_kinds::ALL;

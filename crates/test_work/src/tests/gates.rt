@@ -1,4 +1,4 @@
-//! Tests workers at a gate.
+//! Tests gates. A gate decides whether a worker may begin its next job.
 use crate::tests::rows::{expect, expect_at};
 use crate::tests::work::{EITHER, expect_work};
 use line_kinds::{ALL, Lock};

@@ -1,5 +1,5 @@
-//! Tests work with limited memory: work is either refused or done completely, and work that was refused is not begun a
-//! second time.
+//! Tests runs of workers with limited memory. The work must be either refused or done completely, and refused work must
+//! not be begun a second time.
 use crate::tests::eight::{Counts, loaded};
 use crate::tests::rows::{expect, expect_at};
 use line_kinds::{ALL, Lock};

@@ -1,4 +1,4 @@
-//! Tests workers that share lines of each kind, with waiting workers that sleep and that do not.
+//! Tests workers that share lines of each kind, and that wait with or without sleeping.
 ghost use Rattle.std.specs.Prelude.{◌<◌};
 
 use crate::tests::rows::{expect, expect_at};

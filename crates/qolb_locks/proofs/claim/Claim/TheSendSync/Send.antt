@@ -1,4 +1,5 @@
--- A claim may move to another thread, because it owns the same as a `Badge` of the lock's table.
+-- A claim may move to another thread, because it owns exactly what a `Badge` of the lock's table owns, and a `Badge`
+-- may move.
 use denote.Struct.Struct.{exits_of}
 use denote.Struct.Owning.{shape, fields, to}
 use denote.Param.Send.{IsSend, AllSend, owning_send, struct_send, sendable}

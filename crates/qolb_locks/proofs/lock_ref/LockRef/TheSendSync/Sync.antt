@@ -1,4 +1,4 @@
--- Threads may share a reference to a lock, because a `&` to it holds only shares of the lock.
+-- Threads may share a reference to a lock, because a `&LockRef` owns only a share of the lock.
 use denote.Param.Send.{IsSync, part_keyless}
 use Rattle.qolb_locks.specs.contracts.lock_ref.LockRef.{the_row}
 use Rattle.qolb_locks.proofs.lock_ref.LockRef.TheSendSync.Send.{send}

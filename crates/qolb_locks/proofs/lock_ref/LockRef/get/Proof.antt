@@ -1,4 +1,4 @@
--- Proof that `get` copies what the reference holds out of a `&` to the reference.
+-- Proof that `get` returns a reference to the lock to which the `LockRef` refers.
 use Rattle.std.proofs.Common.{◌≡◌, ℕ, List, [], ◌∷◌, refl, sym, ap}
 use mir.Syntax.{named}
 use mir.Val.{Val, vptr}

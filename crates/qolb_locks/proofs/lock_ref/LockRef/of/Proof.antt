@@ -1,4 +1,4 @@
--- Proof that `of` keeps what a `&'static` to a lock holds.
+-- Proof that the `LockRef` which `of` returns refers to the given lock, for which `of` requires a `&'static` reference.
 use Rattle.std.proofs.Common.{◌≡◌, ℕ, [], ◌∷◌, refl}
 use mir.Syntax.{static}
 use mir.Val.{Val, vptr}

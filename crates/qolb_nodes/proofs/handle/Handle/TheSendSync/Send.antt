@@ -1,4 +1,4 @@
--- A handle may move to another thread, because it owns nothing, or a box of a node that may move there.
+-- A handle may move to another thread, because it owns either nothing or a boxed node, and a node may move, too.
 use mir.Raw.{raw}
 use base.Shift.{Keyless}
 use denote.Memory.{lone}

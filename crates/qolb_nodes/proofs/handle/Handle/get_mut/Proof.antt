@@ -1,4 +1,5 @@
--- Proof that `get_mut` tests the pointer and lends the node behind it. A change of the node is a change of the handle.
+-- Proof that `get_mut` tests the pointer of the handle, and lends the node to which the pointer points. If the borrower
+-- changes the node, the contents of the handle change accordingly.
 use Rattle.std.proofs.Common.{◌≡◌, ℕ, List, [], ◌∷◌, refl, sym, ap, ◌∙◌, lit<}
 use seplogic.Ra.Ura.{Ura}
 use base.Fraction.{full_share}

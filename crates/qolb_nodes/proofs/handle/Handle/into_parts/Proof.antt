@@ -1,4 +1,4 @@
--- Proof that `into_parts` tests the pointer, and moves what the handle owns into the parts.
+-- Proof that `into_parts` tests the pointer of the handle, and that what the handle owned now belongs to the result.
 use Rattle.std.proofs.Common.{◌≡◌, List, [], ◌∷◌, ◌++◌, refl, sym, ap, ◌∙◌, subst, lit<}
 use mir.Val.{Val, vcons, vnil}
 use base.Logic.{SProp, ent, emp, id⊢}

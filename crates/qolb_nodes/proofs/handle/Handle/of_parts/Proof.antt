@@ -1,4 +1,5 @@
--- Proof that `of_parts` moves the pointer, and what the parts own, into the handle.
+-- Proof that `of_parts` returns a handle with the pointer of the given parts, and that the handle owns what these parts
+-- owned.
 use Rattle.std.proofs.Common.{◌≡◌, List, [], ◌∷◌, ◌++◌, refl, sym, subst}
 use mir.Val.{Val}
 use base.Logic.{SProp, ent, emp, id⊢}

@@ -1,4 +1,4 @@
--- Proof that `into_box` passes what the parts own to `from_raw`.
+-- Proof that `into_box` passes the pointer and the allocator to `from_raw`, together with what they own.
 use mathlib.Core.Path.{◌≡◌, refl, sym, subst, ap}
 use mathlib.Core.List.{List, [], ◌∷◌, ◌++◌}
 use lib.Dec.{T}

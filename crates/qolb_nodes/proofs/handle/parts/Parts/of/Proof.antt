@@ -1,4 +1,4 @@
--- Proof that `of` splits the box, and that the parts own what the box owned.
+-- Proof that `of` splits a box into its pointer and its allocator, which together own what the box owned.
 use mathlib.Core.Path.{◌≡◌, refl, sym, subst, ap, ◌∙◌}
 use mathlib.Core.List.{List, [], ◌∷◌, ◌++◌}
 use seplogic.Ra.Ura.{Ura}
