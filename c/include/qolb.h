@@ -266,9 +266,9 @@
  * process sleeps immediately, without polling. If a thread is woken before its turn, the thread yields once.
  *
  * If a barging lock is not free when a thread tries to enter the lock, the thread spins, which means that it looks at
- * the lock six more times within 10 us. The spinning thread pauses for 200 ns before the first of these six looks. Each
+ * the lock six more times within 10 us. The spinning thread pauses for 200 ns before the first of these six checks. Each
  * later pause is twice as long as the previous pause, but at most 4 us. The spinning thread yields the processor before
- * each of the six looks except the first. A call whose timeout has expired does not spin, and qolb_lock_try never
+ * each of the six checks except the first. A call whose timeout has expired does not spin, and qolb_lock_try never
  * spins.
  *
  * If other programs compete for the processors, a yield can take as long as a time slice. After several yields that
