@@ -244,10 +244,10 @@
  * WAITING
  *
  * A thread that has drawn a ticket polls before it sleeps. The first thread in the queue polls the lock every 90 ns. A
- * thread farther back in the queue pauses longer between two polls: 150 ns longer for each waiter ahead of it. Once a
- * thread has seen how long a handoff takes, it adds three quarters of this time (but at most 500 ns) for each waiter
- * ahead of it, instead of 150 ns. How long a thread polls before it sleeps depends on the number of threads ahead of
- * it, and on the number of processors that the process may use:
+ * thread farther back in the queue pauses longer between two polls. At first, the pause grows by 150 ns for each waiter
+ * ahead of the thread. Once the thread has seen how long a handoff takes, the pause grows by three quarters of that
+ * time for each waiter, but by at most 500 ns. How long a thread polls before it sleeps depends on the number of
+ * threads ahead of it, and on the number of processors that the process may use:
  *
  * - If the number of threads ahead is less than the number of processors, the thread polls for 50 us, or for 1 us per
  *   thread ahead, whichever is longer.
@@ -266,7 +266,7 @@
  * process sleeps immediately, without polling. If a thread is woken before its turn, the thread yields once.
  *
  * If a barging lock is not free when a thread tries to enter the lock, the thread spins, which means that it looks at
- * the lock six more times within 10 us. The spinning thread pauses for 200 ns before the first of these six checks. Each
+ * the lock six more times within 10 us. The spinning thread pauses for 200 ns before the first check. Each
  * later pause is twice as long as the previous pause, but at most 4 us. The spinning thread yields the processor before
  * each of the six checks except the first. A call whose timeout has expired does not spin, and qolb_lock_try never
  * spins.
@@ -982,8 +982,7 @@ enum qolb_result qolb_lock_leave(qolb_lock *lock);
  *
  * All threads and tasks that wait for the lock, all threads that wait on a condition with this lock, and all later
  * callers are told that the lock is shut. A thread that tries to enter a shut lock is told at once that the lock is
- * shut. A waiting thread or task is told that the lock is shut only after the waiter ahead of it has polled. Until the
- * last waiter has polled, qolb_lock_is_held may return 1, although no thread will hold the lock again.
+ * shut. A waiting thread or task is told later, once the waiter ahead of it has polled. Until the last waiter has polled, qolb_lock_is_held may return 1, although no thread will hold the lock again.
  *
  * Returns:
  * - QOLB_DONE: The lock is shut, and the calling thread has left it.
