@@ -982,7 +982,8 @@ enum qolb_result qolb_lock_leave(qolb_lock *lock);
  *
  * All threads and tasks that wait for the lock, all threads that wait on a condition with this lock, and all later
  * callers are told that the lock is shut. A thread that tries to enter a shut lock is told at once that the lock is
- * shut. A waiting thread or task is told later, once the waiter ahead of it has polled. Until the last waiter has polled, qolb_lock_is_held may return 1, although no thread will hold the lock again.
+ * shut. A waiting thread or task is told later, once the waiter ahead of it has polled. Until the last waiter has
+ * polled, qolb_lock_is_held may return 1, although no thread will hold the lock again.
  *
  * Returns:
  * - QOLB_DONE: The lock is shut, and the calling thread has left it.
