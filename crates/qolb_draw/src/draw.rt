@@ -1,5 +1,6 @@
 //! Draws the picture of a schedule.
-ghost use Rattle.std.specs.Prelude.{◌≡◌, Ok, IfOk, IfErr, max};
+ghost use Rattle.std.specs.Prelude.{◌≡◌, Ok, Err, IfOk, IfErr, max};
+ghost use Rattle.qolb_script.specs.Script.{IsBegun};
 ghost use Rattle.qolb_replay.specs.Outcome.{HasNoReply};
 ghost use Rattle.qolb_draw.specs.Pictures.{picture_of, picture_to, in_form};
 ghost use Rattle.qolb_draw.specs.Timelines.{svg_of};
@@ -27,6 +28,7 @@ pub fn draw_schedule<A: Allocator + Copy>(
 ) -> Result<Vec<u8, A>, ReplayError>
     ensures ok { IfOk result (λ text. picture_to form script.now ≡ Ok text.items) }
     ensures refused { IfErr result (HasNoReply script.now) }
+    ensures memory { result ≡ Err ReplayError.Memory → IsBegun script.now }
 {
     let schedule = read_schedule(alloc, script)?;
     Ok(picture_in(alloc, &schedule, form)?)

@@ -1,11 +1,12 @@
 //! Draws the picture of a step script.
-ghost use Rattle.std.specs.Prelude.{◌≡◌, ◌≤◌, ◌++◌, List, length, OnOk, IfOk, IfErr};
+ghost use Rattle.std.specs.Prelude.{◌≡◌, ◌≤◌, ◌++◌, List, length, Err, OnOk, IfOk, IfErr};
 ghost use Rattle.qolb_model.specs.declared.config.TheConstants.{MAX_NODES};
 ghost use Rattle.link_core.specs.declared.state.State.{State};
 ghost use Rattle.link_core.specs.State.{first};
 ghost use Rattle.qolb_replay.specs.declared.input.TheConstants.{MAX_BYTES};
 ghost use Rattle.qolb_replay.specs.Outcome.{HasNoStepReply};
 ghost use Rattle.qolb_replay.specs.StepRuns.{line_of};
+ghost use Rattle.qolb_script.specs.StepScript.{AreBegun};
 ghost use Rattle.qolb_draw.specs.StepPictures.{IsDrawn, IsStepPicture, event_lines};
 ghost use Rattle.qolb_draw.specs.StepShapes.{Seen, Watches, seen_shapes};
 ghost use Rattle.qolb_draw.specs.StepSvg.{step_texts};
@@ -39,6 +40,7 @@ pub fn draw_steps<A: Allocator + Copy>(
     ensures ok { IfOk result (λ text. length script.now ≤ MAX_BYTES
         → IsStepPicture form script.now text.items) }
     ensures refused { IfErr result (HasNoStepReply script.now) }
+    ensures memory { result ≡ Err ReplayError.Memory → AreBegun script.now }
 {
     let steps = read_steps(alloc, script)?;
     Ok(picture_in(alloc, &steps, form)?)

@@ -8,7 +8,7 @@ use Rattle.lock_core.specs.declared.view.View.{View}
 use Rattle.lock_core.specs.Layout.{lock_word_at, tail_at, cell_at, to_go, count_of, asleep_of, state_of, withdrawal_window, max_sleepers, max_passed, max_barging_limit}
 use Rattle.lock_core.specs.Looks.{Found, FoundChanged, FoundNext, FoundTailMoved, IsHeldAnew, IsLeftAs, IsNoEntry}
 use Rattle.lock_core.specs.Looks as looks
-use Rattle.lock_core.specs.Views.{Timely, view_of, HasEnded, IsNewcomer, IsOvertakenInBounds, GrantedToNobodyAsleep, GrantedAfter, LeftQuietly, SleepsAtLockWord}
+use Rattle.lock_core.specs.Views.{Timely, view_of, HasEnded, IsNewcomer, IsOvertakenInBounds, GrantedToNobodyAsleep, GrantedAfter, LeftQuietly, SameTurn, SleepsAtLockWord}
 use Rattle.qolb_locks.specs.declared.answer.Answer.{Answer}
 use Rattle.qolb_locks.specs.declared.answer.Answer.TheVariants as answer
 use Rattle.qolb_locks.specs.declared.lock.Lock.{Lock}
@@ -156,7 +156,7 @@ AnnouncesSleep lock now _ = ⊥
 
 -- what `withdraw` promises: a request that is too far away stays as it is
 abbrev pub Withdraws : Lock → Ticket → Ticket → Answer → Type 0
-Withdraws lock was now answer.Withdrawn = Has state.Free lock now
+Withdraws lock was now answer.Withdrawn = Has state.Free lock now × Learns was now SameTurn
 Withdraws lock was now answer.Granted = Has state.AtTurn lock now × InBounds lock now
 Withdraws lock was now answer.Far = (withdrawal_window < was.rounds) × (now ≡ was)
 Withdraws lock was now _ = ⊥
@@ -168,14 +168,14 @@ GrantsNext lock now = Knows lock now (λ v. GrantedAfter now.number v × (now.sl
 
 -- what `release` promises: the ticket's request has ended, and a queue head that is inside stays inside
 abbrev pub Releases : Lock → Ticket → Ticket → Answer → Type 0
-Releases lock was now answer.Done = GrantsNext lock now × Learns was now HasEnded
+Releases lock was now answer.Done = GrantsNext lock now × Learns was now HasEnded × Learns was now SameTurn
     × (Is state.HeadInside lock was → Has state.Inside lock now)
     × (Is state.HeadInsideShut lock was → Has state.InsideShut lock now)
     × (was.state < 7 → Has state.Free lock now)
 Releases lock was now answer.Unfinished = (Is state.HeadInside lock was → Has state.HeadInside lock now)
     × (Is state.HeadInsideShut lock was → Has state.HeadInsideShut lock now)
     × (was.state < 7 → Has state.Ending lock now)
-    × (now.number ≡ (was.number + max_passed) % 18446744073709551616)
+    × (now.number ≡ (was.number + max_passed) % 18446744073709551616) × Learns was now SameTurn
 Releases lock was now _ = ⊥
 
 -- a ticket at its turn in a strict lock, told of the lock word or not

@@ -1,5 +1,6 @@
 pub mod Calls
 pub mod Held
+pub mod Layouts
 pub mod Meets
 pub mod Shared
 pub mod Tickets

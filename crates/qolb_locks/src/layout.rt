@@ -4,6 +4,7 @@
 //! `tools/snapshot` writes these numbers, with their comments, to `c/proved/qolb_layout.h`. The sizes of the blocks
 //! that a call allocates are not in this file, because `tools/snapshot` measures them.
 ghost use Rattle.std.specs.Prelude.{◌≡◌};
+ghost use Rattle.qolb_locks.specs.Layouts.{TellsCells, TellsLockWord, TellsLimits, TellsStates, TellsAnswers};
 
 use crate::MAX_OPEN_WITH_TIMEOUT;
 use crate::answer::Answer;
@@ -133,7 +134,12 @@ const LAYOUT: Layout = Layout {
 /// Tells C the numbers.
 #[unsafe(no_mangle)]
 pub extern "C" fn qolb_core_layout_proved_(out: &mut Layout)
-    ensures { out.new ≡ LAYOUT }
+    ensures all { out.new ≡ LAYOUT }
+    ensures cells { TellsCells out.new }
+    ensures lock_word { TellsLockWord out.new }
+    ensures limits { TellsLimits out.new }
+    ensures states { TellsStates out.new }
+    ensures answers { TellsAnswers out.new }
 {
     *out = LAYOUT;
 }

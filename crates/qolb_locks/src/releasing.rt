@@ -2,7 +2,7 @@
 //! gives the word back.
 ghost use Rattle.std.specs.Prelude.{◌≡◌, ◌+◌, ◌%◌, ◌^◌, true, false};
 ghost use Rattle.lock_core.specs.Layout.{max_passed};
-ghost use Rattle.lock_core.specs.Views.{HasEnded, HasTurnOf, IsIdle};
+ghost use Rattle.lock_core.specs.Views.{HasEnded, HasTurnOf, IsIdle, SameTurn};
 ghost use Rattle.qolb_locks.specs.declared.answer.Answer.{Answer};
 ghost use Rattle.qolb_locks.specs.declared.ticket.State.{State};
 ghost use Rattle.qolb_locks.specs.Calls.{IsMisuse, OnlyGrant, OnlyExit, StepsUpTo, Learns, GrantsNext, Releases, Leaves};
@@ -21,6 +21,7 @@ fn release_turn(lock: &Lock, ticket: &mut Ticket) -> bool
     ensures label { (ticket.new.label ≡ ticket.old.label) × (ticket.new.state ≡ ticket.old.state) }
     ensures granted { result ≡ true → GrantsNext lock.now ticket.new }
     ensures ended { result ≡ true → Learns ticket.old ticket.new HasEnded }
+    ensures turn { Learns ticket.old ticket.new SameTurn }
     ensures free { result ≡ true → Knows lock.now ticket.new IsIdle }
     ensures inside { result ≡ true →
         Knows lock.now ticket.old (Says State.HeadInside ticket.old.number ticket.old.rounds) →

@@ -10,6 +10,6 @@ poll_of_wait was now a waits = record {
   does = λ queued.
       let done = waits.does (queued, omega arith) in
       let within = done.2.1 in
-      (done.0, done.1, (done.2.0, omega (arith, within.some, within.at_most), done.2.2));
+      (done.0, done.1, (done.2.0, omega (arith, within.some, within.at_most), done.2.2, done.2.3));
   line = waits.line;
 }

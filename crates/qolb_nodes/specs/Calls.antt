@@ -56,6 +56,10 @@ state_of node = (view_of node).state
 abbrev pub NamesNext : AnyNode → Type 0
 NamesNext node = Names (wake_word_of node (view_of node)) (went_to_of node)
 
+-- the word on which the node waits is the same as before
+abbrev pub KeepsWord : AnyNode → AnyNode → Type 0
+KeepsWord was now = wait_word_of now ≡ wait_word_of was
+
 -- two nodes are of one line: one is the other, except for its port
 abbrev pub AreOfOneLine : AnyNode → AnyNode → Type 0
 AreOfOneLine a b = (info_of a).with_port (info_of b).port ≡ b
@@ -82,13 +86,13 @@ Enqolbs was now a = IsCall (may_ask (state_of was) ≡ true) enq_told (λ made. 
 
 -- What `poll` promises. It is allowed if the node waits, and it polls once.
 abbrev pub Polls : AnyNode → AnyNode → Answer → Type 0
-Polls was now a = IsCall (state_of was ≡ Queued) poll_told (λ made. line.Polls anything (view_of was) (view_of now) (turn_of now) made × (poll_count_of now ≡ poll_count_of was + 1) × (made ≡ poll.Closed → NamesNext now)) was now a
+Polls was now a = IsCall (state_of was ≡ Queued) poll_told (λ made. line.Polls anything (view_of was) (view_of now) (turn_of now) made × (poll_count_of now ≡ poll_count_of was + 1) × (made ≡ poll.Closed → NamesNext now) × KeepsWord was now) was now a
 
 -- What `wait` promises. It is allowed if the node waits and `polls` is at least 1. It promises what `poll` does, and
 -- the number of its polls.
 abbrev pub Waits : ℕ → AnyNode → AnyNode → Answer → Type 0
 Waits polls was now a =
-    IsCall ((state_of was ≡ Queued) × (0 < polls)) poll_told (λ made. line.Polls anything (view_of was) (view_of now) (turn_of now) made × PollsWithin polls (poll_count_of was) (poll_count_of now) made × (made ≡ poll.Closed → NamesNext now)) was now a
+    IsCall ((state_of was ≡ Queued) × (0 < polls)) poll_told (λ made. line.Polls anything (view_of was) (view_of now) (turn_of now) made × PollsWithin polls (poll_count_of was) (poll_count_of now) made × (made ≡ poll.Closed → NamesNext now) × KeepsWord was now) was now a
 
 -- What `prepend` and `link` promise, on a link line. `prepend` is allowed if the node neither waits nor holds the line,
 -- and `link` if it is linking. Neither of them polls.

@@ -201,6 +201,7 @@ impl<Q: Discipline<Free>> Node<LineFor<Q>> {
         ensures line { self.new.line ≡ self.old.line }
         ensures misuse { ¬ MayPoll polls self.old → IsMisuse self.old self.new result }
         ensures does { MayPoll polls self.old → Waits Q.wake_word polls self.old self.new result }
+        ensures word { word_of Q.wait_word self.new ≡ word_of Q.wait_word self.old }
     {
         if polls == 0 || self.state() != PortState::Queued {
             return Answer::Misuse;
@@ -323,6 +324,7 @@ fn poll_on<Q: Discipline<Free>>(
     ensures within { PollsWithin polls port.old.counters.poll_count
         port.new.counters.poll_count result }
     ensures went_to { result ≡ Poll.Closed → Names (Q.wake_word port.new.view) port.new.went_to }
+    ensures token { port.new.token ≡ port.old.token }
 {
     for _look in 1..polls {
         match line.poll(port) {

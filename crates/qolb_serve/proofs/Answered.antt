@@ -5,6 +5,8 @@ use Rattle.qolb_script.specs.declared.report.Report.{Report}
 use Rattle.qolb_script.specs.declared.error.ScriptError.{ScriptError}
 use Rattle.qolb_script.specs.Script.{IsBegun, Script, script_of}
 use Rattle.qolb_script.specs.Reply.{replied}
+use Rattle.qolb_draw.specs.declared.form.Form.{Form}
+use Rattle.qolb_draw.specs.Pictures.{drawn}
 use Rattle.qolb_script.specs.WorkScript.{WorkScript}
 use Rattle.qolb_script.proofs.Begun.{schedule_begun, steps_begun, work_begun}
 use Rattle.qolb_replay.specs.declared.replay.ReplayError.{ReplayError}
@@ -54,12 +56,16 @@ replied_begun : (input text : List ℕ) (script : Result Script ScriptError) →
 replied_begun input text (Ok script) same e = schedule_begun input script same
 replied_begun input text (Err why) same e = cc
 
+drawn_begun : (form : Form) (input text : List ℕ) (script : Result Script ScriptError) → script_of input ≡ script → drawn form script ≡ Ok text → IsBegun input
+drawn_begun form input text (Ok script) same e = schedule_begun input script same
+drawn_begun form input text (Err why) same e = cc
+
 pub answered_begun : (KindSpec : Lock → WorkScript → Report → Type 0) (subcommand : Subcommand) (input text : List ℕ) → Performs KindSpec subcommand input text → HasBegun subcommand input
 answered_begun KindSpec (Answer (Replay lock)) input text h = replied_begun input text (script_of input) refl h.reply
 answered_begun KindSpec (Answer (Steps detail)) input text h = steps_begun input h.script h.read
 answered_begun KindSpec (Answer (Work kind lock waits)) input text h = work_begun kind input h.work h.is.read
-answered_begun KindSpec (Draw form) input text h = tt
-answered_begun KindSpec (DrawSteps form) input text h = tt
+answered_begun KindSpec (Draw form) input text h = drawn_begun form input text (script_of input) refl h.picture
+answered_begun KindSpec (DrawSteps form) input text h = steps_begun input h.script h.read
 
 -- if no worker stalled, the exit status 3 means that an allocation was refused
 pub replay_memory : (e : ReplayError) → status_of (replay_ending e) ≡ 3 → e ≡ replay.Memory

@@ -4,8 +4,8 @@ use Rattle.std.specs.Io.KnownBytes.{Appends}
 use Rattle.line_kinds.specs.declared.Lock.{Lock}
 use Rattle.qolb_script.specs.declared.report.Report.{Report}
 use Rattle.qolb_script.specs.declared.reason.Refusal.{Refusal}
-use Rattle.qolb_script.specs.Script.{parsed_schedule}
-use Rattle.qolb_script.specs.StepScript.{parsed_steps}
+use Rattle.qolb_script.specs.Script.{IsBegun, parsed_schedule}
+use Rattle.qolb_script.specs.StepScript.{AreBegun, parsed_steps}
 use Rattle.qolb_script.specs.WorkScript.{WorkScript, parsed_work}
 use Rattle.qolb_explain.specs.Notes.{AreStepNotes, schedule_notes}
 use Rattle.qolb_replay.specs.declared.steps.Detail.TheVariants.{Words}
@@ -64,11 +64,11 @@ MayDeny (Answer task) input error = MayEnd task input error
 MayDeny (Draw form) input error = MayEnd (Replay None) input error
 MayDeny (DrawSteps form) input error = MayEnd (Steps Words) input error
 
--- neither the header of the bytes nor the first line below the header is refused; nothing is said about drawings
+-- neither the header of the bytes nor the first line below the header is refused
 abbrev pub HasBegun : Subcommand → List ℕ → Type 0
 HasBegun (Answer task) input = HasBegunFor task input
-HasBegun (Draw form) input = Unit {0}
-HasBegun (DrawSteps form) input = Unit {0}
+HasBegun (Draw form) input = IsBegun input
+HasBegun (DrawSteps form) input = AreBegun input
 
 -- the reader of the task's scripts refuses the bytes for this reason
 abbrev pub IsRefusedTask : Task → List ℕ → Refusal → Type 0

@@ -11,5 +11,6 @@ invariant-loop-look g l = record {
   state : l.port.view.state ≡ Queued;
   extends : Extends l.initial.port.view l.port.view;
   count : l.port.view.count ≡ l.initial.port.view.count;
+  token : l.port.token ≡ l.initial.port.token;
   poll_count : l.port.counters.poll_count + 1 ≡ l.initial.port.counters.poll_count + l._look;
 }
