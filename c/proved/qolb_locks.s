@@ -3,9 +3,9 @@
 # kit: rattle-kit-13f logic dac8208d650f15bf
 # verdict: logic=proved functions=81 axioms=3 target=x86_64-unknown-linux-gnu cpu=x86-64-v2 sum=dac8208d650f15bf native=nat,char,string logic-built=trusted libraries-built=trusted statements=trusted incremental=trusted
 # crates: lock_core qolb_locks
-# sources: edaa526a5ee7e127dcc3361e82a54e0359a4570dd5837328bd7e4e60d18f659c
+# sources: 09693dd27fb47f6bb303ef5f040f214892fd44279580e18578528194a0aa72b4
 # qolb_layout.h: ec6d2b240bfc2ddc8acfea15b883663dd10193dc07770e8f4d4acd819c717c9c
-# this file, without this line: 38361552439d1a7ff24b7a0a64dc792b8506297ffddd10a759a911f84e1f6d67
+# this file, without this line: 6cd2eb17e877e9d029290d0e8ce410941ef19341778a1ffd58cdc8624909b6ee
 
 	.section	".text.qolb_locks::barging::barge_first","ax",@progbits
 	.p2align	4                               # -- Begin function qolb_locks::barging::barge_first

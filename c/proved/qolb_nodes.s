@@ -3,9 +3,9 @@
 # kit: rattle-kit-13f logic dac8208d650f15bf
 # verdict: logic=proved functions=97 axioms=3 target=x86_64-unknown-linux-gnu cpu=x86-64-v2 sum=dac8208d650f15bf native=nat,char,string logic-built=trusted libraries-built=trusted statements=trusted incremental=trusted
 # crates: line_lanes qolb_model line_generic line_cells ring_line ticket_line link_core link_line line_kinds qolb_nodes
-# sources: c474f7869d6f271f16168523390aacb9d4548b3d5a58b89d14e347096c360bc5
+# sources: f1cee119bd56bd17c9bce7aee6ceeac7e2cafd4230933b54574cf227f3e6779f
 # qolb_layout.h: ec6d2b240bfc2ddc8acfea15b883663dd10193dc07770e8f4d4acd819c717c9c
-# this file, without this line: 473db7dc0146b0069332050e070b30391bdf607595d52df818ff6c9571697987
+# this file, without this line: 9553eba75a27d24abb1a3c89d69db58c9e9588c58651092b916baddcf94fabb5
 
 	.section	".text.unlikely.std_alloc::vec::Vec::grow_amortized::<#03b7bc6d8d4c6451>","ax",@progbits
 	.p2align	4                               # -- Begin function std_alloc::vec::Vec::grow_amortized::<#03b7bc6d8d4c6451>

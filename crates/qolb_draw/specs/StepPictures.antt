@@ -11,6 +11,7 @@ use Rattle.qolb_replay.specs.StepRuns.{line_of}
 use Rattle.qolb_script.specs.StepScript.{StepScript, steps_of}
 use Rattle.qolb_draw.specs.declared.form.Form.{Form}
 use Rattle.qolb_draw.specs.declared.form.Form.TheVariants as form
+use Rattle.qolb_draw.specs.declared.step_text.TheConstants.{LETTERS}
 use Rattle.qolb_draw.specs.declared.step_svg.TheConstants.{STEPS_LEGEND}
 use Rattle.qolb_draw.specs.declared.svg.TheConstants.{TAIL}
 use Rattle.qolb_draw.specs.Heads.{digit_at, heads_text}
@@ -56,10 +57,6 @@ event_lines column (seen ∷ all) = event_line column seen ++ event_lines (colum
 abbrev pub node_heads : ℕ → List ℕ
 node_heads nodes = heads_text [] (range_with_len 1 nodes)
 
--- the legend of the letters: behind each letter of `letter_at`, the point that it stands for
-abbrev pub letters_legend : List ℕ
-letters_legend = codes "\n. Idle   r Ready   l Linking   w Queued   H Holding   h Leaving   m Marking\ng Granting   f Freeing   L Left   x Rolled   - Shut\n"
-
 -- the width and the height of an SVG
 abbrev pub step_width : ℕ → ℕ
 step_width columns = max 800 (step_x columns + 32)
@@ -69,7 +66,7 @@ step_height nodes = 64 + step_y nodes + 36
 
 -- the picture of a script, made from the recorded run of the script
 abbrev pub steps_in : Form → StepScript → List Seen → List ℕ
-steps_in form.Text script all = node_heads script.nodes ++ event_lines 0 all ++ letters_legend
+steps_in form.Text script all = node_heads script.nodes ++ event_lines 0 all ++ LETTERS.now
 steps_in form.Svg script all =
     svg_head (step_width (length script.events)) (step_height script.nodes) ++ STEPS_LEGEND.now ++ (step_texts (step_timeline script all) ++ codes "</g>\n") ++ TAIL.now
 
