@@ -100,23 +100,25 @@
  * - The core has at most one holder.
  * - The core serves tickets in order. A ticket is a number that a thread draws when it enters the lock. In a barging
  *   lock, a thread draws a ticket only if it has to wait.
- * - With a barging limit of B, the core counts at most B - 1 acquisitions by barging threads (threads without a ticket)
- *   between two consecutive grants to waiting threads.
- * - The core tells a leaving thread whether the next waiter has announced that it is about to sleep. In a barging lock,
- *   this guarantee covers only announcements that were made while the leaving thread held the lock.
+ * - A barging lock contains a counter, which is at most B - 1 if the barging limit is B. A barging thread (a thread
+ *   without a ticket) adds 1 to the counter when it enters the lock, and the first waiter sets the counter to 0 when it
+ *   enters the lock. It is argued, but not proved, that nothing else sets the counter to 0.
+ * - The core tells a leaving thread whether the next waiter has announced that it is about to sleep. For the first
+ *   waiter in the queue of a barging lock, this guarantee covers only announcements that were made while the leaving
+ *   thread held the lock.
  *
  * The code around the core is written in C and, for qolb.hpp, in C++. This code implements waiting, waking, timeouts,
  * conditions and tasks. The code around the core is tested, but not proved. The C code was also model-checked, at the
  * commit that docs/PROVED.md names, in small scenarios: two or three threads, at most one context switch, and a C
  * stand-in for the core.
  *
- * Two claims about locks are argued, but not proved. The first claim is the bound on the number of times that barging
- * threads overtake one waiter. The second claim is that a holder sees what earlier holders wrote. No proof covers the
- * data that a lock protects, and no proof shows that a waiting thread is ever granted the lock.
+ * Two more claims about locks are argued, but not proved. The first claim is the bound on the number of times that
+ * barging threads overtake one waiter. The second claim is that a holder sees what earlier holders wrote. No proof
+ * covers the data that a lock protects, and no proof shows that a waiting thread is ever granted the lock.
  *
- * The proofs about a line show that the line has at most one holder, that its requests end in the order in which they
- * were made, and which bytes each holder receives. The C code that waits for a line and notifies the nodes of the line
- * is tested. The same C code was also model-checked in small scenarios, with a model in place of the line.
+ * The proofs about a line show that the line has at most one holder, that its requests end in the order of the queue,
+ * and which bytes each holder receives. The C code that waits for a line and notifies the nodes of the line is tested.
+ * The same C code was also model-checked in small scenarios, with a model in place of the line.
  *
  * SANITIZERS AND DEBUGGERS
  *

@@ -39,18 +39,18 @@
 //!
 //! - The core has at most one holder.
 //! - It serves tickets in order.
-//! - With a barging limit of B, it counts at most B - 1 acquisitions of barging threads between two consecutive grants to waiting threads. A barging
-//!   thread enters without a ticket.
-//! - It tells a releasing thread whether the next waiter has announced that it is about to sleep. In a barging lock this covers announcements that were
-//!   made while the releasing thread held the lock.
+//! - A barging lock contains a counter, which is at most B - 1 if the barging limit is B. A barging thread, which has no ticket, adds 1 to the counter
+//!   when it enters the lock, and the first waiter sets the counter to 0 when it enters the lock. It is argued, but not proved, that nothing else sets
+//!   the counter to 0.
+//! - It tells a releasing thread whether the next waiter has announced that it is about to sleep. For the first waiter in the queue of a barging lock,
+//!   this covers only announcements that were made while the releasing thread held the lock.
 //!
-//! Of a line it is proved that it has at most one holder, that its requests end in the order in which they were made, and which bytes each holder
-//! receives.
+//! Of a line it is proved that it has at most one holder, that its requests end in the order of the queue, and which bytes each holder receives.
 //!
 //! This file is not proved. The C code below it, which puts threads to sleep, wakes them, and implements timeouts, conditions and tasks, is not proved
 //! either. Both are tested. The C code was also model-checked, at the commit that PROVED names, in small scenes: two or three threads, at most one
-//! context switch for a lock and two for a line, and stand-ins for the core and the lines. For two claims there is only an informal argument: how many
-//! threads may overtake one waiter, and that a holder sees what earlier holders wrote. Nothing is proved about the protected value itself. It is not
+//! context switch for a lock and two for a line, and stand-ins for the core and the lines. For two more claims there is only an informal argument: how
+//! many threads may overtake one waiter, and that a holder sees what earlier holders wrote. Nothing is proved about the protected value itself. It is not
 //! proved either that a waiting thread is ever granted the lock.
 //!
 //! # Nodes
