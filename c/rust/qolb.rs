@@ -18,9 +18,22 @@
 //! ```
 //!
 //! A program can depend on the installed crate, `qolb = { path = "PREFIX/share/qolb/rust" }`, whose build script finds the library. From edition 2021 on
-//! it can instead contain this file as a module, `#[path = ".../qolb.rs"] mod qolb;`, and link with `-lqolb`. (If a library does so, its doc tests try the
-//! examples of this file, which name a crate.) With the crate's feature `lock_api`, `lock_api::Mutex<RawQolb, T>` is a mutex like those of `parking_lot`.
-//! Its `lock` ends the process if the calling thread holds the mutex, or if the mutex was shut.
+//! it can instead contain this file as a module, `#[path = ".../qolb.rs"] mod qolb;`, and link the static library with `-L PREFIX/lib -l static=qolb`. If
+//! `static=` is left out, `rustc` links the shared library, and the program starts only if the loader finds the shared library. (If a library contains
+//! this file as a module, its doc tests try the examples of this file, which name a crate.)
+//!
+//! # With `lock_api`
+//!
+//! With the crate's feature `lock_api`, [`RawQolb`] implements the traits `RawMutex`, `RawMutexFair` and `RawMutexTimed` of the crate `lock_api` 0.4. The
+//! type `lock_api::Mutex<RawQolb, T>` is then a mutex like those of `parking_lot`. `Mutex::new` of `lock_api` makes a strict mutex, and
+//! `Mutex::const_new(RawQolb::with_barging(1024), value)` makes a barging mutex.
+//!
+//! - `lock` ends the process if the calling thread holds the mutex, or if the mutex was shut.
+//! - `try_lock`, `try_lock_for` and `try_lock_until` do not panic. If the calling thread holds the mutex, or if the mutex was shut, they return `None` at
+//!   once.
+//! - `Debug` shows `<locked>` in place of the value if a thread or a task holds the mutex, and also if the mutex was shut.
+//! - A mutex of `lock_api` is shut only by [`RawQolb::shut`]. Once a mutex was shut, a loop that calls `try_lock` until it succeeds never ends. If a
+//!   program shuts a mutex, call [`RawQolb::try_enter`] in such a loop instead, which returns [`Answer::Closed`] for a shut mutex.
 //!
 //! # How it differs from `std::sync::Mutex`
 //!
@@ -191,13 +204,13 @@ impl fmt::Display for Answer {
     fn fmt(&self, f: &mut fmt::Formatter<'_>) -> fmt::Result {
         f.write_str(match self {
             Answer::Done => "done",
-            Answer::Granted => "the node holds the line",
+            Answer::Granted => "the line or the lock is granted",
             Answer::Queued => "the request waits",
             Answer::Waiting => "the request waits still",
             Answer::Linking => "the request stands behind another, and is not linked yet",
             Answer::Withdrawn => "the request is withdrawn",
             Answer::Closed => "the line is closed, or the lock shut",
-            Answer::Busy => "the node's last request is not cleared away yet, or others have the line",
+            Answer::Busy => "the call would have to wait, or the node's last request is still in the queue",
             Answer::Misuse => "the node or lock does not allow the call",
             Answer::NoMemory => "out of memory",
             Answer::BadNodes => "a line has 1 to 200 nodes",
@@ -575,6 +588,10 @@ impl Node {
     }
 
     /// Returns a guard if the line is granted at once, and `None` otherwise.
+    ///
+    /// # Errors
+    ///
+    /// Fails with [`Stopped::Closed`] if the line is closed, and with [`Stopped::Misuse`] if the node has already requested the line.
     pub fn try_lock(&mut self) -> Result<Option<Guard<'_>>, Stopped> {
         match self.try_acquire() {
             Answer::Granted => Ok(Some(Guard(self))),
@@ -583,7 +600,11 @@ impl Node {
         }
     }
 
-    /// Returns a guard if the line is granted within `time`, and `None` otherwise.
+    /// Returns a guard if the line is granted within `time`, and `None` if the timeout expires.
+    ///
+    /// # Errors
+    ///
+    /// Fails with [`Stopped::Closed`] if the line is closed, and at once with [`Stopped::Misuse`] if the node has already requested the line.
     pub fn try_lock_for(&mut self, time: Duration) -> Result<Option<Guard<'_>>, Stopped> {
         match self.acquire_for(time) {
             Answer::Granted => Ok(Some(Guard(self))),
@@ -592,7 +613,11 @@ impl Node {
         }
     }
 
-    /// Returns a guard if the line is granted before `end`, and `None` otherwise.
+    /// Returns a guard if the line is granted before `end`, and `None` if the timeout expires.
+    ///
+    /// # Errors
+    ///
+    /// Fails with [`Stopped::Closed`] if the line is closed, and at once with [`Stopped::Misuse`] if the node has already requested the line.
     pub fn try_lock_until(&mut self, end: Instant) -> Result<Option<Guard<'_>>, Stopped> {
         self.try_lock_for(from_now_to(end))
     }
@@ -816,7 +841,9 @@ impl RawQolb {
         told(unsafe { qolb_lock_leave(self.at()) })
     }
 
-    /// Leaves the lock and shuts it: no later thread enters.
+    /// Leaves the lock and shuts it, which takes the lock out of service.
+    ///
+    /// All threads and tasks that wait for the lock, and all later callers, are told that the lock is shut.
     ///
     /// Returns `Done`, or `Misuse` if the calling thread does not hold the lock.
     pub fn shut(&self) -> Answer {
@@ -989,17 +1016,29 @@ impl<T: ?Sized> Mutex<T> {
         entered(self.raw.enter()).map(|_| self.guard())
     }
 
-    /// Returns a guard if the mutex is free, and `None` otherwise, also if the calling thread holds the mutex.
+    /// Returns a guard if the mutex is free, and `None` if it is held, also if the calling thread itself holds the mutex.
+    ///
+    /// # Errors
+    ///
+    /// Fails with [`Stopped::Closed`] once the mutex is shut.
     pub fn try_lock(&self) -> Result<Option<MutexGuard<'_, T>>, Stopped> {
         entered(self.raw.try_enter()).map(|had| had.then(|| self.guard()))
     }
 
-    /// Returns a guard if the mutex is granted within `time`, and `None` otherwise.
+    /// Returns a guard if the mutex is granted within `time`, and `None` if the timeout expires.
+    ///
+    /// # Errors
+    ///
+    /// Fails at once with [`Stopped::Misuse`] if the calling thread already holds the mutex, and with [`Stopped::Closed`] once the mutex is shut.
     pub fn try_lock_for(&self, time: Duration) -> Result<Option<MutexGuard<'_, T>>, Stopped> {
         entered(self.raw.enter_for(time)).map(|had| had.then(|| self.guard()))
     }
 
-    /// Returns a guard if the mutex is granted before `end`, and `None` otherwise.
+    /// Returns a guard if the mutex is granted before `end`, and `None` if the timeout expires.
+    ///
+    /// # Errors
+    ///
+    /// Fails at once with [`Stopped::Misuse`] if the calling thread already holds the mutex, and with [`Stopped::Closed`] once the mutex is shut.
     pub fn try_lock_until(&self, end: Instant) -> Result<Option<MutexGuard<'_, T>>, Stopped> {
         self.try_lock_for(from_now_to(end))
     }
@@ -1035,7 +1074,8 @@ impl<T> From<T> for Mutex<T> {
     }
 }
 
-/// Shows the value if the mutex is free. It locks the mutex meanwhile, and does not wait.
+/// Shows the value if the mutex is free, `<locked>` if the mutex is held, and `<closed>` if it was shut. `Debug` locks a free mutex while it shows the value,
+/// and does not wait for a mutex that is held.
 impl<T: ?Sized + fmt::Debug> fmt::Debug for Mutex<T> {
     fn fmt(&self, f: &mut fmt::Formatter<'_>) -> fmt::Result {
         shown(f, "Mutex", self.try_lock())
@@ -1067,7 +1107,10 @@ pub struct MutexGuard<'a, T: ?Sized> {
 unsafe impl<T: ?Sized + Sync> Sync for MutexGuard<'_, T> {}
 
 impl<'a, T: ?Sized> MutexGuard<'a, T> {
-    /// Releases the mutex and shuts it: no later thread enters.
+    /// Releases the mutex and shuts it, which takes the mutex out of service.
+    ///
+    /// All threads and tasks that wait for the mutex, all threads that wait at a [`Condition`] with the mutex, and all later callers are told
+    /// [`Stopped::Closed`].
     pub fn shut(self) {
         // The drop of `self` follows, and finds nothing to leave.
         self.mutex.raw.shut();
@@ -1181,7 +1224,9 @@ impl WaitTimeoutResult {
 
 /// A condition at which holders of a [`Mutex`] wait, like a `std::sync::Condvar`.
 ///
-/// There are no spurious wake-ups, and the thread that has waited longest is woken first.
+/// There are no spurious wake-ups, and the thread that has waited longest is woken first. Nevertheless, a woken thread must test again what it waited for,
+/// because another thread may lock the mutex, and change the value, before the woken thread locks the mutex. [`Condition::wait_while`] and
+/// [`Condition::wait_timeout_while`] test it again. A condition may be used with several mutexes.
 ///
 /// ```
 /// use qolb::{Condition, Mutex, Stopped};
@@ -1245,16 +1290,30 @@ impl Condition {
     }
 
     /// Waits for a signal for at most `time`, and returns whether a signal came.
+    ///
+    /// The timeout limits only the wait for the signal. After that, the thread locks the mutex again, however long it has to wait for the mutex.
+    ///
+    /// # Errors
+    ///
+    /// Fails with [`Stopped::Closed`] if the mutex was shut meanwhile.
     pub fn wait_for<'a, T: ?Sized>(&self, guard: MutexGuard<'a, T>, time: Duration) -> Result<(MutexGuard<'a, T>, bool), Stopped> {
         self.waited(guard, Some(time))
     }
 
     /// Waits as [`Condition::wait_for`] does, and returns the same as the call of `std::sync::Condvar`.
+    ///
+    /// # Errors
+    ///
+    /// Fails with [`Stopped::Closed`] if the mutex was shut meanwhile.
     pub fn wait_timeout<'a, T: ?Sized>(&self, guard: MutexGuard<'a, T>, time: Duration) -> Result<(MutexGuard<'a, T>, WaitTimeoutResult), Stopped> {
         self.wait_for(guard, time).map(|(guard, told)| (guard, WaitTimeoutResult(!told)))
     }
 
     /// Waits until `is_so` returns `false` for the value.
+    ///
+    /// # Errors
+    ///
+    /// Fails with [`Stopped::Closed`] if the mutex was shut meanwhile.
     pub fn wait_while<'a, T: ?Sized>(&self, mut guard: MutexGuard<'a, T>, mut is_so: impl FnMut(&mut T) -> bool) -> Result<MutexGuard<'a, T>, Stopped> {
         while is_so(&mut guard) {
             guard = self.wait(guard)?;
@@ -1262,7 +1321,11 @@ impl Condition {
         Ok(guard)
     }
 
-    /// Waits for at most `time` until `is_so` returns `false` for the value. The wait has timed out if it returns `true` at the end.
+    /// Waits for at most `time` until `is_so` returns `false` for the value. The wait has timed out if `is_so` still returns `true` at the end.
+    ///
+    /// # Errors
+    ///
+    /// Fails with [`Stopped::Closed`] if the mutex was shut meanwhile.
     pub fn wait_timeout_while<'a, T: ?Sized>(
         &self,
         mut guard: MutexGuard<'a, T>,
@@ -1536,7 +1599,7 @@ unsafe impl<T: ?Sized + Send> Send for MutexTaskGuard<'_, T> {}
 unsafe impl<T: ?Sized + Sync> Sync for MutexTaskGuard<'_, T> {}
 
 impl<T: ?Sized> MutexTaskGuard<'_, T> {
-    /// Releases the mutex and shuts it: nobody enters later.
+    /// Releases the mutex and shuts it, which takes the mutex out of service, as [`MutexGuard::shut`] does.
     pub fn shut(mut self) {
         // The drop of `self` follows, and finds nothing to leave.
         leave_by(&self.mutex.raw, &mut self.task, true);
@@ -1570,24 +1633,17 @@ mod api {
     use std::io::Write;
     use std::time::{Duration, Instant};
 
-    fn had(answer: Answer) -> bool {
-        match answer {
-            Answer::Granted => true,
-            Answer::Busy | Answer::TimedOut => false,
-            answer => panic!("qolb: {answer}"),
-        }
-    }
-
     /// Ends the process if the lock was not granted. A panic would not do: a guard that `unlocked` or `bump` has released is used again when `lock` ends,
     /// even if it ends by a panic.
     fn surely_had(answer: Answer) {
         if answer != Answer::Granted {
-            _ = writeln!(std::io::stderr(), "qolb: lock_api's lock is refused: {answer}");
+            let why = if answer == Answer::Misuse { "this thread already holds it".into() } else { answer.to_string() };
+            _ = writeln!(std::io::stderr(), "qolb: lock_api's lock is refused: {why}");
             std::process::abort();
         }
     }
 
-    // SAFETY: only one thread at a time holds the lock.
+    // SAFETY: only one thread at a time holds the lock. A `try_lock` of a shut lock returns false and does not panic, because `Debug` of a mutex calls it.
     unsafe impl RawMutex for RawQolb {
         const INIT: RawQolb = RawQolb::new();
         type GuardMarker = GuardNoSend;
@@ -1596,7 +1652,7 @@ mod api {
             surely_had(self.enter());
         }
         fn try_lock(&self) -> bool {
-            had(self.try_enter())
+            self.try_enter() == Answer::Granted
         }
         unsafe fn unlock(&self) {
             self.leave();
@@ -1619,10 +1675,10 @@ mod api {
         type Instant = Instant;
 
         fn try_lock_for(&self, timeout: Duration) -> bool {
-            had(self.enter_for(timeout))
+            self.enter_for(timeout) == Answer::Granted
         }
         fn try_lock_until(&self, timeout: Instant) -> bool {
-            had(self.enter_for(super::from_now_to(timeout)))
+            self.enter_for(super::from_now_to(timeout)) == Answer::Granted
         }
     }
 }

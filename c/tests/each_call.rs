@@ -265,13 +265,13 @@ fn each_future() {
 #[rustfmt::skip]
 const TEXTS: [(Answer, &str); 16] = [
     (Answer::Done, "done"),
-    (Answer::Granted, "the node holds the line"),
+    (Answer::Granted, "the line or the lock is granted"),
     (Answer::Queued, "the request waits"),
     (Answer::Waiting, "the request waits still"),
     (Answer::Linking, "the request stands behind another, and is not linked yet"),
     (Answer::Withdrawn, "the request is withdrawn"),
     (Answer::Closed, "the line is closed, or the lock shut"),
-    (Answer::Busy, "the node's last request is not cleared away yet, or others have the line"),
+    (Answer::Busy, "the call would have to wait, or the node's last request is still in the queue"),
     (Answer::Misuse, "the node or lock does not allow the call"),
     (Answer::NoMemory, "out of memory"),
     (Answer::BadNodes, "a line has 1 to 200 nodes"),
