@@ -127,6 +127,10 @@
  * regard lines with different labels as one object. Therefore the sanitizer may miss a race between lines that it
  * regards as one object.
  *
+ * Compile only the program with -fsanitize=thread, not the library. The amalgamation, which is the library as one C
+ * file and two assembly files, may be compiled with the option, because it excludes its own functions from the
+ * sanitizer.
+ *
  * If source files are compiled with -DQOLB_HELGRIND or -DQOLB_DRD, the header tells helgrind or drd, two tools of
  * valgrind, about grants and releases. Make these tools suppress reports about the library's own accesses to memory:
  * valgrind --tool=helgrind --suppressions=PREFIX/share/qolb/valgrind.supp.
@@ -652,7 +656,7 @@ enum qolb_node_state {
  * `kind` is an enum qolb_kind. `nodes` is the number of nodes, 1 to 200. Node k goes into out[k - 1], which must be
  * empty. `out` is an array of `handles` handles. `opening` contains the initial bytes of the line. The line closes at
  * the end of acquisition number `lease`. If `lease` is QOLB_NO_LEASE, no number of acquisitions closes the line.
- * `label` is any number (qolb_label).
+ * `label` is any number (qolb_label). Lines may have equal labels, but a sanitizer may miss races between such lines.
  *
  * The call allocates memory (KINDS). If several errors apply, the call returns the first one in the list below.
  *

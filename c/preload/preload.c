@@ -26,6 +26,8 @@
  * - Code that does not call the C library's mutexes by their names is not affected: C11's mtx_t, Rust's
  *   std::sync::Mutex, and libraries that are opened with RTLD_DEEPBIND. Such a library must not share a mutex with
  *   other code.
+ * - If a program was compiled by gcc with -fsanitize=thread, the sanitizer does not see the replaced mutexes, and
+ *   reports false races. To let the sanitizer see the mutexes, put libtsan.so before this library in LD_PRELOAD.
  *
  * The environment variable QOLB_BARGING sets the barging limit (man 3 qolb_lock). The default is 1024, and 0 means
  * strict order. A lock that is opened in .preinit_array, before the environment is set up, has the limit 1024. */
@@ -458,3 +460,19 @@ void __wrap_qolb_sleep_at_(atomic_uint *word, unsigned value, uint64_t nanosecon
         __real_qolb_sleep_at_(word, value, nanoseconds);
     }
 }
+
+/* ---- Versions (preload.map) ----
+ *
+ * These functions have two versions, because they moved from libpthread to libc in glibc 2.34. preload.map has the
+ * functions with one version. */
+
+#define VERSIONS(name, older, newer)                                             \
+    extern __typeof__(name) name##_older __attribute__((alias(#name), nothrow)); \
+    __asm__(".symver " #name "_older, " #name "@" older);                        \
+    __asm__(".symver " #name ", " #name "@@@" newer)
+
+VERSIONS(pthread_mutex_trylock, "GLIBC_2.2.5", "GLIBC_2.34");
+VERSIONS(pthread_mutex_timedlock, "GLIBC_2.2.5", "GLIBC_2.34");
+VERSIONS(pthread_mutex_clocklock, "GLIBC_2.30", "GLIBC_2.34");
+VERSIONS(pthread_cond_clockwait, "GLIBC_2.30", "GLIBC_2.34");
+VERSIONS(pthread_cancel, "GLIBC_2.2.5", "GLIBC_2.34");

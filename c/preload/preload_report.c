@@ -6,7 +6,8 @@
  *
  * - the barging limit;
  * - how many mutexes were replaced in total, and the largest number at one time;
- * - how often a mutex was acquired, how often a call timed out, and how often a mutex was not immediately free;
+ * - how often a mutex was acquired, how often a call timed out, and how often pthread_mutex_trylock found a mutex
+ *   taken;
  * - how often two threads held one mutex at the same time, which must be 0.
  *
  * The child of a fork starts to count from 0. */

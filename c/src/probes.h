@@ -36,7 +36,7 @@ struct probed {
         DTRACE_PROBE3(qolb, name, it_.label, it_.number, it_.line); \
     } while (0)
 #else
-#define PROBE(name, of) ((void)sizeof(of))
+#define PROBE(name, of) (0 ? (void)(of) : (void)0) /* never evaluates `of`, but uses what `of` names */
 #endif
 
 /* Passes the probe of the end of a wait. */

@@ -3,6 +3,7 @@
  * errors. */
 #define _GNU_SOURCE
 #include "mutexes.h"
+#include <dlfcn.h>
 #include <limits.h>
 #include <sched.h>
 #include <sys/mman.h>
@@ -310,8 +311,27 @@ static void of_an_early_one(void) {
     in_another_thread(takes, &early);
 }
 
+/* A lookup with a version finds the function that a lookup without a version finds: both that of the C library, or both
+ * that of the preload library. The thread sanitizer of clang looks functions up in both ways. */
+static void of_versions(void) {
+    static const char *const functions[][2] = {
+        {"pthread_mutex_init", "GLIBC_2.2.5"},     {"pthread_mutex_destroy", "GLIBC_2.2.5"},
+        {"pthread_mutex_lock", "GLIBC_2.2.5"},     {"pthread_mutex_trylock", "GLIBC_2.2.5"},
+        {"pthread_mutex_unlock", "GLIBC_2.2.5"},   {"pthread_mutex_timedlock", "GLIBC_2.2.5"},
+        {"pthread_cond_wait", "GLIBC_2.3.2"},      {"pthread_mutex_clocklock", "GLIBC_2.30"},
+        {"pthread_cond_signal", "GLIBC_2.3.2"},    {"pthread_cond_timedwait", "GLIBC_2.3.2"},
+        {"pthread_cond_broadcast", "GLIBC_2.3.2"}, {"pthread_cond_clockwait", "GLIBC_2.30"},
+        {"pthread_cond_destroy", "GLIBC_2.3.2"},   {"pthread_cancel", "GLIBC_2.2.5"},
+    };
+    for (size_t k = 0; k < sizeof functions / sizeof *functions; k++) {
+        const char *name = functions[k][0];
+        WANT(dlvsym(RTLD_DEFAULT, name, functions[k][1]) == dlsym(RTLD_DEFAULT, name), 1);
+    }
+}
+
 int main(void) {
     alarm(60);
+    of_versions();
     of_an_early_one();
     of_an_ordinary_one();
     of_others();

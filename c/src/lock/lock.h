@@ -64,7 +64,7 @@ enum {
 #include <assert.h>
 #define INVARIANT(it) assert(it)
 #else
-#define INVARIANT(it) ((void)sizeof !(it))
+#define INVARIANT(it) (0 ? (void)(it) : (void)0) /* never evaluates `it`, but uses what `it` names */
 #endif
 
 /* ---- A lock's bytes ---- */
