@@ -75,10 +75,9 @@
 // Clang does not know that enter, try_enter, enter_for, acquire, try_acquire, acquire_for and co_await acquire, because
 // it follows no result other than a bool. Therefore leave, shut, deqolb and the adopting constructor of Guard are
 // accepted even if Clang does not know that the Lock or Node is held. A call of a Guard that has released its line is
-// not reported. The guards of libstdc++ are unknown to Clang. Of the guards of libc++, only std::lock_guard and
-// std::scoped_lock of one lock are known, and only with -D_LIBCPP_ENABLE_THREAD_SAFETY_ANNOTATIONS. A function that
-// uses guarded data under a std::unique_lock, for example to wait on a Condition, therefore needs the attribute
-// no_thread_safety_analysis.
+// not reported. The guards of libstdc++ are unknown to Clang, and std::lock_guard of libc++ is known only with
+// -D_LIBCPP_ENABLE_THREAD_SAFETY_ANNOTATIONS. A function that uses guarded data under a std::unique_lock, for example
+// to wait on a Condition, therefore needs the attribute no_thread_safety_analysis.
 #if defined(__clang__)
 #define QOLB_CAPABILITY_ __attribute__((capability("lock")))
 #define QOLB_SCOPED_ __attribute__((scoped_lockable))
