@@ -11,7 +11,8 @@
 // A loop for qolb::enter and qolb::turn, which need only `post` and `unpost`. server.cpp has a loop over epoll.
 class Loop {
   public:
-    // Any thread calls it, inside the call that leaves the lock. It must not wait for a lock, and throws nothing.
+    // Any thread calls it, inside the call that leaves the lock. It must not throw, and must not wait for a qolb::lock
+    // or a node. It may lock the mutex of this loop, because no thread calls the library while it holds the mutex.
     void post(qolb::Ready &it) {
         std::lock_guard<std::mutex> held(mutex_);
         it.posted = true, it.next = nullptr, it.before = last_;

@@ -152,11 +152,14 @@ void Loop::run() {
 // Serves a connection with a lock, for which there may be any number of connections.
 static Job by_lock(Loop &loop, int socket, qolb::Lock &lock, std::uint64_t &number) {
     Client client(loop, socket);
-    while (co_await client.byte() == 'L') {
+    for (;;) {
+        char asks = co_await client.byte(); // a variable, because GCC 12 miscompiles some conditions with a co_await
+        if (asks != 'L') co_return;
         qolb::Entered turn = co_await qolb::enter(lock, loop);
         if (!turn) co_return;
         client.send(number);
-        if (co_await client.byte() != 'U') co_return; // the lock is left at the end of the scope
+        char ends = co_await client.byte();
+        if (ends != 'U') co_return; // the lock is left at the end of the scope
         number++;
     }
 }
@@ -164,11 +167,15 @@ static Job by_lock(Loop &loop, int socket, qolb::Lock &lock, std::uint64_t &numb
 // Serves a connection with a line, for which each connection has a node. The number is in the line.
 static Job by_node(Loop &loop, int socket, qolb::Node node) {
     Client client(loop, socket);
-    while (co_await client.byte() == 'L') {
-        if (co_await qolb::turn(node, loop) != qolb::Got::granted) co_return;
+    for (;;) {
+        char asks = co_await client.byte();
+        if (asks != 'L') co_return;
+        qolb::Got got = co_await qolb::turn(node, loop);
+        if (got != qolb::Got::granted) co_return;
         qolb::Guard turn(node, std::adopt_lock);
         client.send(turn.lane(0));
-        if (co_await client.byte() != 'U') co_return;
+        char ends = co_await client.byte();
+        if (ends != 'U') co_return;
         turn.add_to_lane(0, 1);
     }
 }

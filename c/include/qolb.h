@@ -308,9 +308,11 @@
  * - A wait on a condition has no spurious wake-ups.
  *
  * In qolb.hpp, a qolb::lock differs from a std::timed_mutex, and a qolb::Condition differs from a
- * std::condition_variable, in the following way:
+ * std::condition_variable, in the following ways:
  *
  * - A qolb::lock throws qolb::Closed once it has been shut, and qolb::Deadlock if the calling thread already holds it.
+ * - The member function unlock of a qolb::lock throws qolb::Misuse if the calling thread does not hold the lock.
+ * - A qolb::Condition has no native_handle, and there is no std::notify_all_at_thread_exit for it.
  *
  * In the Rust crate, a qolb::Mutex differs from a std::sync::Mutex, and a qolb::Condition differs from a
  * std::sync::Condvar, in the following ways:
@@ -329,7 +331,9 @@
  * - Free the memory of a lock only once the lock is destroyed, or once nobody holds the lock, waits for it or is about
  *   to use it. You may free the memory of a lock even if a thread that has left the lock has not returned from
  *   qolb_lock_leave or qolb_lock_shut yet.
- * - Free the memory of a condition only while no thread is in a call on this condition.
+ * - Free the memory of a condition only once every thread that waits on the condition has been signalled or has
+ *   returned from its wait, and every call of qolb_cond_signal or qolb_cond_broadcast on the condition has returned. A
+ *   thread that has been signalled does not use the condition any more, even if it has not returned from its wait yet.
  * - Do not call the library in a signal handler, or in the forked child of a process with several threads.
  * - All threads that use a lock must use the same loaded copy of the library. If one copy of the library is linked
  *   statically into a program, the program must not also use another copy in a shared library that it opens at run

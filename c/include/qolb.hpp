@@ -47,6 +47,17 @@
 #define QOLB_NODISCARD QOLB_LOOK
 #endif
 
+// For the constructors of guards: a guard that is not named releases at once. Older compilers allow [[nodiscard]] only
+// for functions and classes.
+#if defined(__has_cpp_attribute)
+#if __has_cpp_attribute(nodiscard) >= 201907L && __cplusplus >= 201703L
+#define QOLB_NAMED_ [[nodiscard]]
+#endif
+#endif
+#ifndef QOLB_NAMED_
+#define QOLB_NAMED_
+#endif
+
 // Without exceptions, an error that would throw ends the program.
 #if defined(__cpp_exceptions)
 #define QOLB_THROW(what) throw what
@@ -56,13 +67,27 @@
 
 // For Clang's -Wthread-safety: what a call acquires and releases. Clang does not analyse the bodies of these calls,
 // because they call C.
+//
+// Clang checks that lock, try_lock, try_lock_for, try_lock_until and unlock of a Lock or a Node are paired, and that
+// data with the attribute guarded_by is used only while the Lock or Node is held. It follows Guard and lock_guard, and
+// learns from leave, shut, deqolb, Guard::release and Guard::shut that a Lock or a Node is no longer held.
+//
+// Clang does not know that enter, try_enter, enter_for, acquire, try_acquire, acquire_for and co_await acquire, because
+// it follows no result other than a bool. Therefore leave, shut, deqolb and the adopting constructor of Guard are
+// accepted even if Clang does not know that the Lock or Node is held. A call of a Guard that has released its line is
+// not reported. The guards of libstdc++ are unknown to Clang, and std::lock_guard of libc++ is known only with
+// -D_LIBCPP_ENABLE_THREAD_SAFETY_ANNOTATIONS. A function that uses guarded data under a std::unique_lock, for example
+// to wait on a Condition, therefore needs the attribute no_thread_safety_analysis.
 #if defined(__clang__)
 #define QOLB_CAPABILITY_ __attribute__((capability("lock")))
 #define QOLB_SCOPED_ __attribute__((scoped_lockable))
 #define QOLB_ACQUIRES_(...) __attribute__((acquire_capability(__VA_ARGS__), no_thread_safety_analysis))
 #define QOLB_TRIES_ __attribute__((try_acquire_capability(true), no_thread_safety_analysis))
 #define QOLB_ADOPTS_(...) __attribute__((requires_capability(__VA_ARGS__), no_thread_safety_analysis))
+#define QOLB_ADOPTS_CHECKED_(...) \
+    __attribute__((assert_capability(__VA_ARGS__), requires_capability(__VA_ARGS__), no_thread_safety_analysis))
 #define QOLB_RELEASES_ __attribute__((release_capability(), no_thread_safety_analysis))
+#define QOLB_LEAVES_ __attribute__((assert_capability(), release_capability(), no_thread_safety_analysis))
 #define QOLB_UNCHECKED_ __attribute__((no_thread_safety_analysis))
 #else
 #define QOLB_CAPABILITY_
@@ -70,7 +95,9 @@
 #define QOLB_ACQUIRES_(...)
 #define QOLB_TRIES_
 #define QOLB_ADOPTS_(...)
+#define QOLB_ADOPTS_CHECKED_(...)
 #define QOLB_RELEASES_
+#define QOLB_LEAVES_
 #define QOLB_UNCHECKED_
 #endif
 
@@ -201,9 +228,9 @@ class QOLB_CAPABILITY_ Node {
         return qolb_add_lane(&node_, lane, by, &was);
     }
     // Releases the line, and hands it over to the oldest request.
-    qolb_result deqolb() { return qolb_deqolb(&node_); }
+    qolb_result deqolb() QOLB_LEAVES_ { return qolb_deqolb(&node_); }
     // Releases the line and closes it.
-    qolb_result shut() { return qolb_shut(&node_); }
+    qolb_result shut() QOLB_LEAVES_ { return qolb_shut(&node_); }
     // Frees the node. Afterwards this Node is no node.
     qolb_result free() { return qolb_node_free(&node_); }
     // Returns the number of acquisitions that the lease still allows, the holder's own among them.
@@ -290,11 +317,11 @@ class QOLB_SCOPED_ Guard {
   public:
     // Waits until the node holds the line. Throws Closed if the line is closed, and Misuse if there is no node, or if
     // the node has already requested the line.
-    explicit Guard(Node &node) QOLB_ACQUIRES_(node) : node_(&node) { node.lock(); }
+    QOLB_NAMED_ explicit Guard(Node &node) QOLB_ACQUIRES_(node) : node_(&node) { node.lock(); }
 
     // Takes over the line from a node that holds it, for example after try_acquire or acquire_for. Throws Misuse if the
-    // node does not hold the line.
-    Guard(Node &node, std::adopt_lock_t) QOLB_ADOPTS_(node) : node_(&node) {
+    // node does not hold the line. Clang's -Wthread-safety cannot check this, and assumes that the node holds the line.
+    QOLB_NAMED_ Guard(Node &node, std::adopt_lock_t) QOLB_ADOPTS_CHECKED_(node) : node_(&node) {
         if (node.state() != QOLB_STATE_HOLDING) QOLB_THROW(Misuse());
     }
 
@@ -336,8 +363,8 @@ class QOLB_SCOPED_ Guard {
     }
 
     // Release the line before the scope ends. `shut` also closes it. Every later call of the guard throws Misuse.
-    void release() { ended(node_ ? node_->deqolb() : QOLB_MISUSE); }
-    void shut() { ended(node_ ? node_->shut() : QOLB_MISUSE); }
+    void release() QOLB_RELEASES_ { ended(node_ ? node_->deqolb() : QOLB_MISUSE); }
+    void shut() QOLB_RELEASES_ { ended(node_ ? node_->shut() : QOLB_MISUSE); }
 
   private:
     static void did(qolb_result told) {
@@ -375,6 +402,12 @@ struct barging {
 // std::condition_variable_any can use it. The thread that entered a lock must leave it. A lock may be destroyed once no
 // thread holds it, waits for it or is about to call it. The destructor does nothing, so threads may use a static lock
 // until the program ends.
+//
+// A default-constructed Lock is strict. For a type whose locks are barging by default, derive a class from the lock:
+//
+//     struct Mutex : qolb::lock {
+//         constexpr Mutex() noexcept : qolb::lock(qolb::barging{1024}) {}
+//     };
 class QOLB_CAPABILITY_ Lock {
   public:
     // Makes a strict lock, which is first come, first served.
@@ -392,10 +425,11 @@ class QOLB_CAPABILITY_ Lock {
     QOLB_NODISCARD qolb_result enter_for(const std::chrono::duration<Rep, Period> &time) {
         return qolb_lock_enter_within(&lock_, detail::nanoseconds(time));
     }
-    // Leave the lock. `shut` also takes it out of service. First call release() of a std::unique_lock that owns the
-    // lock. Otherwise its destructor calls unlock, which throws Misuse.
-    qolb_result leave() { return qolb_lock_leave(&lock_); }
-    qolb_result shut() { return qolb_lock_shut(&lock_); }
+    // Leave the lock. `shut` also takes it out of service. If a std::unique_lock owns the lock, first call release() of
+    // the std::unique_lock. A guard without release(), such as a std::lock_guard or a qolb::lock_guard, must not own
+    // the lock: the destructor of such a guard calls unlock, which throws Misuse, and this ends the program.
+    qolb_result leave() QOLB_LEAVES_ { return qolb_lock_leave(&lock_); }
+    qolb_result shut() QOLB_LEAVES_ { return qolb_lock_shut(&lock_); }
     // Checks whether the calling thread holds the lock.
     bool is_mine() const { return qolb_lock_is_mine(&lock_) != 0; }
     // Checks whether a thread or a task holds the lock or is about to.
@@ -432,13 +466,22 @@ class QOLB_CAPABILITY_ Lock {
 
 using lock = Lock;
 
+namespace detail {
+
+// Is `Result` if `Mutex` is a Lock, or a class that is derived from Lock.
+template <class Mutex, class Result>
+using OfLock = typename std::enable_if<std::is_convertible<Mutex *, Lock *>::value, Result>::type;
+
+} // namespace detail
+
 // A guard that enters a lock, and leaves it at the end of the scope. A std::lock_guard<qolb::lock> does the same, but
-// Clang's -Wthread-safety does not know it in every standard library.
+// Clang's -Wthread-safety knows it only in libc++ with -D_LIBCPP_ENABLE_THREAD_SAFETY_ANNOTATIONS. In a file with both
+// `using namespace std` and `using namespace qolb`, the name lock_guard is ambiguous: write qolb::lock_guard.
 class QOLB_SCOPED_ lock_guard {
   public:
-    explicit lock_guard(Lock &held) QOLB_ACQUIRES_(held) : held_(held) { held.lock(); }
+    QOLB_NAMED_ explicit lock_guard(Lock &held) QOLB_ACQUIRES_(held) : held_(held) { held.lock(); }
     // Takes over a lock that the calling thread holds.
-    lock_guard(Lock &held, std::adopt_lock_t) QOLB_ADOPTS_(held) : held_(held) {}
+    QOLB_NAMED_ lock_guard(Lock &held, std::adopt_lock_t) QOLB_ADOPTS_(held) : held_(held) {}
     lock_guard(const lock_guard &) = delete;
     lock_guard &operator=(const lock_guard &) = delete;
     ~lock_guard() QOLB_RELEASES_ { held_.unlock(); }
@@ -449,10 +492,16 @@ class QOLB_SCOPED_ lock_guard {
 
 // A condition at which holders of a Lock wait, as holders of a std::mutex wait at a std::condition_variable. There are
 // no spurious wake-ups, and the thread that has waited longest is woken first. If the lock is shut meanwhile, a wait
-// throws Closed, and its unique_lock owns nothing.
+// throws Closed, and its unique_lock owns nothing. A wait accepts a std::unique_lock of a Lock, or of a class that is
+// derived from Lock.
 //
-// There is no std::notify_all_at_thread_exit for it. Use a std::condition_variable_any to wait with a lock of another
-// type.
+// A condition may be destroyed once every thread that waits on it has been notified or has returned from its wait, and
+// every call of notify_one or notify_all on it has returned. As with a std::condition_variable, a notified thread need
+// not have returned yet, but it must not wait on the condition again. A wait with a predicate waits again while its
+// predicate is false.
+//
+// There is no std::notify_all_at_thread_exit for it, and it has no native_handle. Use a std::condition_variable_any to
+// wait with a lock of another type.
 class Condition {
   public:
     constexpr Condition() noexcept : cond_{nullptr} {}
@@ -465,42 +514,53 @@ class Condition {
 
     // Leaves the lock, waits until the condition is signalled, and enters the lock again. With a predicate, it waits
     // until the predicate is true. Throws Misuse if the thread does not hold the lock.
-    void wait(std::unique_lock<Lock> &held) { told(held, qolb_cond_wait(&cond_, held.mutex()->native_handle())); }
-    template <class Predicate> void wait(std::unique_lock<Lock> &held, Predicate is_so) {
+    template <class Mutex> detail::OfLock<Mutex, void> wait(std::unique_lock<Mutex> &held) {
+        told(held, qolb_cond_wait(&cond_, lock_of(held)));
+    }
+    template <class Predicate, class Mutex>
+    detail::OfLock<Mutex, void> wait(std::unique_lock<Mutex> &held, Predicate is_so) {
         while (!is_so()) wait(held);
     }
 
     // Waits for a signal for at most `time`.
-    template <class Rep, class Period>
-    std::cv_status wait_for(std::unique_lock<Lock> &held, const std::chrono::duration<Rep, Period> &time) {
+    template <class Rep, class Period, class Mutex>
+    detail::OfLock<Mutex, std::cv_status> wait_for(std::unique_lock<Mutex> &held,
+                                                   const std::chrono::duration<Rep, Period> &time) {
         std::uint64_t nanoseconds = detail::nanoseconds(time);
-        bool is_signalled = told(held, qolb_cond_wait_within(&cond_, held.mutex()->native_handle(), nanoseconds));
+        bool is_signalled = told(held, qolb_cond_wait_within(&cond_, lock_of(held), nanoseconds));
         return is_signalled ? std::cv_status::no_timeout : std::cv_status::timeout;
     }
     // Waits for at most `time` until the predicate is true, and returns its last value.
-    template <class Rep, class Period, class Predicate>
-    bool wait_for(std::unique_lock<Lock> &held, const std::chrono::duration<Rep, Period> &time, Predicate is_so) {
+    template <class Rep, class Period, class Predicate, class Mutex>
+    detail::OfLock<Mutex, bool> wait_for(std::unique_lock<Mutex> &held, const std::chrono::duration<Rep, Period> &time,
+                                         Predicate is_so) {
         return wait_until(held, detail::end_of(time), std::move(is_so));
     }
 
     // Waits for a signal until `end`. Returns no_timeout also if the clock was set back meanwhile, so that `end` has
     // not come.
-    template <class Clock, class Duration>
-    std::cv_status wait_until(std::unique_lock<Lock> &held, const std::chrono::time_point<Clock, Duration> &end) {
+    template <class Clock, class Duration, class Mutex>
+    detail::OfLock<Mutex, std::cv_status> wait_until(std::unique_lock<Mutex> &held,
+                                                     const std::chrono::time_point<Clock, Duration> &end) {
         std::cv_status got = wait_for(held, detail::left(end));
         return detail::left(end).count() > 0 ? std::cv_status::no_timeout : got;
     }
     // Waits until the predicate is true, but not after `end`, and returns its last value.
-    template <class Clock, class Duration, class Predicate>
-    bool wait_until(std::unique_lock<Lock> &held, const std::chrono::time_point<Clock, Duration> &end,
-                    Predicate is_so) {
+    template <class Clock, class Duration, class Predicate, class Mutex>
+    detail::OfLock<Mutex, bool> wait_until(std::unique_lock<Mutex> &held,
+                                           const std::chrono::time_point<Clock, Duration> &end, Predicate is_so) {
         while (!is_so())
             if (wait_until(held, end) == std::cv_status::timeout) return is_so();
         return true;
     }
 
   private:
-    static bool told(std::unique_lock<Lock> &held, qolb_result got) {
+    template <class Mutex> static qolb_lock *lock_of(const std::unique_lock<Mutex> &held) {
+        Lock *it = held.mutex();
+        return it->native_handle();
+    }
+
+    template <class Mutex> static bool told(std::unique_lock<Mutex> &held, qolb_result got) {
         if (got == QOLB_MISUSE) QOLB_THROW(Misuse());
         if (got == QOLB_CLOSED) {
             held.release();
@@ -583,15 +643,26 @@ template <class T> using guarded = Guarded<T>;
 
 // ---- Coroutines ----
 //
-//     qolb::Entered turn = co_await qolb::enter(lock, loop); // true if entered; leaves at its end, in any thread
+//     qolb::Entered turn = co_await qolb::enter(lock, loop); // leaves the lock at the end of its scope, in any thread
+//     if (!turn) co_return;                                  // the lock was not entered: turn.answer() says why
 //     qolb::Got got = co_await qolb::turn(node, loop);       // then qolb::Guard turn(node, std::adopt_lock)
 //
 // A loop is an object of the program that runs what is posted to it. It has two functions. Any thread may call
 // `void post(Ready &)`. Only the loop's own thread calls `void unpost(Ready &)`, after which the loop does not run the
 // object. The example loop.cpp has such a loop.
 //
-// The loop's thread may destroy a coroutine that waits, whose request is then withdrawn. Assign the result of co_await
-// to a variable, because GCC 12 miscompiles `if (co_await ..)` and `switch (co_await ..)`.
+// The library calls `post` in the thread that releases the lock or line, so the rules of NOTIFICATIONS in qolb_task(3)
+// apply: `post` must not throw, and must not wait for a Lock or a Node. `post` may lock a mutex of the loop for a short
+// time, if no thread calls the library while it holds this mutex.
+//
+// The loop's thread may destroy a coroutine that waits, whose request is then withdrawn.
+//
+// Always store the result of co_await in a variable, for two reasons. First, an Entered leaves the lock when it is
+// destroyed, and a temporary Entered in the condition of `if`, `while` or `switch` is destroyed before the body runs.
+// The body would therefore run without the lock. Neither `if (co_await qolb::enter(lock, loop))` nor `while` with this
+// condition compiles. Second, GCC 12 may compile a condition that contains a co_await to code that crashes, also for
+// qolb::turn. `if (auto turn = co_await qolb::enter(lock, loop))` is correct, because the variable exists until the
+// end of the `if` statement.
 
 // What a loop runs.
 class Ready {
@@ -688,15 +759,17 @@ template <class Loop> class Turn final : public detail::Waits<Loop> {
 };
 
 // A guard of a lock that a coroutine has entered: it leaves the lock when it is destroyed, in any thread. It is false
-// if the coroutine has not entered, and then `answer` says why.
-class Entered {
+// if the coroutine has not entered, and then `answer` says why. A temporary Entered does not convert to bool, because
+// it would leave the lock before the program can use the answer.
+class [[nodiscard]] Entered {
   public:
     Entered(qolb_result got, const qolb_task &task) : got_(got), task_(task) {}
     Entered(Entered &&other) noexcept : got_(std::exchange(other.got_, QOLB_MISUSE)), task_(other.task_) {}
     Entered(const Entered &) = delete;
     Entered &operator=(Entered &&) = delete;
     ~Entered() { leave(); }
-    explicit operator bool() const { return got_ == QOLB_GRANTED; }
+    explicit operator bool() const & { return got_ == QOLB_GRANTED; }
+    explicit operator bool() const && = delete;
     qolb_result answer() const { return got_; }
     void leave() {
         if (std::exchange(got_, QOLB_MISUSE) == QOLB_GRANTED) qolb_task_leave(&task_);
@@ -741,7 +814,8 @@ template <class Loop> class Enter final : public detail::Waits<Loop> {
     qolb_task task_ = QOLB_TASK_INIT;
 };
 
-// Enters a lock from a coroutine that `loop` runs: co_await enter(lock, loop) returns an Entered.
+// Enters a lock from a coroutine that `loop` runs: co_await enter(lock, loop) returns an Entered, which must be stored
+// in a variable.
 template <class Loop> Enter<Loop> enter(Lock &which, Loop &loop) { return Enter<Loop>(which.native_handle(), loop); }
 
 // Requests a line from a coroutine that `loop` runs: co_await turn(node, loop) returns a Got, which may be busy.

@@ -1,7 +1,8 @@
-// Tests a program that is written for std::mutex and std::condition_variable. The program is compiled twice: with these
-// two types, and with those of the library. It uses a bounded queue, waits with deadlines, accounts that two locks
-// protect at the same time, and guards that are moved. Both versions must print the numbers that the comments below
-// derive.
+// Tests a program that is written for std::mutex and std::condition_variable. The program is compiled three times: with
+// these two types, with those of the library, and with barging locks of a class that is derived from qolb::lock. It
+// uses a bounded queue, waits with deadlines, accounts that two locks protect at the same time, guards that are moved,
+// and conditions that are destroyed while notified threads have not returned yet. All versions must print the numbers
+// that the comments below derive.
 #ifdef STD
 #include <condition_variable>
 #include <mutex>
@@ -9,13 +10,21 @@ using Mutex = std::mutex;
 using Cond = std::condition_variable;
 #else
 #include <qolb.hpp>
+#ifdef BARGING
+struct Mutex : qolb::lock {
+    constexpr Mutex() noexcept : qolb::lock(qolb::barging{1024}) {}
+};
+#else
 using Mutex = qolb::lock;
+#endif
 using Cond = qolb::Condition;
 #endif
 #include <chrono>
 #include <cstdio>
 #include <deque>
 #include <numeric>
+#include <new>
+#include <sys/mman.h>
 #include <thread>
 #include <type_traits>
 #include <vector>
@@ -149,9 +158,43 @@ static int tries() {
     return found;
 }
 
+// ---- Destroying a condition ----
+
+// Returns the number of threads that a condition has notified: 300. The condition is destroyed under the mutex at once
+// after the notification, and its memory is unmapped while the notified threads still wait for the mutex.
+static int destroys() {
+    constexpr std::size_t page = 4096;
+    std::vector<Mutex> mutexes(100);
+    int notified = 0;
+    for (Mutex &mutex : mutexes) {
+        void *memory = mmap(nullptr, page, PROT_READ | PROT_WRITE, MAP_PRIVATE | MAP_ANONYMOUS, -1, 0);
+        if (memory == MAP_FAILED) return -1;
+        auto *cond = new (memory) Cond();
+        int waiting = 0;
+        std::vector<std::thread> threads;
+        for (int k = 0; k < 3; k++)
+            threads.emplace_back([&, k] {
+                std::unique_lock<Mutex> held(mutex);
+                waiting++;
+                if (k == 0) cond->wait(held), notified++;
+                else if (cond->wait_for(held, 60s) == std::cv_status::no_timeout) notified++;
+            });
+        for (bool all = false; !all; std::this_thread::yield()) {
+            std::unique_lock<Mutex> held(mutex);
+            all = waiting == 3;
+            if (!all) continue;
+            cond->notify_all();
+            cond->~Cond();
+            munmap(memory, page);
+        }
+        for (std::thread &it : threads) it.join();
+    }
+    return notified;
+}
+
 int main() {
     long sum = sum_by_queue(), coins = moves_coins();
-    int in_time = waits_in_time(), tried = tries();
-    std::printf("%ld %d %ld %d\n", sum, in_time, coins, tried);
-    return sum == 18003000 && in_time == 7 && coins == 4000 && tried == 15 ? 0 : 1;
+    int in_time = waits_in_time(), tried = tries(), notified = destroys();
+    std::printf("%ld %d %ld %d %d\n", sum, in_time, coins, tried, notified);
+    return sum == 18003000 && in_time == 7 && coins == 4000 && tried == 15 && notified == 300 ? 0 : 1;
 }

@@ -1,5 +1,5 @@
 // Tests that Clang's -Wthread-safety understands the locks of qolb.hpp. Clang must not warn about this file as it is,
-// and must warn about each of five errors, which -DFAULT=1 to -DFAULT=5 compile in.
+// and must warn about each of ten errors, which -DFAULT=1 to -DFAULT=10 compile in.
 #include <qolb.hpp>
 #include <mutex>
 
@@ -32,6 +32,24 @@ class Count {
     void leaves() {
         if (FAULT == 4) lock_.unlock();
     }
+    // Clang does not know that `enter` acquires, and must accept the calls that leave the lock.
+    bool enters_and_leaves() {
+        if (lock_.enter() != QOLB_GRANTED) return false;
+        lock_.leave();
+        return lock_.enter() == QOLB_GRANTED && lock_.shut() == QOLB_DONE;
+    }
+    void locks_and_leaves() {
+        lock_.lock();
+        value_++;
+        lock_.leave();
+        if (FAULT == 6) value_++;
+    }
+    void locks_and_shuts() {
+        lock_.lock();
+        value_++;
+        lock_.shut();
+        if (FAULT == 7) value_++;
+    }
 
   private:
     qolb::lock lock_;
@@ -49,6 +67,34 @@ class Line {
     void adds_without() {
         if (FAULT == 5) value_++;
     }
+    void adds_after_trying() {
+        if (node_.try_acquire() != qolb::Got::granted) return;
+        {
+            qolb::Guard turn(node_, std::adopt_lock);
+            value_++;
+        }
+        if (FAULT == 8) value_++;
+    }
+    void adds_after_try_lock() {
+        if (!node_.try_lock()) return;
+        qolb::Guard turn(node_, std::adopt_lock);
+        value_++;
+    }
+    void adds_twice() {
+        qolb::Guard turn(node_);
+        value_++;
+        turn.release();
+        if (FAULT == 9) value_++;
+        node_.lock();
+        value_++;
+        node_.deqolb();
+        if (FAULT == 10) value_++;
+    }
+    void shuts() {
+        qolb::Guard turn(node_);
+        value_++;
+        turn.shut();
+    }
 
   private:
     qolb::Node node_;
@@ -59,5 +105,8 @@ int main() {
     Count count;
     Line line{qolb::Node()};
     count.adds(), count.adds_by_calls(), count.adds_if_free(), count.adds_without(), count.leaves();
-    line.adds_without();
+    count.locks_and_leaves(), count.locks_and_shuts();
+    line.adds(), line.adds_without(), line.adds_after_trying(), line.adds_after_try_lock(), line.adds_twice();
+    line.shuts();
+    return count.enters_and_leaves();
 }
