@@ -1074,8 +1074,8 @@ impl<T> From<T> for Mutex<T> {
     }
 }
 
-/// Shows the value if the mutex is free, `<locked>` if the mutex is held, and `<closed>` if it was shut. `Debug` locks a free mutex while it shows the value,
-/// and does not wait for a mutex that is held.
+/// Shows the value if the mutex is free, `<locked>` if the mutex is held, and `<closed>` if it was shut. While `Debug` shows the value, it holds the mutex.
+/// It does not wait for a mutex that is held.
 impl<T: ?Sized + fmt::Debug> fmt::Debug for Mutex<T> {
     fn fmt(&self, f: &mut fmt::Formatter<'_>) -> fmt::Result {
         shown(f, "Mutex", self.try_lock())
