@@ -13,7 +13,7 @@ a thread enter a shut lock, or an entry stay in its list. In a strict lock, no t
 lock, no more such calls may overtake the thread than the limit allows, and none once a task sleeps as the first waiter. Each library with a planted fault must
 fail in some run, and no library with a harmless change may fail. The program ends with status 1 if one of these conditions is violated, or if a scene did not
 end. Each invariant of the library (INVARIANT in c/src/lock) must hold in each run, and a planted fault of its own must break it. The other faults are found by
-the checks of the scenes, without the invariants.
+the checks of the scenes, without the invariants. The harmless changes are also tried without the invariants.
 
 A planted fault replaces text in one function, or elsewhere in a file; tools/mutants.py finds the text. With --anchors nothing is explored: the program names
 each change whose text it does not find, and the place where the text is now.
@@ -142,7 +142,7 @@ def trips(name, seconds):
 def is_harmless(name, seconds):
     """Prints whether all runs of at most one turn go well after this change."""
     for width in (1, 4):
-        told, failed, left = run(HARMLESS[name], width, 1, "", seconds)
+        told, failed, left = run(HARMLESS[name], width, 1, "", seconds, "-DUNCHECKED")
         if failed or left:
             print(f"harmless: {name}: {last_of(told) if failed else 'not all runs'}", flush=True)
             return False
