@@ -39,7 +39,6 @@ FAULTS = {
     "where a cell is full a waiter sleeps until it is woken": (1, "no room", (ENTER, "sleep_for_turn", "nap(until)", "qolb_park_(cell_half(words_of(my->lock), ticket->number), __atomic_load_n(cell_half(words_of(my->lock), ticket->number), __ATOMIC_SEQ_CST), UINT32_MAX, FOR_EVER)")),
     "without memory who is late waits until it is granted": (1, "no memory: late", (ENTER, "give_up", "end_of(NAP)", "FOR_EVER")),
     "who gives up does not withdraw": (1, "", (ENTER, "give_up", "got = qolb_core_withdraw_proved_(core_of(my), ticket_of(my))", "got = QOLB_WITHDRAWN")),
-    "who gives up keeps a turn that came first": (2, "", (ENTER, "give_up", "got == QOLB_GRANTED ? got : told", "told")),
     "who gives up looks whether the lock is shut after it has withdrawn": (2, "one frees", (ENTER, "give_up", "uint32_t told = closed_or(QOLB_TIMEDOUT, my->lock), got = qolb_core_withdraw_proved_(core_of(my), ticket_of(my));", "uint32_t got = qolb_core_withdraw_proved_(core_of(my), ticket_of(my)), told = closed_or(QOLB_TIMEDOUT, my->lock);")),
     "who gives up after a shut is told that it is late": (1, "", (ENTER, "give_up", "closed_or(QOLB_TIMEDOUT, my->lock)", "QOLB_TIMEDOUT"), (ENTER, "wait_for_room", "closed_or(QOLB_TIMEDOUT, my->lock)", "(uint32_t)QOLB_TIMEDOUT")),
     "who passes on wakes behind its own ticket, though that one was withdrawn": (2, "", (LEAVE, "qolb_end_turn_", "key = 0;", "key = 0, next = at->ticket.number + 1;"), (LEAVE, "qolb_end_turn_", "wake(&it, at->ticket.number + 1,", "wake(&it, next,")),
