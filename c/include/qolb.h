@@ -250,10 +250,10 @@
  * WAITING
  *
  * A thread that has drawn a ticket polls before it sleeps. The first thread in the queue polls the lock every 90 ns. A
- * thread farther back in the queue pauses longer between two polls. At first, the pause grows by 150 ns for each waiter
- * ahead of the thread. Once the thread has seen how long a handoff takes, the pause grows by three quarters of that
- * time for each waiter, but by at most 500 ns. How long a thread polls before it sleeps depends on the number of
- * threads ahead of it, and on the number of processors that the process may use:
+ * thread farther back in the queue pauses longer between two polls: 150 ns longer for each waiter ahead of it. Once the
+ * thread has seen how long a handoff takes, the pause is longer by three quarters of that time for each waiter ahead,
+ * but by at most 500 ns for each. How long a thread polls before it sleeps depends on the number of threads ahead of
+ * it, and on the number of processors that the process may use:
  *
  * - If the number of threads ahead is less than the number of processors, the thread polls for 50 us, or for 1 us per
  *   thread ahead, whichever is longer.
@@ -261,10 +261,9 @@
  *   polls for 50 us in a strict lock, and for 2 us in the queue of a barging lock.
  * - If the number of threads ahead is at least twice the number of processors, the thread polls for 2 us.
  *
- * A waiter of a strict lock may yield the processor before each poll instead of pausing. A waiter yields only if the
- * number of threads ahead of it was at least the number of processors at some time during the wait, and is now less
- * than twice the number of processors. Each yield counts as 500 ns of polling, so a thread yields at most a hundred
- * times before it sleeps.
+ * A waiter of a strict lock may yield the processor before each poll instead of pausing. On P processors, a waiter
+ * yields if at least P threads have been ahead of it at some time during its wait, and fewer than 2 P threads are ahead
+ * of it now. Each yield counts as 500 ns of polling, so a thread yields at most a hundred times before it sleeps.
  *
  * After polling, a waiting thread sleeps on a futex until its turn has come. If a thread had to sleep, it will poll for
  * a shorter time when it waits again. A thread that waits on a condition sleeps immediately, without polling. If a

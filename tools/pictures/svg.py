@@ -1,4 +1,4 @@
-"""Draws pictures in SVG that are readable on a light and on a dark page.
+"""Draws SVG pictures that are readable on both light and dark pages.
 
 Nodes and hand-overs have the same colours as in the program's pictures (`qolb draw --svg`), so one key explains all pictures. The colours are
 read from the program's source.
