@@ -222,6 +222,7 @@ enum qolb_result qolb_task_cancel(qolb_task *task) {
         return told;
     }
     if (settle(me) == QOLB_CLOSED) return QOLB_CLOSED;
+    GHOST(hook_withdraws());
     qolb_task_leave(task);
     return QOLB_WITHDRAWN;
 }
