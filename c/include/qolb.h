@@ -109,8 +109,8 @@
  *
  * The code around the core is written in C and, for qolb.hpp, in C++. This code implements waiting, waking, timeouts,
  * conditions and tasks. The code around the core is tested, but not proved. The C code was also model-checked, at the
- * commit that docs/PROVED.md names, in small scenarios: two or three threads, at most two context switches, and a C
- * stand-in for the core.
+ * commit that docs/PROVED.md names, in small scenarios: two or three threads, and a C stand-in for the core. At
+ * most two switches happen in a scenario; a context switch, an expired timeout and a delayed store each count as one.
  *
  * Two more claims about locks are argued, but not proved. The first claim is the bound on the number of times that
  * barging threads overtake one waiter. The second claim is that a holder sees what earlier holders wrote. No proof

@@ -62,7 +62,8 @@
 //!
 //! This file is not proved. The C code below it, which puts threads to sleep, wakes them, and implements timeouts, conditions and tasks, is not proved
 //! either. Both are tested. The C code was also model-checked, at the commit that PROVED names, in small scenes: two or three threads, at most two
-//! context switches for a lock and three for a line, and stand-ins for the core and the lines. For two more claims there is only an informal argument: how
+//! switches for a lock and three for a line (a context switch, an expired timeout and a delayed store each count), and stand-ins for the core and the
+//! lines. For two more claims there is only an informal argument: how
 //! many threads may overtake one waiter, and that a holder sees what earlier holders wrote. Nothing is proved about the protected value itself. It is not
 //! proved either that a waiting thread is ever granted the lock.
 //!
