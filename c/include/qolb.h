@@ -881,11 +881,12 @@ void qolb_notify_done(void);
 
 /* Frees the node and empties its handle. Freeing the last node of a line also frees the line.
  *
- * The call first cancels the node's notification, as qolb_notify_off does.
+ * The call first cancels the node's notification, as qolb_notify_off does. A node that has withdrawn its request may be
+ * freed, even while it is BUSY.
  *
  * Returns:
  * - QOLB_DONE: The node is freed.
- * - QOLB_MISUSE: The handle is empty, or its node has already requested the line. */
+ * - QOLB_MISUSE: The handle is empty, or its node waits for the line or holds the line. */
 enum qolb_result qolb_node_free(qolb_node *node);
 
 /* Gets the number of the node within its line.

@@ -77,7 +77,8 @@
 // accepted even if Clang does not know that the Lock or Node is held. A call of a Guard that has released its line is
 // not reported. The guards of libstdc++ are unknown to Clang, and std::lock_guard of libc++ is known only with
 // -D_LIBCPP_ENABLE_THREAD_SAFETY_ANNOTATIONS. A function that uses guarded data under a std::unique_lock, for example
-// to wait on a Condition, therefore needs the attribute no_thread_safety_analysis.
+// to wait on a Condition, therefore needs the attribute no_thread_safety_analysis. So does a predicate that is a
+// lambda, because Clang analyses a lambda as a function of its own.
 #if defined(__clang__)
 #define QOLB_CAPABILITY_ __attribute__((capability("lock")))
 #define QOLB_SCOPED_ __attribute__((scoped_lockable))
