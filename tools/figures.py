@@ -195,6 +195,42 @@ def choice_of_archive():
     return "\n".join("    " + "   ".join(map(str.ljust, row, widths)).rstrip() for row in rows)
 
 
-PEER_TABLES = {name: functools.partial(beside_peers, name) for name in MEASURES} | {"peers_best": best_peers}
+# The locks that a user would take in place of one of ours: a mutex, or another lock that is first come, first served.
+MUTEXES = ("pthread_mutex", "std::mutex", "absl::Mutex", "parking_lot", "Rust std")
+QUEUES = ("MCS", "CLH", "tbb::queuing_mutex", "ticket lock", "ticket lock with back-off")
+INSTEAD = {"barging": ("best mutex", MUTEXES), "strict": ("best queue lock", QUEUES), "ticket node": ("best queue lock", QUEUES)}
+COUNTS = (1, 2, 3, 4, 8, 32)
+
+
+def ratio(number):
+    """A ratio, in bold if it is 1.05 or more."""
+    said = f"{number:.2f}" if number < 10 else short(number)
+    return f"**{said}**" if round(number, 2) >= 1.05 else said
+
+
+def instead(column, name=PEERS):
+    """A figure of some of our locks for each workload and number of threads, divided by the least figure of the locks that a user would take instead."""
+    found = peers_of(name, column)
+    rows = []
+    for lock, (kind, others) in INSTEAD.items():
+        for workload, told in IN_LOCKS.items():
+            of = [found.get((workload, threads), {}) for threads in COUNTS]
+            rows.append([told, f"{lock} / {kind}", *(ratio(it[lock] / best_of(it, others, False)[0]) if lock in it and best_of(it, others, False) else "-" for it in of)])
+    return table(["Workload", "Our lock / other lock", *(f"{threads} thread{'s' * (threads > 1)}" for threads in COUNTS)], rows)
+
+
+def slower(name=PEERS):
+    """The time per critical section of each of our locks, divided by that of the older library in the same run; empty if the run has none."""
+    now, was = peers_of(name, "ns"), peers_of(name, "ns", is_before=True)
+    rows = []
+    for workload, told in IN_LOCKS.items():
+        for lock in OURS if was else ():
+            keys = [(workload, threads) for threads in COUNTS]
+            rows.append([told, lock, *(ratio(now[key][lock] / was[key][lock]) if lock in was.get(key, {}) else "-" for key in keys)])
+    return table(["Workload", "Lock", *(f"{threads} thread{'s' * (threads > 1)}" for threads in COUNTS)], rows) if rows else ""
+
+
+LOSSES = {"peers_instead": functools.partial(instead, "ns"), "peers_instead_tail": functools.partial(instead, "p999"), "peers_before": slower}
+PEER_TABLES = {name: functools.partial(beside_peers, name) for name in MEASURES} | LOSSES | {"peers_best": best_peers}
 
 TABLES = {"memory": memory, "front": front, "spins": spins, **PEER_TABLES}

@@ -220,7 +220,8 @@
  * waiter. A barging limit above 65,535 counts as 65,535. A lock with a barging limit of 0 or 1 is strict.
  *
  * Use a barging lock with a limit of 1,024 where you would use a mutex. Use a strict lock if threads must be served in
- * the order in which they requested the lock, or if the longest wait matters more than throughput.
+ * the order in which they requested the lock, or if the longest wait matters more than throughput and there are at most
+ * as many busy threads as processors.
  *
  * TIMEOUTS
  *
