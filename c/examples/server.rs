@@ -5,7 +5,11 @@
 //! 1 to the number and releases the mutex. A client may disconnect at any time: the future that waits for it is then dropped, which withdraws its request.
 //! No thread of the executor ever blocks on the mutex.
 //!
-//!   build/server_rs [CONNECTIONS [ROUNDS]]
+//! The program takes two optional arguments, the number of connections and the number of rounds. In this repository it is built as `build/server_rs`:
+//!
+//! ```text
+//! build/server_rs [CONNECTIONS [ROUNDS]]
+//! ```
 //!
 //! The clients run in the same program, which prints only errors. A program that already has an executor and sockets needs only `by_mutex` or `by_node`.
 
